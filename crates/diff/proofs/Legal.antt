@@ -55,13 +55,19 @@ legal-when-read w bytes e₁ =
       few-runs = ltb-false _ _ (passed t₂ 10 m₃ e₂);
       pairs-whole = ltb-false _ _ (passed t₃ 10 m₄ e₃);
       in-order = not-false _ (passed t₄ 11 m₅ e₄);
-      exact = eqb-true _ _ (not-false _ (passed t₅ 10 0 e₅)) }
+      exact = eqb-true _ _ (not-false _ (passed t₅ 10 0 e₅));
+    }
 
 pub read-when-legal : (w : ℕ) (bytes : List ℕ) → Legal w bytes → readRefusal w bytes ≡ 0
 unfolding readRefusal pairsRefusal
 read-when-legal w bytes p =
-    rw (ne-eqb (length bytes) 0 (λ e. omega (arith, e, p .not-empty)), le-ltb (mostRuns w) (runCount bytes) (p .few-runs),
-        le-ltb (length bytes) (wordsPlace bytes) (p .pairs-whole), p .in-order, eq-eqb _ _ (p .exact))
+    rw (
+      ne-eqb (length bytes) 0 (λ e. omega (arith, e, p .not-empty)),
+      le-ltb (mostRuns w) (runCount bytes) (p .few-runs),
+      le-ltb (length bytes) (wordsPlace bytes) (p .pairs-whole),
+      p .in-order,
+      eq-eqb _ _ (p .exact),
+    )
 
 -- the words of a legal byte string, as many as its runs have
 abbrev wordsIn : List ℕ → List ℕ
@@ -82,8 +88,11 @@ pub write-after-read : (w : ℕ) (bytes : List ℕ) → Legal w bytes → Below 
 unfolding bytesOf settings runs
 write-after-read w bytes p b =
     let many = length-words bytes (wordsPlace bytes) (wordCount (runsIn bytes)) in
-    rw (runs-of-settings w 0 (runsIn bytes) (wordsIn bytes) (omega arith) (p .in-order) many, words-of-settings w 0 (runsIn bytes) (wordsIn bytes) many,
-        words-written bytes (wordsPlace bytes) (wordCount (runsIn bytes)) b (omega (arith, p .exact)))
+    rw (
+      runs-of-settings w 0 (runsIn bytes) (wordsIn bytes) (omega arith) (p .in-order) many,
+      words-of-settings w 0 (runsIn bytes) (wordsIn bytes) many,
+      words-written bytes (wordsPlace bytes) (wordCount (runsIn bytes)) b (omega (arith, p .exact)),
+    )
     (whole bytes (wordCount (runsIn bytes)) (p .not-empty) (p .exact))
 
 pub length-bytes : (d : List (Option ℕ)) → length (bytesOf d) ≡ 1 + 2 * length (runs d) + 4 * length (setWords d)
@@ -144,4 +153,5 @@ legal-when-written w d h =
       few-runs = rw count-of-bytes (few w (length (runs d)) (wordCount (runs d)) (orderly-bound w 0 (runs d) (omega arith) ord) (orderly-count w 0 (runs d) ord));
       pairs-whole = omega (arith, place, length-bytes d);
       in-order = rw runs-in-bytes ord;
-      exact = omega (arith, place, same, length-bytes d) }
+      exact = omega (arith, place, same, length-bytes d);
+    }

@@ -1,4 +1,8 @@
 pub mod Runs
 pub mod Words
 pub mod Legal
+pub mod Overlay
+pub mod Checking
+pub mod Applying
+pub mod Pairs
 pub mod Cases

@@ -34,9 +34,11 @@ orderly-parts w from r rs h =
 pub parts-orderly : (w from : ℕ) (r : Run) (rs : List Run) → Orderly w from (r .offset) (r .len) rs → orderly w from (r ∷ rs) ≡ true
 unfolding orderly pairHolds
 parts-orderly w from r rs h =
-    and-eq-true-iff (leb from (r .offset) && leb 1 (r .len) && leb (r .offset + r .len) w) (orderly w (r .offset + r .len + 1) rs) .1
-    (and-eq-true-iff (leb from (r .offset) && leb 1 (r .len)) (leb (r .offset + r .len) w) .1
-    (and-eq-true-iff (leb from (r .offset)) (leb 1 (r .len)) .1 (le-leb _ _ (h .above), le-leb _ _ (h .some-words)), le-leb _ _ (h .within)), h .rest)
+    and-eq-true-iff (leb from (r .offset) && leb 1 (r .len) && leb (r .offset + r .len) w) (orderly w (r .offset + r .len + 1) rs) .1 (
+      and-eq-true-iff (leb from (r .offset) && leb 1 (r .len)) (leb (r .offset + r .len) w) .1
+          (and-eq-true-iff (leb from (r .offset)) (leb 1 (r .len)) .1 (le-leb _ _ (h .above), le-leb _ _ (h .some-words)), le-leb _ _ (h .within)),
+      h .rest,
+    )
 
 -- from a word past the page's last no pair keeps its rule
 pub orderly-none : (w : ℕ) (rs : List Run) → orderly w (w + 1) rs ≡ true → rs ≡ []
@@ -148,7 +150,7 @@ runs-of-settings w from (r ∷ rs) words h o e =
     ∙ runs-set vs (r .offset) 0 rest
     ∙ ap (λ (n : ℕ). runsFrom (r .offset) n rest) run
     ∙ run-closes w (r .offset) (r .len) rs (drop (r .len) words) (p .some-words) (p .within) (p .rest)
-        (λ l. runs-of-settings w (r .offset + r .len + 1) rs (drop (r .len) words) (omega arith) (p .rest) left)
+    (λ l. runs-of-settings w (r .offset + r .len + 1) rs (drop (r .len) words) (omega arith) (p .rest) left)
 
 pub length-settings : (w from : ℕ) (rs : List Run) (words : List ℕ) → from ≤ w → orderly w from rs ≡ true → length words ≡ wordCount rs
     → from + length (settingsOf w from rs words) ≡ w
@@ -220,7 +222,7 @@ settings-of-open w from o (v ∷ vs) (none ∷ d) a h =
     settings-run w from o (v ∷ vs) (setWords d) (runsFrom (o + k + 1) 0 d)
     ∙ append-assoc (replicate (o - from) none) (map some (v ∷ vs)) (settingsOf w (o + k) (runsFrom (o + k + 1) 0 d) (setWords d))
     ∙ ap (λ (l : List (Option ℕ)). replicate (o - from) none ++ (map some (v ∷ vs) ++ l))
-        (settings-of-open w (o + k) (o + k + 1) [] d (omega arith) (omega arith) ∙ ap (λ (n : ℕ). replicate n none ++ d) one)
+    (settings-of-open w (o + k) (o + k + 1) [] d (omega arith) (omega arith) ∙ ap (λ (n : ℕ). replicate n none ++ d) one)
 settings-of-open w from o vs (some v ∷ d) a h =
     let longer : length (vs ++ v ∷ []) ≡ length vs + 1 = length-append vs (v ∷ []) in
     ap (λ (n : ℕ). settingsOf w from (runsFrom o n d) (vs ++ v ∷ setWords d)) (sym longer)

@@ -81,9 +81,15 @@ unfolding wordsAt wordsBytes wordBytes wordAt
 words-written bytes at zero b h = refl
 words-written bytes at (suc k) b h =
     let four : 4 * suc k ≡ suc (suc (suc (suc (4 * k)))) = omega arith in
-    rw (byte0 _ _ _ _ (b .at at) (b .at (at + 1)) (b .at (at + 2)) (b .at (at + 3)), byte1 _ _ _ _ (b .at at) (b .at (at + 1)) (b .at (at + 2)) (b .at (at + 3)),
-        byte2 _ _ _ _ (b .at at) (b .at (at + 1)) (b .at (at + 2)) (b .at (at + 3)), byte3 _ _ _ _ (b .at at) (b .at (at + 1)) (b .at (at + 2)) (b .at (at + 3)),
-        words-written bytes (at + 4) k b (omega arith), four, drop-four bytes at (omega arith))
+    rw (
+      byte0 _ _ _ _ (b .at at) (b .at (at + 1)) (b .at (at + 2)) (b .at (at + 3)),
+      byte1 _ _ _ _ (b .at at) (b .at (at + 1)) (b .at (at + 2)) (b .at (at + 3)),
+      byte2 _ _ _ _ (b .at at) (b .at (at + 1)) (b .at (at + 2)) (b .at (at + 3)),
+      byte3 _ _ _ _ (b .at at) (b .at (at + 1)) (b .at (at + 2)) (b .at (at + 3)),
+      words-written bytes (at + 4) k b (omega arith),
+      four,
+      drop-four bytes at (omega arith),
+    )
 
 word-fits : (bytes : List ℕ) (at : ℕ) → Below 256 bytes → wordAt bytes at < 4294967296
 unfolding wordAt
