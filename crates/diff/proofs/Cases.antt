@@ -1,43 +1,64 @@
--- scratch: computed cases
-use Prim.Native.Nat.{ℕ, _+_}
-use mathlib.Core.Path.{_≡_, refl}
+-- Document 01's starred bench cases G to L, of the definitions. Words that the document leaves open are any words. Assumes nothing.
+use Prim.Native.Nat.{ℕ, zero, suc, _+_, _*_, _≤_, _<_}
+use native.Mathlib.Omega.{arith}
+use mathlib.Core.Path.{_≡_, refl, sym, ap, _∙_}
+use mathlib.Core.Bool.{true, false}
 use mathlib.Core.Option.{Option, none, some}
 use mathlib.Core.List.{List, [], _∷_, _++_}
 use lib.ListN.{length, take, replicate}
-use Rattle.diff.specs.Format.{Run, setting, difference, ended, runsFrom, runs, setWords, pairBytes, wordBytes, wordsBytes, bytesOf, written}
-use Rattle.diff.specs.Reading.{runCount, mostRuns, runsAt, runsIn, wordsPlace, wordAt, wordsAt, wordCount, pairHolds, orderly, pairsRefusal, readRefusal, settingsOf, settings, overlay, applied}
+use lib.Dec.{lit≤}
+use borrow.Author.Tests.{eq-eqb, ne-eqb, le-ltb}
+use Rattle.diff.specs.Format.{setting, difference, ended, runsFrom, runs, setWords, pairBytes, wordBytes, wordsBytes, bytesOf, written}
+use Rattle.diff.specs.Reading.{runCount, mostRuns, runsAt, runsIn, wordsPlace, wordCount, pairHolds, orderly, pairsRefusal, readRefusal}
+use Rattle.diff.proofs.Legal.{read-when-legal}
+use Rattle.diff.proofs.Theorems.{equal-pages}
 
-abbrev G : ℕ → ℕ → ℕ → List (Option ℕ)
-G a b c = some a ∷ some b ∷ replicate 29 none ++ some c ∷ []
+-- ---- *G: words 0, 1 and 31 differ: 17 bytes, starting 2, 0, 2, 31, 1
 
-g-len : (a b c : ℕ) → length (bytesOf (G a b c)) ≡ 17
-unfolding bytesOf runs runsFrom ended setWords pairBytes wordsBytes wordBytes
-g-len a b c = refl
+-- pages that agree up to their last word
+difference-last : (middle : List ℕ) (c z : ℕ) → (c ≡ z → ⊥) → difference (middle ++ c ∷ []) (middle ++ z ∷ []) ≡ replicate (length middle) none ++ some z ∷ []
+unfolding difference setting
+difference-last [] c z h = rw (ne-eqb c z h)
+difference-last (x ∷ middle) c z h = rw (eq-eqb x x refl) (ap (λ (d : List (Option ℕ)). none ∷ d) (difference-last middle c z h))
 
-g-start : (a b c : ℕ) → take 5 (bytesOf (G a b c)) ≡ 2 ∷ 0 ∷ 2 ∷ 31 ∷ 1 ∷ []
-unfolding bytesOf runs runsFrom ended setWords pairBytes wordsBytes wordBytes
-g-start a b c = refl
+pub record CaseG (bytes : List ℕ) : Type 0 where
+  pub long : length bytes ≡ 17
+  pub starts : take 5 bytes ≡ 2 ∷ 0 ∷ 2 ∷ 31 ∷ 1 ∷ []
 
-h : bytesOf (replicate 32 none) ≡ 0 ∷ []
-unfolding bytesOf runs runsFrom ended setWords pairBytes wordsBytes wordBytes
-h = refl
+pub case-G : (a b c x y z : ℕ) (middle : List ℕ) → length middle ≡ 29 → (a ≡ x → ⊥) → (b ≡ y → ⊥) → (c ≡ z → ⊥)
+    → CaseG (written (a ∷ b ∷ middle ++ c ∷ []) (x ∷ y ∷ middle ++ z ∷ []))
+unfolding written difference setting bytesOf runs runsFrom ended setWords pairBytes wordsBytes wordBytes
+case-G a b c x y z middle l ax by cz =
+    rw (ne-eqb a x ax, ne-eqb b y by, difference-last middle c z cz, l) (record { long = refl; starts = refl })
 
-i : readRefusal 32 (2 ∷ 0 ∷ 1 ∷ 1 ∷ 1 ∷ replicate 8 7) ≡ 12
-unfolding runCount mostRuns runsAt runsIn wordsPlace wordCount pairHolds orderly pairsRefusal readRefusal
-i = refl
+-- ---- *H: equal pages: the byte 0
 
-j : readRefusal 32 (2 ∷ 0 ∷ 2 ∷ 3 ∷ 1 ∷ replicate 12 7) ≡ 0
-unfolding runCount mostRuns runsAt runsIn wordsPlace wordCount pairHolds orderly pairsRefusal readRefusal
-j = refl
+pub case-H : (page : List ℕ) → written page page ≡ 0 ∷ []
+case-H = equal-pages
 
-k : readRefusal 32 (1 ∷ 31 ∷ 2 ∷ replicate 8 7) ≡ 12
-unfolding runCount mostRuns runsAt runsIn wordsPlace wordCount pairHolds orderly pairsRefusal readRefusal
-k = refl
+-- ---- *I: pairs (0,1), (1,1): 12. *J: (0,2), (3,1): fine. *K: (31,2): 12. *L: (31,1): fine
 
-l : readRefusal 32 (1 ∷ 31 ∷ 1 ∷ replicate 4 7) ≡ 0
-unfolding runCount mostRuns runsAt runsIn wordsPlace wordCount pairHolds orderly pairsRefusal readRefusal
-l = refl
+-- where the pairs are whole and one of them breaks its rule the refusal is 12
+broken-pair : (bytes : List ℕ) → 1 ≤ length bytes → runCount bytes ≤ 16 → wordsPlace bytes ≤ length bytes → orderly 32 0 (runsIn bytes) ≡ false → readRefusal 32 bytes ≡ 12
+unfolding readRefusal pairsRefusal mostRuns
+broken-pair bytes some-bytes few whole broken =
+    rw (ne-eqb (length bytes) 0 (λ e. omega (arith, e, some-bytes)), le-ltb 16 (runCount bytes) few, le-ltb (length bytes) (wordsPlace bytes) whole, broken)
 
-back : settings 32 (bytesOf (G 5 6 700000)) ≡ G 5 6 700000
-unfolding runCount mostRuns runsAt runsIn wordsPlace wordCount pairHolds orderly pairsRefusal readRefusal bytesOf runs runsFrom ended setWords pairBytes wordsBytes wordBytes settings settingsOf wordsAt wordAt
-back = refl
+pub case-I : (words : List ℕ) → readRefusal 32 (2 ∷ 0 ∷ 1 ∷ 1 ∷ 1 ∷ words) ≡ 12
+unfolding runCount wordsPlace runsIn runsAt orderly pairHolds
+case-I words = broken-pair (2 ∷ 0 ∷ 1 ∷ 1 ∷ 1 ∷ words) (omega arith) (lit≤ tt) (omega arith) refl
+
+pub case-J : (words : List ℕ) → length words ≡ 12 → readRefusal 32 (2 ∷ 0 ∷ 2 ∷ 3 ∷ 1 ∷ words) ≡ 0
+unfolding mostRuns runCount wordsPlace runsIn runsAt orderly pairHolds wordCount
+case-J words l =
+    read-when-legal 32 (2 ∷ 0 ∷ 2 ∷ 3 ∷ 1 ∷ words)
+    (record { not-empty = omega arith; few-runs = lit≤ tt; pairs-whole = omega arith; in-order = refl; exact = omega arith })
+
+pub case-K : (words : List ℕ) → readRefusal 32 (1 ∷ 31 ∷ 2 ∷ words) ≡ 12
+unfolding runCount wordsPlace runsIn runsAt orderly pairHolds
+case-K words = broken-pair (1 ∷ 31 ∷ 2 ∷ words) (omega arith) (lit≤ tt) (omega arith) refl
+
+pub case-L : (words : List ℕ) → length words ≡ 4 → readRefusal 32 (1 ∷ 31 ∷ 1 ∷ words) ≡ 0
+unfolding mostRuns runCount wordsPlace runsIn runsAt orderly pairHolds wordCount
+case-L words l =
+    read-when-legal 32 (1 ∷ 31 ∷ 1 ∷ words) (record { not-empty = omega arith; few-runs = lit≤ tt; pairs-whole = omega arith; in-order = refl; exact = omega arith })

@@ -5,4 +5,5 @@ pub mod Overlay
 pub mod Checking
 pub mod Applying
 pub mod Pairs
+pub mod Theorems
 pub mod Cases

@@ -11,9 +11,10 @@ use mathlib.Core.Option.{Option, none, some}
 use mathlib.Core.List.{List, [], _∷_, _++_, map, append-assoc, append-nil}
 use lib.ListN.{length, take, drop, replicate, length-append, length-replicate, length-map, length-take, length-drop, take-append-drop}
 use lib.Seq.{append-snoc, take-append-seam, drop-append-seam, take-at, drop-at, length-take-le}
-use lib.Dec.{leb}
+use lib.Dec.{leb, lit<}
 use borrow.Author.Tests.{leb-true, le-leb}
-use Rattle.diff.specs.Format.{Run, ended, runsFrom, runs, setWords}
+use Rattle.diff.specs.Format.{Below, Run, ended, runsFrom, runs, setWords, pairBytes}
+use Rattle.diff.proofs.Words.{below-cons}
 use Rattle.diff.specs.Reading.{wordCount, pairHolds, orderly, settingsOf}
 
 -- what it means that the first of several pairs keeps its rule, and the rest theirs
@@ -55,7 +56,7 @@ orderly-earlier w from (r ∷ rs) h =
 -- ---- from runs to settings and back to runs
 
 -- words that are kept begin no run
-runs-gap : (g o : ℕ) (d : List (Option ℕ)) → runsFrom o 0 (replicate g none ++ d) ≡ runsFrom (o + g) 0 d
+pub runs-gap : (g o : ℕ) (d : List (Option ℕ)) → runsFrom o 0 (replicate g none ++ d) ≡ runsFrom (o + g) 0 d
 unfolding runsFrom ended
 runs-gap zero o d = ap (λ (n : ℕ). runsFrom n 0 d) (sym (add-zero o))
 runs-gap (suc g) o d = runs-gap g (o + 0 + 1) d ∙ ap (λ (n : ℕ). runsFrom n 0 d) (omega arith)
@@ -101,7 +102,7 @@ run-closes w o k rs words k≥1 h ord next = go (decLt (o + k) w)
         ∙ ended-some o k k≥1
         ∙ ap (λ (l : List Run). record { offset = o; len = k } ∷ l) (sym last)
 
-words-gap : (g : ℕ) (d : List (Option ℕ)) → setWords (replicate g none ++ d) ≡ setWords d
+pub words-gap : (g : ℕ) (d : List (Option ℕ)) → setWords (replicate g none ++ d) ≡ setWords d
 unfolding setWords
 words-gap zero d = refl
 words-gap (suc g) d = words-gap g d
@@ -253,3 +254,12 @@ orderly-count w from [] o = omega arith
 orderly-count w from (r ∷ rs) o =
     let p = orderly-parts w from r rs o in
     omega (arith, p .some-words, orderly-count w (r .offset + r .len + 1) rs (p .rest))
+
+-- offsets and lengths on a page of up to 255 words are bytes
+pub pairs-are-bytes : (w from : ℕ) (rs : List Run) → w < 256 → orderly w from rs ≡ true → Below 256 (pairBytes rs)
+unfolding pairBytes
+pairs-are-bytes w from [] h o = record { at = λ i. lit< tt }
+pairs-are-bytes w from (r ∷ rs) h o =
+    let p = orderly-parts w from r rs o in
+    below-cons 256 (r .offset) (r .len ∷ pairBytes rs) (omega (arith, p .within))
+    (below-cons 256 (r .len) (pairBytes rs) (omega (arith, p .within)) (pairs-are-bytes w (r .offset + r .len + 1) rs h (p .rest)))

@@ -102,6 +102,18 @@ below-cons b x l h t = record { at = each }
     each zero = h
     each (suc i) = t .at i
 
+pub below-append : (b : ℕ) (l m : List ℕ) → Below b l → Below b m → Below b (l ++ m)
+below-append b [] m h k = k
+below-append b (x ∷ l) m h k = below-cons b x (l ++ m) (h .at 0) (below-append b l m (record { at = λ i. h .at (suc i) }) k)
+
+pub words-are-bytes : (ws : List ℕ) → Below 256 (wordsBytes ws)
+unfolding wordsBytes wordBytes
+words-are-bytes [] = record { at = λ i. lit< tt }
+words-are-bytes (v ∷ ws) =
+    below-cons 256 (v % 256) _ (omega arith)
+    (below-cons 256 (v / 256 % 256) _ (omega arith)
+    (below-cons 256 (v / 65536 % 256) _ (omega arith) (below-cons 256 (v / 16777216 % 256) _ (omega arith) (words-are-bytes ws))))
+
 pub words-fit : (bytes : List ℕ) (at k : ℕ) → Below 256 bytes → Below 4294967296 (wordsAt bytes at k)
 unfolding wordsAt
 words-fit bytes at zero b = record { at = λ i. lit< tt }
