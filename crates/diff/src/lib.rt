@@ -193,6 +193,33 @@ fn find_pair(bytes: &[u8], at: usize) -> Pair
     Pair::Nothing
 }
 
+// A reader stands at a place of a diff's bytes.
+pub struct Reader<'a> {
+    pub bytes: &'a [u8],
+    pub at: usize,
+}
+
+// The reader that stands at a place; the first pair's is 1.
+pub fn stand<'a>(bytes: &'a [u8], at: usize) -> Reader<'a>
+    ensures { λ r. ⌜ (r .bytes ≡ bytes .entry) × (r .at ≡ at) ⌝ }
+{
+    Reader { bytes, at }
+}
+
+// The pair at which a reader stands, with the place of the next, or that there is none.
+pub fn next<'a>(r: Reader<'a>) -> Pair
+    ensures { λ p. ⌜ p ≡ pairAt 32 (now (r .entry .bytes)) (r .entry .at) ⌝ }
+{
+    pair_at(r.bytes, r.at)
+}
+
+// The same on plain parameters, for every other caller.
+pub fn read_pair(bytes: &[u8], at: usize) -> Pair
+    ensures { λ r. ⌜ r ≡ pairAt 32 (now (bytes .entry)) at ⌝ }
+{
+    next(stand(bytes, at))
+}
+
 // The words of the run at a place, as that part of the caller's bytes; no bytes where there is no pair.
 pub fn words_at(bytes: &[u8], at: usize) -> &[u8]
     ensures { λ r. ⌜ now r ≡ wordsOf (pairAt 32 (now (bytes .entry)) at) (now (bytes .entry)) ⌝ }
