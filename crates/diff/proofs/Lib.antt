@@ -6,4 +6,6 @@ pub mod Checking
 pub mod Applying
 pub mod Pairs
 pub mod Theorems
+pub mod Writing
+pub mod WriteLoops
 pub mod Cases

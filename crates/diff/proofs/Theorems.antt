@@ -19,7 +19,7 @@ use Rattle.diff.proofs.Overlay.{overlay-word}
 
 -- ---- the difference of two pages
 
-length-difference : (old new : List ℕ) → length old ≡ length new → length (difference old new) ≡ length old
+pub length-difference : (old new : List ℕ) → length old ≡ length new → length (difference old new) ≡ length old
 unfolding difference
 length-difference [] new e = refl
 length-difference (x ∷ old) [] e = absurd (omega (arith, e))

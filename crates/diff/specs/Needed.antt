@@ -1,10 +1,39 @@
 -- What the crate's own functions ask of one another: places that lie within the bytes or the page. No public function asks anything.
 -- Assumes nothing.
-use Prim.Native.Nat.{ℕ, _+_, _*_, _≤_}
+use Prim.Native.Nat.{ℕ, _+_, _*_, _≤_, min}
 use mathlib.Core.Path.{_≡_}
 use mathlib.Core.List.{List}
 use lib.ListN.{length, getD}
+use Rattle.diff.specs.Format.{difference, runs, setWords}
 use Rattle.diff.specs.Reading.{readRefusal}
+
+-- both pages have 32 words
+pub record PagesWhole (old new : List ℕ) : Type 0 where
+  pub old-whole : length old ≡ 32
+  pub new-whole : length new ≡ 32
+
+-- the diff of two pages, which has count runs, lies within the destination
+pub record RoomForDiff (old new out : List ℕ) (count : ℕ) : Type 0 where
+  pub whole : PagesWhole old new
+  pub counted : count ≡ length (runs (difference old new))
+  pub few : count ≤ 16
+  pub room : 1 + 2 * count + 4 * length (setWords (difference old new)) ≤ length out
+
+-- the pairs of the diff, from place 1 on, lie within the destination
+pub record RoomForPairs (old new out : List ℕ) : Type 0 where
+  pub whole : PagesWhole old new
+  pub room : 1 + 2 * length (runs (difference old new)) ≤ length out
+
+-- the words of the diff, from the place from on, lie within the destination
+pub record RoomForWords (old new out : List ℕ) (from : ℕ) : Type 0 where
+  pub whole : PagesWhole old new
+  pub low : from ≤ 33
+  pub room : from + 4 * length (setWords (difference old new)) ≤ length out
+
+-- a run lies within the page, and its pair, unless the run is empty, within the destination
+pub record RoomForPair (out : List ℕ) (at offset len : ℕ) : Type 0 where
+  pub on-page : offset + len ≤ 32
+  pub room : at + 2 * min len 1 ≤ length out
 
 -- the n pairs lie within the bytes
 pub record PairsThere (bytes : List ℕ) (n : ℕ) : Type 0 where

@@ -1,12 +1,13 @@
 // The changes of a page as bytes: what turns one page of 32 words into another. Document 01 calls a diff a change.
 // Every contract is an equation with a definition of specs/; no public function has a `requires`: each refuses instead.
 ghost use mathlib.Core.Path.{_≡_};
-ghost use Prim.Native.Nat.{_+_, _*_, _<_, _≤_};
+ghost use Prim.Native.Nat.{_+_, _*_, _<_, _≤_, min};
 ghost use lib.ListN.{length, getD, take, drop};
 ghost use lib.Seq.{sets};
+ghost use Rattle.diff.specs.Format.{difference, ended, runs, setWords, pairBytes, wordBytes, wordsBytes, written};
 ghost use Rattle.diff.specs.Reading.{runsAt, runsIn, wordsPlace, wordAt, wordsAt, pairHolds, pairsRefusal, readRefusal, applied};
-ghost use Rattle.diff.specs.Answers.{applyRefusal, pageAfter, pairAmong, pairAt, wordsOf};
-ghost use Rattle.diff.specs.Needed.{PairsThere, Readable, Applicable, NextThere, RunThere};
+ghost use Rattle.diff.specs.Answers.{writeAnswer, outAfter, applyRefusal, pageAfter, pairAmong, pairAt, wordsOf};
+ghost use Rattle.diff.specs.Needed.{PagesWhole, RoomForDiff, RoomForPairs, RoomForWords, RoomForPair, PairsThere, Readable, Applicable, NextThere, RunThere};
 
 // What writing a diff answers: how many bytes it has, or the number of a refusal.
 pub enum Written {
@@ -28,6 +29,143 @@ pub enum Pair {
         next: usize,
     },
     Nothing,
+}
+
+// Writes what turns the page `old` into the page `new` as a diff at the start of `out`.
+pub fn write(old: &[u32], new: &[u32], out: &mut [u8]) -> Written
+    ensures answer { λ r. ⌜ r ≡ writeAnswer 32 (now (old .entry)) (now (new .entry)) (now (out .entry)) ⌝ }
+    ensures memory { λ r. ⌜ now (out .exit) ≡ outAfter 32 (now (old .entry)) (now (new .entry)) (now (out .entry)) ⌝ }
+{
+    if old.len() != 32 {
+        return Written::Refused(14);
+    }
+    if new.len() != 32 {
+        return Written::Refused(14);
+    }
+    let size = measure(old, new);
+    let length = 1 + 2 * size.runs + 4 * size.words;
+    if out.len() < length {
+        return Written::Refused(13);
+    }
+    write_all(old, new, out, size.runs);
+    Written::Length(length)
+}
+
+// How many runs a diff has, and how many words they have together.
+struct Size {
+    runs: usize,
+    words: usize,
+}
+
+// The size of the diff of two pages. The words before offset + row are counted; the last `row` of them are a run that may go on.
+fn measure(old: &[u32], new: &[u32]) -> Size
+    requires { ⌜ PagesWhole (now old) (now new) ⌝ }
+    ensures { λ r. ⌜ r .runs ≡ length (runs (difference (now (old .entry)) (now (new .entry)))) ⌝ }
+    ensures { λ r. ⌜ r .words ≡ length (setWords (difference (now (old .entry)) (now (new .entry)))) ⌝ }
+    ensures { λ r. ⌜ (r .runs ≤ 16) × (r .words ≤ 32) ⌝ }
+{
+    let mut offset: usize = 0;
+    let mut row: usize = 0;
+    let mut runs: usize = 0;
+    let mut words: usize = 0;
+    while offset + row < 32 {
+        if old[offset + row] == new[offset + row] {
+            runs = runs + at_most_one(row);
+            offset = offset + row + 1;
+            row = 0;
+        } else {
+            row = row + 1;
+            words = words + 1;
+        }
+    }
+    Size {
+        runs: runs + at_most_one(row),
+        words,
+    }
+}
+
+// How many runs `len` words in a row are: none or one.
+fn at_most_one(len: usize) -> usize
+    ensures { λ r. ⌜ r ≡ min len 1 ⌝ }
+{
+    if len == 0 { 0 } else { 1 }
+}
+
+// The diff of two pages, with its number of runs: that number, the pairs, the words.
+fn write_all(old: &[u32], new: &[u32], out: &mut [u8], count: usize)
+    requires { ⌜ RoomForDiff (now old) (now new) (now out) count ⌝ }
+    ensures { λ _. ⌜ now (out .exit) ≡ sets (now (out .entry)) 0 (written (now (old .entry)) (now (new .entry))) ⌝ }
+{
+    out[0] = (count % 256) as u8;
+    write_pairs(old, new, out);
+    write_words(old, new, out, 1 + 2 * count);
+}
+
+// The pairs of the diff, from place 1 on. The words before offset + len are done; the last `len` of them are a run that may go on.
+fn write_pairs(old: &[u32], new: &[u32], out: &mut [u8])
+    requires { ⌜ RoomForPairs (now old) (now new) (now out) ⌝ }
+    ensures { λ _. ⌜ now (out .exit) ≡ sets (now (out .entry)) 1 (pairBytes (runs (difference (now (old .entry)) (now (new .entry))))) ⌝ }
+{
+    let mut at: usize = 1;
+    let mut offset: usize = 0;
+    let mut len: usize = 0;
+    while offset + len < 32 {
+        if old[offset + len] == new[offset + len] {
+            at = put_pair(out, at, offset, len);
+            offset = offset + len + 1;
+            len = 0;
+        } else {
+            len = len + 1;
+        }
+    }
+    put_pair(out, at, offset, len);
+}
+
+// The pair of a run, unless the run is empty, at a place, and the place behind it.
+fn put_pair(out: &mut [u8], at: usize, offset: usize, len: usize) -> usize
+    requires { ⌜ RoomForPair (now out) at offset len ⌝ }
+    ensures { λ r. ⌜ r ≡ at + 2 * min len 1 ⌝ }
+    ensures { λ r. ⌜ now (out .exit) ≡ sets (now (out .entry)) at (pairBytes (ended offset len)) ⌝ }
+{
+    if len == 0 {
+        return at;
+    }
+    out[at] = (offset % 256) as u8;
+    out[at + 1] = (len % 256) as u8;
+    at + 2
+}
+
+// The words of the runs, one after the other, from a place on.
+fn write_words(old: &[u32], new: &[u32], out: &mut [u8], from: usize)
+    requires { ⌜ RoomForWords (now old) (now new) (now out) from ⌝ }
+    ensures { λ _. ⌜ now (out .exit) ≡ sets (now (out .entry)) from (wordsBytes (setWords (difference (now (old .entry)) (now (new .entry))))) ⌝ }
+{
+    let mut at = from;
+    let mut i: usize = 0;
+    while i < 32 {
+        if old[i] == new[i] {
+            i = i + 1;
+        } else {
+            put_word(out, at, new[i]);
+            at = at + 4;
+            i = i + 1;
+        }
+    }
+}
+
+// A word at a place, low byte first.
+fn put_word(out: &mut [u8], at: usize, v: u32)
+    requires { ⌜ at + 4 ≤ length (now out) ⌝ }
+    ensures { λ _. ⌜ now (out .exit) ≡ sets (now (out .entry)) at (wordBytes v) ⌝ }
+{
+    let b0 = (v % 256) as u8;
+    let b1 = (v / 256 % 256) as u8;
+    let b2 = (v / 65536 % 256) as u8;
+    let b3 = (v / 16777216 % 256) as u8;
+    out[at] = b0;
+    out[at + 1] = b1;
+    out[at + 2] = b2;
+    out[at + 3] = b3;
 }
 
 // The refusal of a byte string that is to be read as a diff, or 0.

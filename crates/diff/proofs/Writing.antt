@@ -1,0 +1,160 @@
+-- What the writer stores for one pair and for one word, and the difference of two pages word by word, as the writer goes through it: what is
+-- left of its runs and words, and what each word adds. Assumes nothing.
+use Prim.Native.Nat.{ℕ, zero, suc, _+_, _/_, _%_, _≤_, _<_, min}
+use native.Mathlib.Nat.{add-zero}
+use native.Mathlib.Numerals.{add-one}
+use native.Mathlib.Omega.{arith}
+use mathlib.Core.Path.{_≡_, refl, sym, ap, _∙_}
+use mathlib.Core.Option.{Option, none, some}
+use mathlib.Core.List.{List, [], _∷_, _++_}
+use lib.ListN.{length, getD, set, drop, length-set, length-append, drop-of-length-le}
+use lib.Seq.{sets}
+use borrow.Author.Tests.{eq-eqb, ne-eqb}
+use Rattle.diff.specs.Format.{Run, setting, difference, ended, runsFrom, runs, setWords, pairBytes, wordBytes}
+use Rattle.diff.specs.Needed.{PagesWhole, RoomForPair}
+use Rattle.diff.proofs.Theorems.{length-difference}
+
+-- ---- one pair and one word
+
+module _ (out : List ℕ) (at offset len : ℕ) where
+  pub no-pair : len ≡ 0 → out ≡ sets out at (pairBytes (ended offset len))
+  unfolding pairBytes ended
+  no-pair e = rw e
+
+  pub room-for-length : (v : ℕ) → RoomForPair out at offset len → (len ≡ 0 → ⊥) → at + 1 < length (set out at v)
+  room-for-length v p h = simp length-set (omega (arith, p .room))
+
+pub pair-stored : (out : List ℕ) (at offset len : ℕ) → RoomForPair out at offset len → (len ≡ 0 → ⊥)
+    → set (set out at (offset % 256)) (at + 1) (len % 256) ≡ sets out at (pairBytes (ended offset len))
+unfolding pairBytes ended
+pair-stored out at offset zero p h = absurd (h refl)
+pair-stored out at offset (suc k) p h =
+    let o : offset % 256 ≡ offset = omega (arith, p .on-page) in
+    let l : suc k % 256 ≡ suc k = omega (arith, p .on-page) in
+    rw (o, l, add-one at)
+
+module _ (out : List ℕ) (at : ℕ) (room : at + 4 ≤ length out) where
+  pub room-for-byte-1 : (a : ℕ) → at + 1 < length (set out at a)
+  room-for-byte-1 a = simp length-set (omega arith)
+
+  pub room-for-byte-2 : (a b : ℕ) → at + 2 < length (set (set out at a) (at + 1) b)
+  room-for-byte-2 a b = simp length-set (omega arith)
+
+  pub room-for-byte-3 : (a b c : ℕ) → at + 3 < length (set (set (set out at a) (at + 1) b) (at + 2) c)
+  room-for-byte-3 a b c = simp length-set (omega arith)
+
+pub word-stored : (out : List ℕ) (at v : ℕ)
+    → set (set (set (set out at (v % 256)) (at + 1) (v / 256 % 256)) (at + 2) (v / 65536 % 256)) (at + 3) (v / 16777216 % 256) ≡ sets out at (wordBytes v)
+unfolding wordBytes
+word-stored out at v =
+    let one : at + 1 ≡ suc at = omega arith in
+    let two : at + 2 ≡ suc (suc at) = omega arith in
+    let three : at + 3 ≡ suc (suc (suc at)) = omega arith in
+    rw (one, two, three)
+
+-- ---- stores and pairs, one part after the other
+
+pub sets-append : (l : List ℕ) (i : ℕ) (vs ws : List ℕ) → sets l i (vs ++ ws) ≡ sets (sets l i vs) (i + length vs) ws
+sets-append l i [] ws = ap (λ (n : ℕ). sets l n ws) (sym (add-zero i))
+sets-append l i (v ∷ vs) ws =
+    sets-append (set l i v) (suc i) vs ws ∙ ap (λ (n : ℕ). sets (sets (set l i v) (suc i) vs) n ws) (omega arith)
+
+pub pair-bytes-append : (rs ss : List Run) → pairBytes (rs ++ ss) ≡ pairBytes rs ++ pairBytes ss
+unfolding pairBytes
+pair-bytes-append [] ss = refl
+pair-bytes-append (r ∷ rs) ss = ap (λ (l : List ℕ). r .offset ∷ r .len ∷ l) (pair-bytes-append rs ss)
+
+-- words in a row are one run or, where there are none, no run
+pub length-ended : (o k : ℕ) → length (ended o k) ≡ min k 1
+unfolding ended
+length-ended o zero = omega arith
+length-ended o (suc k) = omega arith
+
+-- an open run that has words is one of the runs
+pub open-run-counts : (o k : ℕ) (d : List (Option ℕ)) → min k 1 ≤ length (runsFrom o k d)
+unfolding runsFrom
+open-run-counts o k [] = omega (arith, length-ended o k)
+open-run-counts o k (none ∷ d) = omega (arith, length-ended o k, length-append (ended o k) (runsFrom (o + k + 1) 0 d))
+open-run-counts o k (some v ∷ d) = omega (arith, open-run-counts o (k + 1) d)
+
+-- ---- the word at a place of the difference
+
+difference-at : (old new : List ℕ) (i : ℕ) → i < length old → i < length new
+    → drop i (difference old new) ≡ setting (getD old i 0) (getD new i 0) ∷ drop (suc i) (difference old new)
+unfolding difference
+difference-at [] new i h k = absurd (omega arith)
+difference-at (x ∷ old) [] i h k = absurd (omega arith)
+difference-at (x ∷ old) (y ∷ new) zero h k = refl
+difference-at (x ∷ old) (y ∷ new) (suc i) h k = difference-at old new i (omega arith) (omega arith)
+
+module _ (old new : List ℕ) (whole : PagesWhole old new) (i : ℕ) where
+  at : i < 32 → drop i (difference old new) ≡ setting (getD old i 0) (getD new i 0) ∷ drop (i + 1) (difference old new)
+  at h =
+      difference-at old new i (omega (arith, whole .old-whole)) (omega (arith, whole .new-whole))
+      ∙ ap (λ (n : ℕ). setting (getD old i 0) (getD new i 0) ∷ drop n (difference old new)) (sym (add-one i))
+
+  kept-word : i < 32 → getD old i 0 ≡ getD new i 0 → drop i (difference old new) ≡ none ∷ drop (i + 1) (difference old new)
+  unfolding setting
+  kept-word h e = at h ∙ rw (eq-eqb _ _ e)
+
+  set-word : i < 32 → (getD old i 0 ≡ getD new i 0 → ⊥) → drop i (difference old new) ≡ some (getD new i 0) ∷ drop (i + 1) (difference old new)
+  unfolding setting
+  set-word h e = at h ∙ rw (ne-eqb _ _ e)
+
+  no-word : 32 ≤ i → drop i (difference old new) ≡ []
+  no-word h =
+      drop-of-length-le (difference old new) {i = i}
+      (omega (arith, length-difference old new (whole .old-whole ∙ sym (whole .new-whole)), whole .old-whole))
+
+-- ---- the runs that are left
+
+-- the runs of the words from offset + len on, where the len words before those are set and their run may go on
+unfoldable pub runsLeft : List ℕ → List ℕ → ℕ → ℕ → List Run
+runsLeft old new offset len = runsFrom offset len (drop (offset + len) (difference old new))
+
+pub all-runs-left : (old new : List ℕ) → runs (difference old new) ≡ runsLeft old new 0 0
+unfolding runs runsLeft
+all-runs-left old new = refl
+
+module _ (old new : List ℕ) (offset len : ℕ) (whole : PagesWhole old new) where
+  pub kept-word-ends-run : offset + len < 32 → getD old (offset + len) 0 ≡ getD new (offset + len) 0
+      → runsLeft old new offset len ≡ ended offset len ++ runsLeft old new (offset + len + 1) 0
+  unfolding runsLeft runsFrom
+  kept-word-ends-run h e =
+      ap (λ (d : List (Option ℕ)). runsFrom offset len d) (kept-word old new whole (offset + len) h e)
+      ∙ ap (λ (n : ℕ). ended offset len ++ runsFrom (offset + len + 1) 0 (drop n (difference old new))) (sym (add-zero (offset + len + 1)))
+
+  pub set-word-lengthens-run : offset + len < 32 → (getD old (offset + len) 0 ≡ getD new (offset + len) 0 → ⊥)
+      → runsLeft old new offset len ≡ runsLeft old new offset (len + 1)
+  unfolding runsLeft runsFrom
+  set-word-lengthens-run h e =
+      let next : offset + len + 1 ≡ offset + (len + 1) = omega arith in
+      ap (λ (d : List (Option ℕ)). runsFrom offset len d) (set-word old new whole (offset + len) h e)
+      ∙ ap (λ (n : ℕ). runsFrom offset (len + 1) (drop n (difference old new))) next
+
+  pub page-end-ends-run : 32 ≤ offset + len → runsLeft old new offset len ≡ ended offset len
+  unfolding runsLeft runsFrom
+  page-end-ends-run h = ap (λ (d : List (Option ℕ)). runsFrom offset len d) (no-word old new whole (offset + len) h)
+
+-- ---- the words that are left
+
+-- the values that the difference sets from the word i on
+unfoldable pub wordsLeft : List ℕ → List ℕ → ℕ → List ℕ
+wordsLeft old new i = setWords (drop i (difference old new))
+
+pub all-words-left : (old new : List ℕ) → setWords (difference old new) ≡ wordsLeft old new 0
+unfolding wordsLeft
+all-words-left old new = refl
+
+module _ (old new : List ℕ) (i : ℕ) (whole : PagesWhole old new) where
+  pub kept-word-adds-none : i < 32 → getD old i 0 ≡ getD new i 0 → wordsLeft old new i ≡ wordsLeft old new (i + 1)
+  unfolding wordsLeft setWords
+  kept-word-adds-none h e = ap setWords (kept-word old new whole i h e)
+
+  pub set-word-is-next : i < 32 → (getD old i 0 ≡ getD new i 0 → ⊥) → wordsLeft old new i ≡ getD new i 0 ∷ wordsLeft old new (i + 1)
+  unfolding wordsLeft setWords
+  set-word-is-next h e = ap setWords (set-word old new whole i h e)
+
+  pub page-end-has-none : 32 ≤ i → wordsLeft old new i ≡ []
+  unfolding wordsLeft setWords
+  page-end-has-none h = ap setWords (no-word old new whole i h)
