@@ -1,0 +1,5 @@
+pub mod Tables
+pub mod Holders
+pub mod Slots
+pub mod Facts
+pub mod Accepted

@@ -1,0 +1,58 @@
+-- Document 01, "Close": what ends an interval of a processor. Assumes nothing.
+use Prim.Native.Nat.{ℕ, zero, suc, _+_}
+use mathlib.Core.Bool.{Bool, true, false, cond, not, _&&_, _||_}
+use mathlib.Core.List.{List, [], _∷_, map}
+use lib.ListN.{getD}
+use lib.Dec.{eqb}
+use Rattle.diff.specs.Format.{written}
+use Rattle.rules.specs.Tables.{put, any}
+use Rattle.rules.specs.State.{Processor, Interval, Clocks, withClock, Pages, copyOf, twinOf, dirtyAt, Record, Records, appended, State, clock, own}
+
+-- "compare twin and copy": whether any word differs
+unfoldable pub differ : List ℕ → List ℕ → Bool
+differ [] [] = false
+differ [] (y ∷ b) = true
+differ (x ∷ a) [] = true
+differ (x ∷ a) (y ∷ b) = not (eqb x y) || differ a b
+
+unfoldable pub changed : State → ℕ → ℕ → Bool
+changed s p g = dirtyAt (s .pages) p g && differ (twinOf (s .pages) p g) (copyOf (s .pages) p g)
+
+-- "If any word differs on any page"
+unfoldable pub anyChanged : State → ℕ → Bool
+anyChanged s p = any (s .counts .pages) (changed s p)
+
+-- a clock with the entry of processor p one higher
+unfoldable pub raised : List ℕ → ℕ → List ℕ
+raised c zero = c
+raised c (suc q) = put 0 c q (getD c q 0 + 1)
+
+-- "the card's own entry rises by 1, the interval keeps the card's clock"
+unfoldable pub ticked : State → ℕ → Clocks
+ticked s p =
+    let c = raised (clock s p) p in
+    withClock (withClock (s .clocks) (Processor p) c) (Interval p (own s p + 1)) c
+
+-- the record of a page that differs
+unfoldable pub newRecord : State → ℕ → ℕ → Record
+newRecord s p g = record { processor = p; interval = own s p + 1; page = g; diff = written (twinOf (s .pages) p g) (copyOf (s .pages) p g) }
+
+-- "each page that differs gets one record", for the pages below n, upwards
+unfoldable pub recorded : State → ℕ → ℕ → Records
+recorded s p zero = s .records
+recorded s p (suc g) = cond (changed s p g) (appended (recorded s p g) (newRecord s p g)) (recorded s p g)
+
+-- "the page becomes clean", for every page of a processor
+unfoldable pub cleaned : Pages → ℕ → Pages
+cleaned m p = record { copies = m .copies; twins = m .twins; dirty = put [] (m .dirty) p (map (λ mark. 0) (getD (m .dirty) p [])) }
+
+-- "Otherwise no interval is made"
+unfoldable pub closed : State → ℕ → State
+closed s p =
+    record {
+      counts = s .counts;
+      clocks = cond (anyChanged s p) (ticked s p) (s .clocks);
+      pages = cleaned (s .pages) p;
+      records = recorded s p (s .counts .pages);
+      marks = s .marks;
+    }

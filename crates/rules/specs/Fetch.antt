@@ -1,0 +1,56 @@
+-- Document 01, "Pending" and "Fetch": how the changed words of a page follow to a processor that touches it. Assumes nothing.
+use Prim.Native.Nat.{ℕ}
+use mathlib.Core.Bool.{Bool, cond, not, _&&_}
+use mathlib.Core.List.{List, [], _∷_}
+use lib.ListN.{length}
+use lib.Dec.{leb, ltb, eqb}
+use Rattle.clock.specs.Clocks.{entryOf, sumOf}
+use Rattle.diff.specs.Reading.{applied}
+use Rattle.rules.specs.Tables.{putCell, select, sortBy}
+use Rattle.rules.specs.State.{Limits, Processor, Applied, Interval, Clocks, clockOf, withClock, Pages, copyOf, Record, State, clock, standing}
+
+-- "records of g by another card q, with interval above q's entry in the applied clock and not above q's entry in p's clock"
+unfoldable pub isPending : Clocks → ℕ → ℕ → Record → Bool
+isPending c p g r =
+    eqb (r .page) g
+    && not (eqb (r .processor) p)
+    && ltb (entryOf (clockOf c (Applied p g)) (r .processor)) (r .interval)
+    && leb (r .interval) (entryOf (clockOf c (Processor p)) (r .processor))
+
+-- "the sum of its interval's clock"
+unfoldable pub sumAt : Clocks → Record → ℕ
+sumAt c r = sumOf (clockOf c (Interval (r .processor) (r .interval)))
+
+-- "the smallest sum of its interval's clock (then smaller card, then smaller interval)"
+unfoldable pub earlier : Clocks → Record → Record → Bool
+earlier c r q =
+    cond (eqb (sumAt c r) (sumAt c q))
+    (cond (eqb (r .processor) (q .processor)) (ltb (r .interval) (q .interval)) (ltb (r .processor) (q .processor)))
+    (ltb (sumAt c r) (sumAt c q))
+
+-- the pending records in the order in which they are applied
+unfoldable pub due : State → ℕ → ℕ → List Record
+due s p g = sortBy (earlier (s .clocks)) (select (isPending (s .clocks) p g) (standing s))
+
+-- records applied to a page of w words, "each once"
+unfoldable pub appliedAll : ℕ → List Record → List ℕ → List ℕ
+appliedAll w [] page = page
+appliedAll w (r ∷ rs) page = appliedAll w rs (applied w (r .diff) page)
+
+unfoldable pub withCopy : Pages → ℕ → ℕ → List ℕ → Pages
+withCopy m p g page = record { copies = putCell [] (m .copies) p g page; twins = m .twins; dirty = m .dirty }
+
+-- "applied to the copy alone, until no record is pending, each once; then the applied clock becomes p's clock"
+unfoldable pub fetched : Limits → State → ℕ → ℕ → State
+fetched lim s p g =
+    record {
+      counts = s .counts;
+      clocks = withClock (s .clocks) (Applied p g) (clock s p);
+      pages = withCopy (s .pages) p g (appliedAll (lim .words) (due s p g) (copyOf (s .pages) p g));
+      records = s .records;
+      marks = s .marks;
+    }
+
+-- "The count is the records applied"
+unfoldable pub fetchCount : State → ℕ → ℕ → ℕ
+fetchCount s p g = length (due s p g)

@@ -1,0 +1,171 @@
+-- Document 01, "A state is **in order** when": each condition as a named part, in the document's order. Assumes nothing.
+use Prim.Native.Nat.{ℕ, suc, _+_, _*_}
+use mathlib.Core.Bool.{Bool, true, cond, not, _&&_, _||_}
+use mathlib.Core.List.{List, [], _∷_}
+use lib.ListN.{length, getD}
+use lib.Dec.{leb, ltb, eqb}
+use Rattle.clock.specs.Clocks.{covered, entryOf}
+use Rattle.diff.specs.Reading.{readRefusal}
+use Rattle.rules.specs.Tables.{every, any, total}
+use Rattle.rules.specs.State.{Limits, Counts, Holder, Processor, Lock, Barrier, Applied, Interval, clockOf, copyOf, twinOf, dirtyAt, Record, recordIn, State, clock, own, holder, hasArrived}
+
+-- a present processor: "Cards numbered from 1; 0 means nobody"
+unfoldable pub present : State → ℕ → Bool
+present s p = leb 1 p && leb p (s .counts .processors)
+
+-- a test over every processor, over every page of each, over every clock there is place for
+unfoldable pub everyProcessor : Limits → (ℕ → Bool) → Bool
+everyProcessor lim t = every (lim .processors) (λ k. t (suc k))
+
+unfoldable pub everyPage : Limits → (ℕ → ℕ → Bool) → Bool
+everyPage lim t = everyProcessor lim (λ p. every (lim .pages) (t p))
+
+unfoldable pub everyHolder : Limits → (Holder → Bool) → Bool
+everyHolder lim t =
+    everyProcessor lim (λ p. t (Processor p))
+    && every (lim .locks) (λ l. t (Lock l))
+    && t Barrier
+    && everyPage lim (λ p g. t (Applied p g))
+    && everyProcessor lim (λ p. every (lim .intervals) (λ k. t (Interval p (suc k))))
+
+-- ---- "its size is the fixed one"
+
+-- the bytes of a record's slot: four numbers and the longest diff of a page
+unfoldable pub slotSize : Limits → ℕ
+slotSize lim = 4 * lim .words + 7
+
+-- a table with an empty row for nobody and a row of a given length for each processor
+unfoldable pub rowsSized : {A : Type 0} → Limits → ℕ → List (List A) → Bool
+rowsSized lim n t =
+    eqb (length t) (suc (lim .processors)) && eqb (length (getD t 0 [])) 0 && everyProcessor lim (λ p. eqb (length (getD t p [])) n)
+
+unfoldable pub sized : Limits → State → Bool
+sized lim s =
+    rowsSized lim (lim .processors) (s .clocks .processors)
+    && eqb (length (s .clocks .locks)) (lim .locks)
+    && rowsSized lim (lim .pages) (s .clocks .applied)
+    && rowsSized lim (suc (lim .intervals)) (s .clocks .intervals)
+    && everyProcessor lim (λ p. eqb (length (clockOf (s .clocks) (Interval p 0))) 0)
+    && everyHolder lim (λ h. eqb (length (clockOf (s .clocks) h)) (lim .processors))
+    && rowsSized lim (lim .pages) (s .pages .copies)
+    && everyPage lim (λ p g. eqb (length (copyOf (s .pages) p g)) (lim .words))
+    && rowsSized lim (lim .pages) (s .pages .twins)
+    && everyPage lim (λ p g. eqb (length (twinOf (s .pages) p g)) (lim .words))
+    && rowsSized lim (lim .pages) (s .pages .dirty)
+    && eqb (length (s .records .slots)) (lim .records)
+    && every (lim .records) (λ i. eqb (length (getD (s .records .slots) i [])) (slotSize lim))
+    && leb (s .records .standing) (lim .records)
+    && eqb (length (s .marks .holders)) (lim .locks)
+    && eqb (length (s .marks .arrived)) (suc (lim .processors))
+
+-- ---- "counts of cards, pages and locks are in range"
+
+unfoldable pub inRange : ℕ → ℕ → Bool
+inRange most n = leb 1 n && leb n most
+
+unfoldable pub countsInRange : Limits → Counts → Bool
+countsInRange lim c = inRange (lim .processors) (c .processors) && inRange (lim .pages) (c .pages) && inRange (lim .locks) (c .locks)
+
+-- ---- "entries, words, marks and holders for absent cards, pages and locks are 0"
+
+unfoldable pub presentHolder : State → Holder → Bool
+presentHolder s (Processor p) = present s p
+presentHolder s (Lock l) = ltb l (s .counts .locks)
+presentHolder s Barrier = true
+presentHolder s (Applied p g) = present s p && ltb g (s .counts .pages)
+presentHolder s (Interval p i) = present s p
+
+unfoldable pub allZero : List ℕ → Bool
+allZero [] = true
+allZero (x ∷ l) = eqb x 0 && allZero l
+
+unfoldable pub absentZero : Limits → State → Bool
+absentZero lim s =
+    everyHolder lim (λ h. presentHolder s h || allZero (clockOf (s .clocks) h))
+    && everyHolder lim (λ h. everyProcessor lim (λ q. present s q || eqb (entryOf (clockOf (s .clocks) h) q) 0))
+    && everyPage lim (λ p g. presentHolder s (Applied p g) || allZero (copyOf (s .pages) p g))
+    && everyPage lim (λ p g. presentHolder s (Applied p g) || not (dirtyAt (s .pages) p g))
+    && everyProcessor lim (λ p. present s p || not (hasArrived s p))
+    && every (lim .locks) (λ l. presentHolder s (Lock l) || eqb (holder s l) 0)
+
+-- ---- "the clock kept for an interval above its card's own entry is zeros"
+
+unfoldable pub laterIntervalsZero : Limits → State → Bool
+laterIntervalsZero lim s =
+    everyProcessor lim (λ p. every (lim .intervals) (λ k. leb (suc k) (own s p) || allZero (clockOf (s .clocks) (Interval p (suc k)))))
+
+-- ---- "no clock entry exceeds that card's own entry in its own clock, at most 63"
+
+unfoldable pub entriesKnown : Limits → State → Bool
+entriesKnown lim s =
+    everyHolder lim (λ h. everyProcessor lim (λ q. leb (entryOf (clockOf (s .clocks) h) q) (own s q)))
+    && everyProcessor lim (λ p. leb (own s p) (lim .intervals))
+
+-- ---- "no applied clock exceeds its card's clock"
+
+unfoldable pub appliedKnown : Limits → State → Bool
+appliedKnown lim s = everyPage lim (λ p g. covered (clock s p) (clockOf (s .clocks) (Applied p g)))
+
+-- ---- "each record has a present card and page, a legal change and an interval from 1 to its card's own entry, and no other record has
+-- the same card, interval and page"
+
+unfoldable pub recordAt : State → ℕ → Record
+recordAt s i = recordIn (getD (s .records .slots) i [])
+
+-- the diff fits its slot and is legal
+unfoldable pub diffLegal : Limits → State → ℕ → Bool
+diffLegal lim s i =
+    leb (4 + getD (getD (s .records .slots) i []) 3 0) (slotSize lim)
+    && eqb (readRefusal (lim .words) (recordAt s i .diff)) 0
+
+unfoldable pub recordSound : Limits → State → Record → Bool
+recordSound lim s r =
+    present s (r .processor)
+    && ltb (r .page) (s .counts .pages)
+    && leb 1 (r .interval)
+    && leb (r .interval) (own s (r .processor))
+
+unfoldable pub sameNotice : Record → Record → Bool
+sameNotice r q = eqb (r .processor) (q .processor) && eqb (r .interval) (q .interval) && eqb (r .page) (q .page)
+
+unfoldable pub recordsSound : Limits → State → Bool
+recordsSound lim s =
+    every (s .records .standing) (λ i. recordSound lim s (recordAt s i) && diffLegal lim s i)
+    && every (s .records .standing) (λ i. every i (λ j. not (sameNotice (recordAt s i) (recordAt s j))))
+
+-- ---- "records plus dirty pages, counted over all cards, are at most 128"
+
+unfoldable pub dirtyPages : State → ℕ
+dirtyPages s = total (s .counts .processors) (λ k. total (s .counts .pages) (λ g. cond (dirtyAt (s .pages) (suc k) g) 1 0))
+
+unfoldable pub roomKept : Limits → State → Bool
+roomKept lim s = leb (s .records .standing + dirtyPages s) (lim .records)
+
+-- ---- "a card with a dirty page has own entry at most 62"
+
+unfoldable pub dirtyHaveInterval : Limits → State → Bool
+dirtyHaveInterval lim s = everyPage lim (λ p g. not (dirtyAt (s .pages) p g) || ltb (own s p) (lim .intervals))
+
+-- ---- "holders are present cards or 0"
+
+unfoldable pub holdersPresent : Limits → State → Bool
+holdersPresent lim s = every (lim .locks) (λ l. eqb (holder s l) 0 || present s (holder s l))
+
+-- ---- "not all cards have arrived"
+
+unfoldable pub someoneMissing : State → Bool
+someoneMissing s = any (s .counts .processors) (λ k. not (hasArrived s (suc k)))
+
+unfoldable pub inOrder : Limits → State → Bool
+inOrder lim s =
+    sized lim s
+    && countsInRange lim (s .counts)
+    && absentZero lim s
+    && laterIntervalsZero lim s
+    && entriesKnown lim s
+    && appliedKnown lim s
+    && recordsSound lim s
+    && roomKept lim s
+    && dirtyHaveInterval lim s
+    && holdersPresent lim s
+    && someoneMissing s

@@ -1,0 +1,11 @@
+pub mod Tables
+pub mod State
+pub mod InOrder
+pub mod Opening
+pub mod Close
+pub mod Fetch
+pub mod Steps
+pub mod Refusals
+pub mod Runs
+pub mod Order
+pub mod Demand

@@ -1,0 +1,70 @@
+-- Document 01, "**Happens-before-1** is made from the number of cards, the fields of the steps and whether each step was refused, and from
+-- nothing else". Assumes nothing.
+use Prim.Native.Nat.{ℕ, zero, suc, _+_, _<_}
+use mathlib.Core.Path.{_≡_}
+use mathlib.Core.Bool.{Bool, true, false, cond}
+use mathlib.Core.Logic.{_⊎_}
+use mathlib.Core.List.{List, [], _∷_}
+use lib.ListN.{getD}
+use lib.Dec.{eqb}
+use Rattle.rules.specs.Refusals.{Step, Action, Acquire, Release, Arrive, actionOf, Answer}
+
+-- a step of the list: its fields, and whether it was accepted. "A step is accepted exactly when its refusal is 0"
+pub record Event : Type 0 where
+  pub step : Step
+  pub accepted : Bool
+
+unfoldable pub events : List Step → List Answer → List Event
+events [] answered = []
+events (t ∷ ts) [] = []
+events (t ∷ ts) (a ∷ answered) = record { step = t; accepted = eqb (a .refusal) 0 } ∷ events ts answered
+
+-- past the end of the list no step is accepted
+unfoldable pub noEvent : Event
+noEvent = record { step = record { kind = 0; processor = 0; object = 0; value = 0 }; accepted = false }
+
+unfoldable pub eventAt : List Event → ℕ → Event
+eventAt es i = getD es i noEvent
+
+-- the step at place i is accepted, is by processor p and is the action a
+pub record Took (es : List Event) (i p : ℕ) (a : Action) : Type 0 where
+  pub accepted : eventAt es i .accepted ≡ true
+  pub processor : eventAt es i .step .processor ≡ p
+  pub action : actionOf (eventAt es i .step) ≡ a
+
+unfoldable pub isArrival : Event → Bool
+isArrival e = cond (e .accepted) (eqb (e .step .kind) 5) false
+
+-- "Accepted arrivals are counted off from the opening in groups of as many as there are cards; each full group is a completed round":
+-- how many groups are full, and how many arrivals the open group has
+pub record Groups : Type 0 where
+  pub full : ℕ
+  pub waiting : ℕ
+
+unfoldable pub countedOff : ℕ → Groups → Groups
+countedOff n g =
+    cond (eqb (g .waiting + 1) n) (record { full = g .full + 1; waiting = 0 }) (record { full = g .full; waiting = g .waiting + 1 })
+
+-- the groups of the first t steps, for n processors
+unfoldable pub groupsBefore : ℕ → List Event → ℕ → Groups
+groupsBefore n es zero = record { full = 0; waiting = 0 }
+groupsBefore n es (suc t) = cond (isArrival (eventAt es t)) (countedOff n (groupsBefore n es t)) (groupsBefore n es t)
+
+-- the rounds completed before place t
+unfoldable pub rounds : ℕ → List Event → ℕ → ℕ
+rounds n es t = groupsBefore n es t .full
+
+-- the step at place i is before the step at place j
+pub data Before (n : ℕ) (es : List Event) : ℕ → ℕ → Type 0 where
+  -- "a card's steps in their order"
+  program : {i j : ℕ} (p : ℕ) (a b : Action) → Took es i p a → Took es j p b → i < j → Before n es i j
+  -- "each release before every later acquire of that lock"
+  lock : {i j : ℕ} (p q l : ℕ) → Took es i p (Release l) → Took es j q (Acquire l) → i < j → Before n es i j
+  -- "every arrival of a completed round before every step any card takes after that round's last arrival"
+  round : {i j : ℕ} (p q : ℕ) (b : Action) → Took es i p Arrive → Took es j q b → rounds n es i < rounds n es j → Before n es i j
+  -- "what follows by chaining"
+  chain : {i j : ℕ} (k : ℕ) → Before n es i k → Before n es k j → Before n es i j
+
+-- "Two steps are ordered when either is before the other"
+unfoldable pub Ordered : ℕ → List Event → ℕ → ℕ → Type 0
+Ordered n es i j = Before n es i j ⊎ Before n es j i

@@ -1,0 +1,146 @@
+-- Document 01, "The mainframe": the state of one mainframe. Processors (document 01: cards) and intervals are numbered from 1 and keep
+-- those numbers as places of tables: place 0, nobody's, stays empty. Pages and locks are numbered from 0. Assumes nothing.
+use Prim.Native.Nat.{ℕ, _+_}
+use mathlib.Core.Bool.{Bool, not}
+use mathlib.Core.List.{List, [], _∷_, _++_, map}
+use lib.ListN.{length, getD, take, drop}
+use lib.Dec.{eqb}
+use Rattle.clock.specs.Clocks.{entryOf}
+use Rattle.diff.specs.Reading.{applied}
+use Rattle.rules.specs.Tables.{put, cell, putCell}
+
+-- how many processors, pages, words of a page, locks, records and intervals of a processor there can be
+pub record Limits : Type 0 where
+  pub processors : ℕ
+  pub pages : ℕ
+  pub words : ℕ
+  pub locks : ℕ
+  pub records : ℕ
+  pub intervals : ℕ
+
+-- "Cards 1 to 8. Pages 1 to 8, locks 1 to 16. A page is 32 words. At most 128 [records] stand. an interval number 1 to 63"
+unfoldable pub mainframe : Limits
+mainframe = record { processors = 8; pages = 8; words = 32; locks = 16; records = 128; intervals = 63 }
+
+-- how many processors, pages and locks the opening gave: the others are absent
+pub record Counts : Type 0 where
+  pub processors : ℕ
+  pub pages : ℕ
+  pub locks : ℕ
+
+-- whoever has a clock: "Each card has a clock, and for each page an applied clock. A lock has a clock. The barrier has a clock. Each
+-- interval keeps the clock of its card just after closing"
+pub data Holder : Type 0 where
+  Processor : ℕ → Holder
+  Lock : ℕ → Holder
+  Barrier : Holder
+  Applied : ℕ → ℕ → Holder
+  Interval : ℕ → ℕ → Holder
+
+pub record Clocks : Type 0 where
+  pub processors : List (List ℕ)
+  pub locks : List (List ℕ)
+  pub barrier : List ℕ
+  pub applied : List (List (List ℕ))
+  pub intervals : List (List (List ℕ))
+
+unfoldable pub clockOf : Clocks → Holder → List ℕ
+clockOf c (Processor p) = getD (c .processors) p []
+clockOf c (Lock l) = getD (c .locks) l []
+clockOf c Barrier = c .barrier
+clockOf c (Applied p g) = cell [] (c .applied) p g
+clockOf c (Interval p i) = cell [] (c .intervals) p i
+
+-- the clocks with one of them replaced
+unfoldable pub withClock : Clocks → Holder → List ℕ → Clocks
+withClock c (Processor p) v =
+    record { processors = put [] (c .processors) p v; locks = c .locks; barrier = c .barrier; applied = c .applied; intervals = c .intervals }
+withClock c (Lock l) v =
+    record { processors = c .processors; locks = put [] (c .locks) l v; barrier = c .barrier; applied = c .applied; intervals = c .intervals }
+withClock c Barrier v =
+    record { processors = c .processors; locks = c .locks; barrier = v; applied = c .applied; intervals = c .intervals }
+withClock c (Applied p g) v =
+    record { processors = c .processors; locks = c .locks; barrier = c .barrier; applied = putCell [] (c .applied) p g v; intervals = c .intervals }
+withClock c (Interval p i) v =
+    record { processors = c .processors; locks = c .locks; barrier = c .barrier; applied = c .applied; intervals = putCell [] (c .intervals) p i v }
+
+-- a clock of which every entry is 0
+unfoldable pub cleared : List ℕ → List ℕ
+cleared c = map (λ e. 0) c
+
+-- the pages by processor and page: "A page of a card is clean or dirty; a dirty one has a twin". A mark is set when it is not 0
+pub record Pages : Type 0 where
+  pub copies : List (List (List ℕ))
+  pub twins : List (List (List ℕ))
+  pub dirty : List (List ℕ)
+
+unfoldable pub copyOf : Pages → ℕ → ℕ → List ℕ
+copyOf m p g = cell [] (m .copies) p g
+
+unfoldable pub twinOf : Pages → ℕ → ℕ → List ℕ
+twinOf m p g = cell [] (m .twins) p g
+
+unfoldable pub dirtyAt : Pages → ℕ → ℕ → Bool
+dirtyAt m p g = not (eqb (cell 0 (m .dirty) p g) 0)
+
+-- "A change record has a card, an interval number, a page and a change"
+pub record Record : Type 0 where
+  pub processor : ℕ
+  pub interval : ℕ
+  pub page : ℕ
+  pub diff : List ℕ
+
+-- the slots of the records; the first `standing` of them hold a record, the others what they held
+pub record Records : Type 0 where
+  pub standing : ℕ
+  pub slots : List (List ℕ)
+
+-- a slot's bytes: processor, interval, page, the diff's length and the diff
+unfoldable pub slotBytes : Record → List ℕ
+slotBytes r = r .processor ∷ r .interval ∷ r .page ∷ length (r .diff) ∷ r .diff
+
+unfoldable pub recordIn : List ℕ → Record
+recordIn slot =
+    record { processor = getD slot 0 0; interval = getD slot 1 0; page = getD slot 2 0; diff = take (getD slot 3 0) (drop 4 slot) }
+
+-- the records that stand, in the order in which they were made
+unfoldable pub recordsOf : Records → List Record
+recordsOf r = map recordIn (take (r .standing) (r .slots))
+
+-- the first bytes of a slot replaced, the others kept
+unfoldable pub laidOver : List ℕ → List ℕ → List ℕ
+laidOver bytes slot = bytes ++ drop (length bytes) slot
+
+-- one record more
+unfoldable pub appended : Records → Record → Records
+appended r new =
+    record { standing = r .standing + 1; slots = put [] (r .slots) (r .standing) (laidOver (slotBytes new) (getD (r .slots) (r .standing) [])) }
+
+-- "A lock has a holder. The barrier has an arrived mark for each card and a mark that collection is wanted"
+pub record Marks : Type 0 where
+  pub holders : List ℕ
+  pub arrived : List ℕ
+  pub wanted : ℕ
+
+pub record State : Type 0 where
+  pub counts : Counts
+  pub clocks : Clocks
+  pub pages : Pages
+  pub records : Records
+  pub marks : Marks
+
+-- the clock of a processor, and "own entry": the entry for itself in it
+unfoldable pub clock : State → ℕ → List ℕ
+clock s p = clockOf (s .clocks) (Processor p)
+
+unfoldable pub own : State → ℕ → ℕ
+own s p = entryOf (clock s p) p
+
+unfoldable pub standing : State → List Record
+standing s = recordsOf (s .records)
+
+unfoldable pub holder : State → ℕ → ℕ
+holder s l = getD (s .marks .holders) l 0
+
+unfoldable pub hasArrived : State → ℕ → Bool
+hasArrived s p = not (eqb (getD (s .marks .arrived) p 0) 0)

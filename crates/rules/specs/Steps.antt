@@ -1,0 +1,202 @@
+-- Document 01, "Steps": what each kind of step does when it is accepted. Assumes nothing.
+use Prim.Native.Nat.{ℕ, zero, suc, _+_, _/_, _%_}
+use mathlib.Core.Bool.{Bool, cond, not}
+use mathlib.Core.List.{[], map}
+use lib.ListN.{getD, set}
+use lib.Dec.{eqb}
+use Rattle.clock.specs.Clocks.{joined}
+use Rattle.diff.specs.Reading.{applied}
+use Rattle.rules.specs.Tables.{put, putCell, every}
+use Rattle.rules.specs.State.{Limits, Holder, Processor, Lock, Barrier, Clocks, clockOf, withClock, cleared, Pages, copyOf, dirtyAt, Marks, State, standing, hasArrived}
+use Rattle.rules.specs.Close.{closed}
+use Rattle.rules.specs.Fetch.{withCopy, fetched, fetchCount}
+
+-- what an accepted step leaves and answers. "Only a read has a value other than 0. Where no count is named it is 0"
+pub record Effect : Type 0 where
+  pub after : State
+  pub value : ℕ
+  pub count : ℕ
+
+-- "word w lies on page w / 32"
+unfoldable pub pageOfWord : Limits → ℕ → ℕ
+pageOfWord lim w = w / lim .words
+
+unfoldable pub offsetOfWord : Limits → ℕ → ℕ
+offsetOfWord lim w = w % lim .words
+
+-- ---- 1. "Read: fetch, then answer the word"
+
+unfoldable pub wordOf : Limits → State → ℕ → ℕ → ℕ
+wordOf lim s p w = getD (copyOf (s .pages) p (pageOfWord lim w)) (offsetOfWord lim w) 0
+
+unfoldable pub read : Limits → State → ℕ → ℕ → Effect
+read lim s p w =
+    let s₁ = fetched lim s p (pageOfWord lim w) in
+    record { after = s₁; value = wordOf lim s₁ p w; count = fetchCount s p (pageOfWord lim w) }
+
+-- ---- 2. "Write: fetch; if the page is clean, take the twin; store"
+
+unfoldable pub twinTaken : Pages → ℕ → ℕ → Pages
+twinTaken m p g =
+    record {
+      copies = m .copies;
+      twins = cond (dirtyAt m p g) (m .twins) (putCell [] (m .twins) p g (copyOf m p g));
+      dirty = cond (dirtyAt m p g) (m .dirty) (putCell 0 (m .dirty) p g 1);
+    }
+
+-- a word has 32 bits
+unfoldable pub stored : Limits → Pages → ℕ → ℕ → ℕ → Pages
+stored lim m p w v =
+    withCopy m p (pageOfWord lim w) (set (copyOf m p (pageOfWord lim w)) (offsetOfWord lim w) (v % 4294967296))
+
+unfoldable pub write : Limits → State → ℕ → ℕ → ℕ → Effect
+write lim s p w v =
+    let s₁ = fetched lim s p (pageOfWord lim w) in
+    record {
+      after =
+          record {
+            counts = s₁ .counts;
+            clocks = s₁ .clocks;
+            pages = stored lim (twinTaken (s₁ .pages) p (pageOfWord lim w)) p w v;
+            records = s₁ .records;
+            marks = s₁ .marks;
+          };
+      value = 0;
+      count = fetchCount s p (pageOfWord lim w);
+    }
+
+-- ---- 3. "Acquire: close; the card becomes holder; its clock joins the lock's"
+
+unfoldable pub withHolder : Marks → ℕ → ℕ → Marks
+withHolder m l p = record { holders = put 0 (m .holders) l p; arrived = m .arrived; wanted = m .wanted }
+
+unfoldable pub learned : Clocks → Holder → Holder → Clocks
+learned c to from = withClock c to (joined (clockOf c to) (clockOf c from))
+
+unfoldable pub acquire : State → ℕ → ℕ → State
+acquire s p l =
+    let s₁ = closed s p in
+    record {
+      counts = s₁ .counts;
+      clocks = learned (s₁ .clocks) (Processor p) (Lock l);
+      pages = s₁ .pages;
+      records = s₁ .records;
+      marks = withHolder (s₁ .marks) l p;
+    }
+
+-- ---- 4. "Release: close; holder becomes 0; the lock's clock becomes the card's"
+
+unfoldable pub release : State → ℕ → ℕ → State
+release s p l =
+    let s₁ = closed s p in
+    record {
+      counts = s₁ .counts;
+      clocks = withClock (s₁ .clocks) (Lock l) (clockOf (s₁ .clocks) (Processor p));
+      pages = s₁ .pages;
+      records = s₁ .records;
+      marks = withHolder (s₁ .marks) l 0;
+    }
+
+-- ---- 5. Arrive
+
+-- "close; the barrier's clock joins the card's; mark the card"
+unfoldable pub atBarrier : State → ℕ → State
+atBarrier s p =
+    let s₁ = closed s p in
+    record {
+      counts = s₁ .counts;
+      clocks = learned (s₁ .clocks) Barrier (Processor p);
+      pages = s₁ .pages;
+      records = s₁ .records;
+      marks = record { holders = s₁ .marks .holders; arrived = put 0 (s₁ .marks .arrived) p 1; wanted = s₁ .marks .wanted };
+    }
+
+unfoldable pub allArrived : State → Bool
+allArrived s = every (s .counts .processors) (λ k. hasArrived s (suc k))
+
+-- "each card's clock joins the barrier's", for the first n processors
+unfoldable pub allLearned : Clocks → ℕ → Clocks
+allLearned c zero = c
+allLearned c (suc k) = learned (allLearned c k) (Processor (suc k)) Barrier
+
+-- "each card's clock joins the barrier's, which returns to zeros, and marks clear"
+unfoldable pub roundDone : State → State
+roundDone s =
+    record {
+      counts = s .counts;
+      clocks = withClock (allLearned (s .clocks) (s .counts .processors)) Barrier (cleared (s .clocks .barrier));
+      pages = s .pages;
+      records = s .records;
+      marks = record { holders = s .marks .holders; arrived = map (λ mark. 0) (s .marks .arrived); wanted = s .marks .wanted };
+    }
+
+-- fetches of several pages, and the sum of their counts
+pub record Fetches : Type 0 where
+  pub after : State
+  pub count : ℕ
+
+-- one processor "fetches each page upwards", for the pages below n
+unfoldable pub pagesFetched : Limits → State → ℕ → ℕ → Fetches
+pagesFetched lim s p zero = record { after = s; count = 0 }
+pagesFetched lim s p (suc g) =
+    let f = pagesFetched lim s p g in
+    record { after = fetched lim (f .after) p g; count = f .count + fetchCount (f .after) p g }
+
+-- "each card upwards", for the first n processors
+unfoldable pub allFetched : Limits → State → ℕ → Fetches
+allFetched lim s zero = record { after = s; count = 0 }
+allFetched lim s (suc k) =
+    let f = allFetched lim s k in
+    let h = pagesFetched lim (f .after) (suc k) (s .counts .pages) in
+    record { after = h .after; count = f .count + h .count }
+
+-- "all clocks (of cards, applied, of locks, of intervals) become zeros"
+unfoldable pub allCleared : Clocks → Clocks
+allCleared c =
+    record {
+      processors = map cleared (c .processors);
+      locks = map cleared (c .locks);
+      barrier = cleared (c .barrier);
+      applied = map (map cleared) (c .applied);
+      intervals = map (map cleared) (c .intervals);
+    }
+
+-- "then records go, all clocks become zeros, and the wish clears"
+unfoldable pub emptied : State → State
+emptied s =
+    record {
+      counts = s .counts;
+      clocks = allCleared (s .clocks);
+      pages = s .pages;
+      records = record { standing = 0; slots = s .records .slots };
+      marks = record { holders = s .marks .holders; arrived = s .marks .arrived; wanted = 0 };
+    }
+
+-- garbage collection (document 01: collection): "each card upwards fetches each page upwards; then records go"
+unfoldable pub collected : Limits → State → Fetches
+collected lim s =
+    let f = allFetched lim s (s .counts .processors) in
+    record { after = emptied (f .after); count = f .count }
+
+unfoldable pub wantsCollection : State → Bool
+wantsCollection s = not (eqb (s .marks .wanted) 0)
+
+-- "When the last card arrives"
+unfoldable pub arrive : Limits → State → ℕ → Fetches
+arrive lim s p =
+    let s₁ = atBarrier s p in
+    cond (allArrived s₁)
+    (cond (wantsCollection s₁) (collected lim (roundDone s₁)) (record { after = roundDone s₁; count = 0 }))
+    (record { after = s₁; count = 0 })
+
+-- ---- 6. "Want collection: set the wish; setting it again changes nothing"
+
+unfoldable pub want : State → State
+want s =
+    record {
+      counts = s .counts;
+      clocks = s .clocks;
+      pages = s .pages;
+      records = s .records;
+      marks = record { holders = s .marks .holders; arrived = s .marks .arrived; wanted = cond (wantsCollection s) (s .marks .wanted) 1 };
+    }
