@@ -2,7 +2,7 @@
 -- left". Assumes nothing.
 use mathlib.Core.List.{List, [], _∷_}
 use Rattle.rules.specs.State.{Limits, State}
-use Rattle.rules.specs.Refusals.{Step, Answer, answer, next}
+use Rattle.rules.specs.Refusals.{Step, Answer, answerInOrder, nextInOrder, answer, next}
 
 unfoldable pub answers : Limits → State → List Step → List Answer
 answers lim s [] = []
@@ -11,3 +11,12 @@ answers lim s (t ∷ ts) = answer lim s t ∷ answers lim (next lim s t) ts
 unfoldable pub stateAfter : Limits → State → List Step → State
 stateAfter lim s [] = s
 stateAfter lim s (t ∷ ts) = stateAfter lim (next lim s t) ts
+
+-- the same where the state is known to be in order: every accepted step keeps it so, and refusal 1 never arises (proofs/)
+unfoldable pub answersInOrder : Limits → State → List Step → List Answer
+answersInOrder lim s [] = []
+answersInOrder lim s (t ∷ ts) = answerInOrder lim s t ∷ answersInOrder lim (nextInOrder lim s t) ts
+
+unfoldable pub stateInOrder : Limits → State → List Step → State
+stateInOrder lim s [] = s
+stateInOrder lim s (t ∷ ts) = stateInOrder lim (nextInOrder lim s t) ts
