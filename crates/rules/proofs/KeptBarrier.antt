@@ -1,0 +1,175 @@
+-- Arriving at the barrier keeps a state in order: when it completes no round, when it completes one, and when garbage is collected then.
+-- Assumes nothing.
+use Prim.Native.Nat.{ℕ, zero, suc, _≤_, _<_}
+use native.Mathlib.Omega.{arith}
+use mathlib.Core.Path.{_≡_, refl, sym, ap, _∙_}
+use mathlib.Core.Bool.{Bool, true, false, cond, not, _&&_, false≢true}
+use mathlib.Core.List.{List, map}
+use lib.ListN.{length, getD, length-map}
+use lib.Dec.{eqb}
+use Rattle.rules.specs.Tables.{put, every}
+use Rattle.rules.specs.State.{Limits, Counts, Processor, Barrier, Clocks, withClock, cleared, Marks, State, hasArrived}
+use Rattle.rules.specs.Close.{closed}
+use Rattle.rules.specs.Fetch.{fetched}
+use Rattle.rules.specs.Steps.{learned, atBarrier, allArrived, allLearned, roundDone, pagesFetched, allFetched, emptied, collected, wantsCollection, arrive}
+use Rattle.rules.proofs.Tables.{get-put-other, length-put-within, get-map, Passes}
+use Rattle.rules.proofs.KeptParts.{presentAmong, arrivedIn, CountsInOrder, MarksInOrder, Parts}
+use Rattle.rules.proofs.KeptMoves.{among-says, among-when}
+use Rattle.rules.proofs.KeptRounds.{barrier-learned, round-clocks, entry-all-cleared, all-cleared-in-order}
+use Rattle.rules.proofs.KeptClose.{closed-parts}
+use Rattle.rules.proofs.KeptFetch.{withClocks, withMarks, clocks-moved, marks-changed, fetched-parts}
+use Rattle.rules.proofs.KeptLocks.{wish-set}
+
+-- a test that fails for some number below a bound
+pub every-fails : (n : ℕ) (t : ℕ → Bool) → every n t ≡ false → Passes n (λ i. not (t i))
+unfolding every
+every-fails zero t e = let z : _≡_ {A = Bool} false true = sym e in absurd (false≢true z)
+every-fails (suc n) t e = go (every n t) (t n) refl refl e (every-fails n t)
+  where
+    go : (a b : Bool) → every n t ≡ a → t n ≡ b → (a && b) ≡ false → (every n t ≡ false → Passes n (λ i. not (t i))) → Passes (suc n) (λ i. not (t i))
+    go true true x y e r = let z : _≡_ {A = Bool} false true = sym e in absurd (false≢true z)
+    go true false x y e r = record { at = n; below = omega arith; passes = ap not y }
+    go false b x y e r = let q = r x in record { at = q .at; below = omega (arith, q .below); passes = q .passes }
+
+-- ---- marks
+
+-- the marks with other arrived marks
+unfoldable pub withArrived : Marks → List ℕ → Marks
+withArrived k marks = record { holders = k .holders; arrived = marks; wanted = k .wanted }
+
+-- a present processor is marked, and one is still missing
+arrived-set : (lim : Limits) (n : Counts) (k : Marks) (p : ℕ) → CountsInOrder lim n → MarksInOrder lim n k → presentAmong n p ≡ true
+    → Passes (n .processors) (λ i. not (arrivedIn (withArrived k (put 0 (k .arrived) p 1)) (suc i))) → MarksInOrder lim n (withArrived k (put 0 (k .arrived) p 1))
+unfolding withArrived
+arrived-set lim n k p c f a missing =
+    let b = among-says n p a in
+    record {
+      holders = f .holders;
+      arrived = length-put-within 0 (k .arrived) p 1 (omega (arith, f .arrived, b .1, c .processors-fit)) ∙ f .arrived;
+      absent-not-arrived = λ q h e.
+          ap (λ (x : ℕ). not (eqb x 0)) (get-put-other 0 (k .arrived) p q 1 (λ d. let z : _≡_ {A = Bool} false true = sym e ∙ ap (presentAmong n) d ∙ a in false≢true z))
+          ∙ f .absent-not-arrived q h e;
+      absent-not-held = f .absent-not-held;
+      holder-present = f .holder-present;
+      someone-missing = missing;
+    }
+
+-- all marks clear
+arrived-cleared : (lim : Limits) (n : Counts) (k : Marks) (marks : List ℕ) → CountsInOrder lim n → MarksInOrder lim n k → length marks ≡ suc (lim .processors)
+    → MarksInOrder lim n (withArrived k (map (λ mark. 0) marks))
+unfolding withArrived
+arrived-cleared lim n k marks c f l =
+    record {
+      holders = f .holders;
+      arrived = length-map marks (λ (mark : ℕ). 0) ∙ l;
+      absent-not-arrived = λ q h e. clear q;
+      absent-not-held = f .absent-not-held;
+      holder-present = f .holder-present;
+      someone-missing = record { at = 0; below = c .some-processor; passes = ap not (clear 1) };
+    }
+  where
+    clear : (q : ℕ) → not (eqb (getD (map (λ mark. 0) marks) q 0) 0) ≡ false
+    clear q = ap (λ (x : ℕ). not (eqb x 0)) (get-map (λ (mark : ℕ). 0) 0 marks q)
+
+-- ---- arriving
+
+-- the state at the barrier before the processor is marked
+unfoldable pub unmarked : State → ℕ → State
+unmarked s p = withClocks (closed s p) (learned (closed s p .clocks) Barrier (Processor p))
+
+-- the processor has closed and the barrier has learned its clock
+pub unmarked-parts : (lim : Limits) (s : State) (p : ℕ) → Parts lim s → presentAmong (s .counts) p ≡ true → Parts lim (unmarked s p)
+unfolding unmarked
+unmarked-parts lim s p f a =
+    let f₁ : Parts lim (closed s p) = closed-parts lim s p f a in
+    clocks-moved lim (closed s p) (learned (closed s p .clocks) Barrier (Processor p)) f₁
+    (barrier-learned lim (closed s p .counts) (closed s p .clocks) p (f₁ .counts) (f₁ .clocks) (unfold closed in a))
+
+-- no round is complete
+pub waiting-parts : (lim : Limits) (s : State) (p : ℕ) → Parts lim s → presentAmong (s .counts) p ≡ true → allArrived (atBarrier s p) ≡ false → Parts lim (atBarrier s p)
+unfolding atBarrier unmarked withClocks withMarks withArrived closed allArrived hasArrived
+waiting-parts lim s p f a e =
+    let f₁ : Parts lim (unmarked s p) = unmarked-parts lim s p f a in
+    marks-changed lim (unmarked s p) (withArrived (s .marks) (put 0 (s .marks .arrived) p 1)) f₁
+    (arrived-set lim (s .counts) (s .marks) p (f .counts) (f .marks) a (every-fails (s .counts .processors) (λ i. hasArrived (atBarrier s p) (suc i)) e))
+
+-- a round is complete
+pub round-parts : (lim : Limits) (s : State) (p : ℕ) → Parts lim s → presentAmong (s .counts) p ≡ true → Parts lim (roundDone (atBarrier s p))
+unfolding roundDone atBarrier unmarked withClocks withMarks withArrived closed
+round-parts lim s p f a =
+    let b = among-says (s .counts) p a in
+    let s₁ : State = unmarked s p in
+    let f₁ : Parts lim s₁ = unmarked-parts lim s p f a in
+    let c : Clocks = withClock (allLearned (s₁ .clocks) (s .counts .processors)) Barrier (cleared (s₁ .clocks .barrier)) in
+    let marks : List ℕ = put 0 (s .marks .arrived) p 1 in
+    marks-changed lim (withClocks s₁ c) (withArrived (s .marks) (map (λ mark. 0) marks))
+    (clocks-moved lim s₁ c f₁ (round-clocks lim (s .counts) (s₁ .clocks) (f₁ .counts) (f₁ .clocks)))
+    (arrived-cleared lim (s .counts) (s .marks) marks (f .counts) (f .marks)
+    (length-put-within 0 (s .marks .arrived) p 1 (omega (arith, f .marks .arrived, b .1, f .counts .processors-fit)) ∙ f .marks .arrived))
+
+-- ---- collection
+
+-- parts in order, with the counts as they were
+pub record PartsWith (lim : Limits) (n : Counts) (s : State) : Type 0 where
+  pub parts : Parts lim s
+  pub same-counts : s .counts ≡ n
+
+page-fetched-parts : (lim : Limits) (n : Counts) (s : State) (p g : ℕ) → PartsWith lim n s → presentAmong n p ≡ true → g < n .pages → PartsWith lim n (fetched lim s p g)
+page-fetched-parts lim n s p g r a h =
+    record {
+      parts =
+          fetched-parts lim s p g (r .parts)
+          (record { counts = r .parts .counts; processor = ap (λ (x : Counts). presentAmong x p) (r .same-counts) ∙ a; page = rw (r .same-counts) h });
+      same-counts = unfold fetched in r .same-counts;
+    }
+
+pages-fetched-parts : (lim : Limits) (n : Counts) (s : State) (p g : ℕ) → PartsWith lim n s → presentAmong n p ≡ true → g ≤ n .pages
+    → PartsWith lim n (pagesFetched lim s p g .after)
+unfolding pagesFetched
+pages-fetched-parts lim n s p zero f a h = f
+pages-fetched-parts lim n s p (suc g) f a h = page-fetched-parts lim n (pagesFetched lim s p g .after) p g (pages-fetched-parts lim n s p g f a (omega arith)) a h
+
+all-fetched-parts : (lim : Limits) (s : State) (i : ℕ) → Parts lim s → i ≤ s .counts .processors → PartsWith lim (s .counts) (allFetched lim s i .after)
+unfolding allFetched
+all-fetched-parts lim s zero f h = record { parts = f; same-counts = refl }
+all-fetched-parts lim s (suc i) f h =
+    let r = all-fetched-parts lim s i f (omega arith) in
+    pages-fetched-parts lim (s .counts) (allFetched lim s i .after) (suc i) (s .counts .pages) r (among-when (s .counts) (suc i) (omega arith) h) (omega arith)
+
+-- no records, and all clocks zeros
+pub emptied-parts : (lim : Limits) (s : State) → Parts lim s → Parts lim (emptied s)
+unfolding emptied
+emptied-parts lim s f =
+    record {
+      counts = f .counts;
+      clocks = all-cleared-in-order lim (s .counts) (s .clocks) (f .clocks);
+      pages = f .pages;
+      records =
+          record {
+            slots = f .records .slots;
+            slot = f .records .slot;
+            few-standing = omega arith;
+            sound = λ i l. absurd (omega (arith, l));
+            distinct = λ i j l m. absurd (omega (arith, l));
+          };
+      marks = wish-set lim (s .counts) (s .marks) 0 (f .marks);
+      room = omega (arith, f .room);
+      dirty-has-interval = λ p g d. omega (arith, entry-all-cleared (s .clocks) (Processor p) p, f .dirty-has-interval p g d);
+    }
+
+-- every processor fetched every page, then all was emptied
+pub collected-parts : (lim : Limits) (s : State) → Parts lim s → Parts lim (collected lim s .after)
+unfolding collected
+collected-parts lim s f = emptied-parts lim (allFetched lim s (s .counts .processors) .after) (all-fetched-parts lim s (s .counts .processors) f (omega arith) .parts)
+
+-- every arrival
+pub arrive-parts : (lim : Limits) (s : State) (p : ℕ) → Parts lim s → presentAmong (s .counts) p ≡ true → Parts lim (arrive lim s p .after)
+unfolding arrive
+arrive-parts lim s p f a = go (allArrived (atBarrier s p)) (wantsCollection (atBarrier s p)) refl
+  where
+    go : (b c : Bool) → allArrived (atBarrier s p) ≡ b
+        → Parts lim
+        ((cond b (cond c (collected lim (roundDone (atBarrier s p))) (record { after = roundDone (atBarrier s p); count = 0 })) (record { after = atBarrier s p; count = 0 })) .after)
+    go true true e = collected-parts lim (roundDone (atBarrier s p)) (round-parts lim s p f a)
+    go true false e = round-parts lim s p f a
+    go false c e = waiting-parts lim s p f a e

@@ -1,0 +1,155 @@
+-- Fetching, reading and writing keep a state in order. Assumes nothing.
+use Prim.Native.Nat.{ℕ, _+_, _%_, _<_}
+use native.Mathlib.Omega.{arith}
+use native.Mathlib.Decide.{ℕ-discrete}
+use mathlib.Core.Path.{_≡_, refl, sym, _∙_}
+use mathlib.Core.Bool.{Bool, true, false}
+use mathlib.Core.List.{List, [], _∷_}
+use lib.ListN.{length, set, length-set}
+use Rattle.diff.specs.Reading.{settings, overlay, applied}
+use Rattle.diff.proofs.Overlay.{length-overlay}
+use Rattle.rules.specs.State.{Limits, Counts, Processor, Applied, Clocks, clockOf, withClock, Pages, copyOf, dirtyAt, Record, Marks, State, clock}
+use Rattle.rules.specs.Fetch.{due, appliedAll, withCopy, fetched}
+use Rattle.rules.specs.Steps.{pageOfWord, offsetOfWord, twinTaken, stored, write}
+use Rattle.rules.proofs.KeptParts.{ownIn, dirtyIn, PagesInOrder, MarksInOrder, Parts}
+use Rattle.rules.proofs.KeptMoves.{among-says, applied-set}
+use Rattle.rules.proofs.KeptRounds.{OwnKept}
+use Rattle.rules.proofs.KeptRecords.{records-with-more-intervals}
+use Rattle.rules.proofs.KeptPages.{AtPage, copy-replaced, twin-there, newTwin, twin-new, dirty-new-processor, new-twin-in-order, dirty-pages-new-twin}
+
+-- ---- one part of a state replaced
+
+-- the state with other clocks
+unfoldable pub withClocks : State → Clocks → State
+withClocks s c = record { counts = s .counts; clocks = c; pages = s .pages; records = s .records; marks = s .marks }
+
+-- the state with other pages
+unfoldable pub withPages : State → Pages → State
+withPages s m = record { counts = s .counts; clocks = s .clocks; pages = m; records = s .records; marks = s .marks }
+
+-- the state with other marks
+unfoldable pub withMarks : State → Marks → State
+withMarks s k = record { counts = s .counts; clocks = s .clocks; pages = s .pages; records = s .records; marks = k }
+
+-- clocks that leave the own entries as they were
+pub clocks-moved : (lim : Limits) (s : State) (c : Clocks) → Parts lim s → OwnKept lim (s .counts) (s .clocks) c → Parts lim (withClocks s c)
+unfolding withClocks
+clocks-moved lim s c f k =
+    record {
+      counts = f .counts;
+      clocks = k .in-order;
+      pages = f .pages;
+      records = records-with-more-intervals lim (s .counts) (ownIn (s .clocks)) (ownIn c) (s .records) (λ q. omega (arith, k .own-kept q)) (f .records);
+      marks = f .marks;
+      room = f .room;
+      dirty-has-interval = λ p g d. omega (arith, k .own-kept p, f .dirty-has-interval p g d);
+    }
+
+-- marks in order in place of the marks
+pub marks-changed : (lim : Limits) (s : State) (k : Marks) → Parts lim s → MarksInOrder lim (s .counts) k → Parts lim (withMarks s k)
+unfolding withMarks
+marks-changed lim s k f h =
+    record {
+      counts = f .counts;
+      clocks = f .clocks;
+      pages = f .pages;
+      records = f .records;
+      marks = h;
+      room = f .room;
+      dirty-has-interval = f .dirty-has-interval;
+    }
+
+-- a copy of the same length
+pub copy-changed : (lim : Limits) (s : State) (p g : ℕ) (page : List ℕ) → Parts lim s → AtPage lim (s .counts) p g → length page ≡ lim .words
+    → Parts lim (withPages s (withCopy (s .pages) p g page))
+unfolding withPages
+copy-changed lim s p g page f a l =
+    record {
+      counts = f .counts;
+      clocks = f .clocks;
+      pages = copy-replaced lim (s .counts) (s .pages) p g page a l (f .pages);
+      records = f .records;
+      marks = f .marks;
+      room = unfold withCopy dirtyAt in f .room;
+      dirty-has-interval = unfold withCopy dirtyAt in f .dirty-has-interval;
+    }
+
+-- ---- fetch
+
+-- applying records keeps the length of the page
+pub length-applied-all : (w : ℕ) (rs : List Record) (page : List ℕ) → length (appliedAll w rs page) ≡ length page
+unfolding appliedAll applied
+length-applied-all w [] page = refl
+length-applied-all w (r ∷ rs) page = length-applied-all w rs (overlay (settings w (r .diff)) page) ∙ length-overlay (settings w (r .diff)) page
+
+-- the length of a present processor's copy of a present page
+pub length-copy : (lim : Limits) (n : Counts) (m : Pages) (p g : ℕ) → AtPage lim n p g → PagesInOrder lim n m → length (copyOf m p g) ≡ lim .words
+length-copy lim n m p g a f =
+    let b = among-says n p (a .processor) in
+    f .copy p g (b .0) (omega (arith, b .1, a .counts .processors-fit)) (omega (arith, a .page, a .counts .pages-fit))
+
+applied-moved : (lim : Limits) (s : State) (p g : ℕ) → Parts lim s → AtPage lim (s .counts) p g
+    → OwnKept lim (s .counts) (s .clocks) (withClock (s .clocks) (Applied p g) (clockOf (s .clocks) (Processor p)))
+applied-moved lim s p g f a =
+    record { in-order = applied-set lim (s .counts) (s .clocks) p g (f .counts) (f .clocks) (a .processor) (a .page); own-kept = λ q. unfold withClock clockOf in refl }
+
+-- a fetch changes one copy and one applied clock
+pub fetched-parts : (lim : Limits) (s : State) (p g : ℕ) → Parts lim s → AtPage lim (s .counts) p g → Parts lim (fetched lim s p g)
+unfolding fetched withClocks withPages clock
+fetched-parts lim s p g f a =
+    copy-changed lim (withClocks s (withClock (s .clocks) (Applied p g) (clockOf (s .clocks) (Processor p)))) p g
+    (appliedAll (lim .words) (due s p g) (copyOf (s .pages) p g))
+    (clocks-moved lim s (withClock (s .clocks) (Applied p g) (clockOf (s .clocks) (Processor p))) f (applied-moved lim s p g f a)) a
+    (length-applied-all (lim .words) (due s p g) (copyOf (s .pages) p g) ∙ length-copy lim (s .counts) (s .pages) p g a (f .pages))
+
+-- ---- write
+
+-- a write to a clean page wants an interval left and room for one record more
+pub record MayDirty (lim : Limits) (s : State) (p g : ℕ) : Type 0 where
+  pub interval-left : dirtyAt (s .pages) p g ≡ false → ownIn (s .clocks) p < lim .intervals
+  pub room-left : dirtyAt (s .pages) p g ≡ false → s .records .standing + dirtyIn (s .counts) (s .pages) < lim .records
+
+-- taking the twin where such a write is not refused
+pub twin-taken-parts : (lim : Limits) (s : State) (p g : ℕ) → Parts lim s → AtPage lim (s .counts) p g → MayDirty lim s p g → Parts lim (withPages s (twinTaken (s .pages) p g))
+twin-taken-parts lim s p g f a m = go (dirtyAt (s .pages) p g) refl
+  where
+    go : (b : Bool) → dirtyAt (s .pages) p g ≡ b → Parts lim (withPages s (twinTaken (s .pages) p g))
+    go true e = rw (twin-there (s .pages) p g e) (unfold withPages in f)
+    go false e =
+        rw (twin-new (s .pages) p g e)
+        (unfold withPages in
+        record {
+          counts = f .counts;
+          clocks = f .clocks;
+          pages = new-twin-in-order lim (s .counts) (s .pages) p g a (f .pages);
+          records = f .records;
+          marks = f .marks;
+          room = omega (arith, dirty-pages-new-twin (s .counts) (s .pages) p g (a .processor) (a .page) e, m .room-left e);
+          dirty-has-interval = λ q h d. dirtied q h d (ℕ-discrete q p);
+        })
+      where
+        dirtied : (q h : ℕ) → dirtyAt (newTwin (s .pages) p g) q h ≡ true → Dec (q ≡ p) → ownIn (s .clocks) q < lim .intervals
+        dirtied q h d (yes z) = rw z (m .interval-left e)
+        dirtied q h d (no z) = f .dirty-has-interval q h (sym (dirty-new-processor (s .pages) p g q h z) ∙ d)
+
+-- a write that is not refused
+pub write-parts : (lim : Limits) (s : State) (p w v : ℕ) → Parts lim s → AtPage lim (s .counts) p (pageOfWord lim w) → MayDirty lim s p (pageOfWord lim w)
+    → Parts lim (write lim s p w v .after)
+unfolding write stored
+write-parts lim s p w v f a m =
+    let g : ℕ = pageOfWord lim w in
+    let s₁ : State = fetched lim s p g in
+    let f₁ : Parts lim s₁ = fetched-parts lim s p g f a in
+    let m₁ : MayDirty lim s₁ p g = fetched-may-dirty in
+    let s₂ : State = withPages s₁ (twinTaken (s₁ .pages) p g) in
+    let f₂ : Parts lim s₂ = twin-taken-parts lim s₁ p g f₁ (unfold fetched in a) m₁ in
+    unfold withPages fetched in
+    copy-changed lim s₂ p g (set (copyOf (s₂ .pages) p g) (offsetOfWord lim w) (v % 4294967296)) f₂ a
+    (length-set (copyOf (s₂ .pages) p g) (offsetOfWord lim w) (v % 4294967296) ∙ length-copy lim (s₂ .counts) (s₂ .pages) p g a (f₂ .pages))
+  where
+    fetched-may-dirty : MayDirty lim (fetched lim s p (pageOfWord lim w)) p (pageOfWord lim w)
+    fetched-may-dirty =
+        record {
+          interval-left = unfold fetched withCopy dirtyAt withClock clockOf in m .interval-left;
+          room-left = unfold fetched withCopy dirtyAt in m .room-left;
+        }

@@ -1,0 +1,172 @@
+-- The moves of clocks that the steps make keep the clocks in order: a clock set, a clock that learns another, an interval's end, a barrier
+-- round, and all clocks cleared. Assumes nothing.
+use Prim.Native.Nat.{ℕ, _≤_, _<_}
+use native.Mathlib.Omega.{arith}
+use native.Mathlib.Decide.{ℕ-discrete}
+use native.Mathlib.Nat.{le-of-eq, le-trans}
+use mathlib.Core.Path.{_≡_, refl, sym, ap, _∙_}
+use mathlib.Core.Bool.{Bool, true, false, and-eq-true-iff, false≢true}
+use mathlib.Core.List.{List}
+use lib.ListN.{length}
+use lib.Dec.{leb, ltb, eqb}
+use borrow.Author.Tests.{leb-true, eqb-true, lt-ltb, le-leb, ne-eqb}
+use Rattle.clock.specs.Clocks.{entryOf}
+use Rattle.diff.specs.Reading.{applied}
+use Rattle.rules.specs.State.{Limits, Counts, Processor, Lock, Barrier, Applied, Interval, Clocks, clockOf, withClock}
+use Rattle.rules.specs.InOrder.{present}
+use Rattle.rules.specs.Refusals.{known, fits}
+use Rattle.rules.proofs.Holders.{sameHolder, clock-of-with-same, clock-of-with-other}
+use Rattle.rules.proofs.Facts.{Within}
+use Rattle.rules.proofs.KeptParts.{presentAmong, holderAmong, ownIn, CountsInOrder, ClocksInOrder}
+use Rattle.rules.proofs.KeptClocks.{by-replaced, replaced-in-order}
+
+-- a present processor is 1 to the number of processors
+pub among-says : (n : Counts) (p : ℕ) → presentAmong n p ≡ true → (1 ≤ p) × (p ≤ n .processors)
+among-says n p e =
+    let t = and-eq-true-iff (leb 1 p) (leb p (n .processors)) .0 e in
+    (leb-true 1 p (t .0), leb-true p (n .processors) (t .1))
+
+-- and the other way round
+pub among-when : (n : Counts) (p : ℕ) → 1 ≤ p → p ≤ n .processors → presentAmong n p ≡ true
+among-when n p h k = and-eq-true-iff (leb 1 p) (leb p (n .processors)) .1 (le-leb 1 p h, le-leb p (n .processors) k)
+
+-- an entry that its processor knows is 0 where the processor is absent
+absent-known : (lim : Limits) (n : Counts) (c : Clocks) (q e : ℕ) → ClocksInOrder lim n c → e ≤ ownIn c q → presentAmong n q ≡ false → e ≡ 0
+absent-known lim n c q e f h a = omega (arith, f .absent-entry (Processor q) q a)
+
+-- ---- one clock set
+
+-- a present lock gets a clock of which every processor knows its entry
+pub lock-set : (lim : Limits) (n : Counts) (c : Clocks) (l : ℕ) (v : List ℕ) → CountsInOrder lim n → ClocksInOrder lim n c → l < n .locks → length v ≡ lim .processors
+    → ((q : ℕ) → entryOf v q ≤ ownIn c q) → ClocksInOrder lim n (withClock c (Lock l) v)
+unfolding withClock clockOf holderAmong Within
+lock-set lim n c l v k f h w e =
+    replaced-in-order lim n c (Lock l) v f
+    (record {
+      within = omega (arith, k .locks-fit);
+      present = lt-ltb l (n .locks) h;
+      whole = w;
+      own-grows = λ q. omega arith;
+      own-fits = f .own-fits;
+      known = e;
+      absent = λ q a. absent-known lim n c q (entryOf v q) f (e q) a;
+      later = f .later-interval;
+      applied = f .applied-known;
+    })
+
+-- so does the barrier
+pub barrier-set : (lim : Limits) (n : Counts) (c : Clocks) (v : List ℕ) → ClocksInOrder lim n c → length v ≡ lim .processors
+    → ((q : ℕ) → entryOf v q ≤ ownIn c q) → ClocksInOrder lim n (withClock c Barrier v)
+unfolding withClock clockOf holderAmong Within
+barrier-set lim n c v f w e =
+    replaced-in-order lim n c Barrier v f
+    (record {
+      within = tt;
+      present = refl;
+      whole = w;
+      own-grows = λ q. omega arith;
+      own-fits = f .own-fits;
+      known = e;
+      absent = λ q a. absent-known lim n c q (entryOf v q) f (e q) a;
+      later = f .later-interval;
+      applied = f .applied-known;
+    })
+
+-- a page's applied clock becomes its processor's clock
+pub applied-set : (lim : Limits) (n : Counts) (c : Clocks) (p g : ℕ) → CountsInOrder lim n → ClocksInOrder lim n c → presentAmong n p ≡ true → g < n .pages
+    → ClocksInOrder lim n (withClock c (Applied p g) (clockOf c (Processor p)))
+unfolding withClock clockOf holderAmong Within sameHolder
+applied-set lim n c p g k f a h =
+    let b = among-says n p a in
+    replaced-in-order lim n c (Applied p g) (clockOf c (Processor p)) f
+    (record {
+      within = (b .0, omega (arith, b .1, k .processors-fit), omega (arith, k .pages-fit));
+      present = and-eq-true-iff (presentAmong n p) (ltb g (n .pages)) .1 (a, lt-ltb g (n .pages) h);
+      whole = f .sized .clocks (Processor p) (b .0, omega (arith, b .1, k .processors-fit));
+      own-grows = λ q. omega arith;
+      own-fits = f .own-fits;
+      known = f .known (Processor p);
+      absent = f .absent-entry (Processor p);
+      later = f .later-interval;
+      applied = λ p₂ g₂ q.
+          by-replaced (λ x. entryOf x q ≤ entryOf (clockOf c (Processor p₂)) q) c (Applied p g) (clockOf c (Processor p)) (Applied p₂ g₂)
+          (λ same. le-of-eq (ap (λ (z : ℕ). entryOf (clockOf c (Processor z)) q) (sym (eqb-true p₂ p (and-eq-true-iff (eqb p₂ p) (eqb g₂ g) .0 same .0)))))
+          (f .applied-known p₂ g₂ q);
+    })
+
+-- the interval that a processor has just made keeps a clock
+pub interval-set : (lim : Limits) (n : Counts) (c : Clocks) (p i : ℕ) (v : List ℕ) → CountsInOrder lim n → ClocksInOrder lim n c → presentAmong n p ≡ true
+    → 1 ≤ i → i ≤ ownIn c p → length v ≡ lim .processors → ((q : ℕ) → entryOf v q ≤ ownIn c q) → ClocksInOrder lim n (withClock c (Interval p i) v)
+unfolding withClock clockOf holderAmong Within sameHolder
+interval-set lim n c p i v k f a h j w e =
+    let b = among-says n p a in
+    replaced-in-order lim n c (Interval p i) v f
+    (record {
+      within = (b .0, omega (arith, b .1, k .processors-fit), h, omega (arith, f .own-fits p));
+      present = a;
+      whole = w;
+      own-grows = λ q. omega arith;
+      own-fits = f .own-fits;
+      known = e;
+      absent = λ q z. absent-known lim n c q (entryOf v q) f (e q) z;
+      later = λ p₂ i₂ q l.
+          by-replaced (λ x. entryOf x q ≡ 0) c (Interval p i) v (Interval p₂ i₂)
+          (λ same. absurd (made p₂ i₂ l (and-eq-true-iff (eqb p₂ p) (eqb i₂ i) .0 same)))
+          (f .later-interval p₂ i₂ q l);
+      applied = f .applied-known;
+    })
+  where
+    made : (p₂ i₂ : ℕ) → entryOf (clockOf c (Processor p₂)) p₂ < i₂ → (eqb p₂ p ≡ true) × (eqb i₂ i ≡ true) → ⊥
+    made p₂ i₂ l t =
+        let o : ownIn c p₂ ≡ ownIn c p = ap (ownIn c) (eqb-true p₂ p (t .0)) in
+        omega (arith, l, j, o, eqb-true i₂ i (t .1))
+
+-- the own entry of a processor that gets a clock
+pub own-same : (c : Clocks) (p : ℕ) (v : List ℕ) → ownIn (withClock c (Processor p) v) p ≡ entryOf v p
+own-same c p v = ap (λ (x : List ℕ). entryOf x p) (clock-of-with-same c (Processor p) v)
+
+-- and of every other processor
+pub own-other : (c : Clocks) (p q : ℕ) (v : List ℕ) → (q ≡ p → ⊥) → ownIn (withClock c (Processor p) v) q ≡ ownIn c q
+unfolding sameHolder
+own-other c p q v d = ap (λ (x : List ℕ). entryOf x q) (clock-of-with-other c (Processor p) v (Processor q) (ne-eqb q p d))
+
+-- a processor's clock grows, by what the others know; its own entry may rise
+pub processor-set : (lim : Limits) (n : Counts) (c : Clocks) (p : ℕ) (v : List ℕ) → CountsInOrder lim n → ClocksInOrder lim n c → presentAmong n p ≡ true
+    → length v ≡ lim .processors → ((q : ℕ) → entryOf (clockOf c (Processor p)) q ≤ entryOf v q) → entryOf v p ≤ lim .intervals
+    → ((q : ℕ) → (q ≡ p → ⊥) → entryOf v q ≤ ownIn c q) → ClocksInOrder lim n (withClock c (Processor p) v)
+unfolding withClock clockOf holderAmong Within sameHolder
+processor-set lim n c p v k f a w grows fits e =
+    let b = among-says n p a in
+    replaced-in-order lim n c (Processor p) v f
+    (record {
+      within = (b .0, omega (arith, b .1, k .processors-fit));
+      present = a;
+      whole = w;
+      own-grows = grown;
+      own-fits = λ q. fitting q (ℕ-discrete q p);
+      known = λ q. known-to q (ℕ-discrete q p);
+      absent = λ q z. absent-known lim n c q (entryOf v q) f (e q (λ d. elsewhere q d z)) z;
+      later = λ p₂ i q l. f .later-interval p₂ i q (omega (arith, grown p₂, l));
+      applied = λ p₂ g q.
+          by-replaced (λ x. entryOf (clockOf c (Applied p₂ g)) q ≤ entryOf x q) c (Processor p) v (Processor p₂)
+          (λ same. le-trans (f .applied-known p₂ g q) (le-trans (le-of-eq (ap (λ (z : ℕ). entryOf (clockOf c (Processor z)) q) (eqb-true p₂ p same))) (grows q)))
+          (f .applied-known p₂ g q);
+    })
+  where
+    grown : (q : ℕ) → ownIn c q ≤ ownIn (withClock c (Processor p) v) q
+    grown q = go (ℕ-discrete q p)
+      where
+        go : Dec (q ≡ p) → ownIn c q ≤ ownIn (withClock c (Processor p) v) q
+        go (yes d) = rw d (omega (arith, own-same c p v, grows p))
+        go (no d) = omega (arith, own-other c p q v d)
+
+    fitting : (q : ℕ) → Dec (q ≡ p) → ownIn (withClock c (Processor p) v) q ≤ lim .intervals
+    fitting q (yes d) = rw d (omega (arith, own-same c p v))
+    fitting q (no d) = omega (arith, own-other c p q v d, f .own-fits q)
+
+    known-to : (q : ℕ) → Dec (q ≡ p) → entryOf v q ≤ ownIn (withClock c (Processor p) v) q
+    known-to q (yes d) = rw d (omega (arith, own-same c p v))
+    known-to q (no d) = omega (arith, own-other c p q v d, e q d)
+
+    elsewhere : (q : ℕ) → q ≡ p → presentAmong n q ≡ false → ⊥
+    elsewhere q d z = let t : _≡_ {A = Bool} false true = sym z ∙ ap (presentAmong n) d ∙ a in false≢true t
