@@ -47,6 +47,10 @@ collects s p = completes s p && wantsCollection s
 unfoldable pub writerClosed : Ghost → ℕ → ℕ
 writerClosed γ p = cond (eqb (γ .writer) p) 0 (γ .writer)
 
+-- the counts once p has closed
+unfoldable pub closedGhost : Ghost → ℕ → Ghost
+closedGhost γ p = record { writes = γ .writes; last = γ .last; base = γ .base; writer = writerClosed γ p; known = γ .known }
+
 unfoldable pub arrivedNumbers : Ghost → ℕ → Holder → ℕ
 arrivedNumbers γ p = withNumber (γ .known) Barrier (max (γ .known Barrier) (γ .known (Processor p)))
 

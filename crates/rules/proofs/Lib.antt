@@ -27,6 +27,14 @@ pub mod Space
 pub mod InOrderRuns
 pub mod Timeline
 pub mod Ghosts
+pub mod StrictOrder
+pub mod ActionKinds
+pub mod MarksAfter
+pub mod Allowed
+pub mod Rounds
+pub mod NumbersAfter
+pub mod Numbers
+pub mod NumbersFollow
 pub mod WordOfRecords
 pub mod SortedRecords
 pub mod SelectedRecords
@@ -38,6 +46,7 @@ pub mod InvFetch
 pub mod InvFetched
 pub mod InvWrite
 pub mod InvWritten
+pub mod InvTicks
 pub mod AllOf
 pub mod CopyWords
 pub mod Values

@@ -1,0 +1,71 @@
+-- What the table of refusals leaves of a step that was taken, by its processor and its action. Assumes nothing.
+use Prim.Native.Nat.{ℕ, suc, _≤_}
+use native.Mathlib.Omega.{arith}
+use mathlib.Core.Path.{_≡_, refl, sym, ap, ap₂, _∙_}
+use mathlib.Core.Bool.{Bool, true, false, cond, false≢true}
+use mathlib.Core.List.{List}
+use lib.Dec.{eqb}
+use borrow.Author.Tests.{eqb-true}
+use Rattle.rules.specs.State.{Limits, Counts, State, holder, hasArrived}
+use Rattle.rules.specs.Refusals.{Action, Acquire, Release, lateRefusal, effect}
+use Rattle.rules.specs.Order.{Event, eventAt, Took}
+use Rattle.rules.proofs.Accepted.{Accepted, present-says}
+use Rattle.rules.proofs.Timeline.{Timeline, Moment, Refused, Taken, moment, counts-stay}
+
+-- the step's processor is one of the n, has not arrived, and holds the lock that it releases
+pub record Allowed (n : ℕ) (s : State) (p : ℕ) (a : Action) : Type 0 where
+  pub from : 1 ≤ p
+  pub to : p ≤ n
+  pub not-arrived : hasArrived s p ≡ false
+  pub holds : (l : ℕ) → a ≡ Release l → holder s l ≡ p
+  pub free : (l : ℕ) → a ≡ Acquire l → holder s l ≡ 0
+
+late-release : (lim : Limits) (s : State) (p l : ℕ) → lateRefusal lim s p (Release l) ≡ 0 → holder s l ≡ p
+unfolding lateRefusal
+late-release lim s p l = go (eqb (holder s l) p) refl
+  where
+    go : (b : Bool) → eqb (holder s l) p ≡ b → cond {A = ℕ} b 0 8 ≡ 0 → holder s l ≡ p
+    go true e z = eqb-true (holder s l) p e
+    go false e z = absurd (omega (arith, z))
+
+late-acquire : (lim : Limits) (s : State) (p l : ℕ) → lateRefusal lim s p (Acquire l) ≡ 0 → holder s l ≡ 0
+unfolding lateRefusal
+late-acquire lim s p l = go (eqb (holder s l) 0) refl
+  where
+    go : (b : Bool) → eqb (holder s l) 0 ≡ b → cond {A = ℕ} b 0 7 ≡ 0 → holder s l ≡ 0
+    go true e z = eqb-true (holder s l) 0 e
+    go false e z = absurd (omega (arith, z))
+
+module _ (lim : Limits) (c : Counts) (es : List Event) (r : Timeline lim c es) where
+  -- what the table says of an accepted step, by its processor and action
+  pub allowed : (t p : ℕ) (a : Action) → Took es t p a → Accepted lim (r .state t) (eventAt es t .step) → Allowed (c .processors) (r .state t) p a
+  allowed t p a took acc =
+      record {
+        from = bounds .0;
+        to = rw (ap (λ (k : Counts). k .processors) (counts-stay lim c es r t)) at (bounds .1);
+        not-arrived = rw (took .processor) at (acc .not-arrived);
+        holds = λ l e. late-release lim (r .state t) p l (rw e at late);
+        free = λ l e. late-acquire lim (r .state t) p l (rw e at late);
+      }
+    where
+      bounds : (1 ≤ p) × (p ≤ r .state t .counts .processors)
+      bounds = present-says (r .state t) p (rw (took .processor) at (acc .processor-present))
+
+      late : lateRefusal lim (r .state t) p a ≡ 0
+      late = rw (took .processor, took .action) at (acc .not-late)
+
+  -- the same of a step that was taken, and the state that it leaves
+  pub took-allowed : (t p : ℕ) (a : Action) → Took es t p a → Allowed (c .processors) (r .state t) p a
+  took-allowed t p a took = go (moment lim c es r t)
+    where
+      go : Moment lim es t (r .state t) (r .state (suc t)) → Allowed (c .processors) (r .state t) p a
+      go (Refused e k) = absurd (false≢true (sym e ∙ took .accepted))
+      go (Taken q b also acc k) = allowed t p a took acc
+
+  -- a step that was taken leaves the state of its effect
+  pub took-state : (t p : ℕ) (a : Action) → Took es t p a → r .state (suc t) ≡ effect lim (r .state t) p a .after
+  took-state t p a took = go (moment lim c es r t)
+    where
+      go : Moment lim es t (r .state t) (r .state (suc t)) → r .state (suc t) ≡ effect lim (r .state t) p a .after
+      go (Refused e k) = absurd (false≢true (sym e ∙ took .accepted))
+      go (Taken q b also acc k) = k ∙ ap₂ (λ (x : ℕ) (y : Action). effect lim (r .state t) x y .after) (sym (also .processor) ∙ took .processor) (sym (also .action) ∙ took .action)

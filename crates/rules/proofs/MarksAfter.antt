@@ -1,0 +1,147 @@
+-- What each kind of step leaves of the marks: the holder of each lock, and who has arrived at the barrier. Assumes nothing.
+use Prim.Native.Nat.{ℕ, zero, suc}
+use mathlib.Core.Path.{_≡_, refl, ap, _∙_}
+use mathlib.Core.Bool.{Bool, true, false, cond, not}
+use mathlib.Core.List.{List, map}
+use lib.ListN.{getD, replicate}
+use lib.Dec.{eqb}
+use Rattle.rules.specs.Tables.{put}
+use Rattle.rules.specs.State.{Limits, Counts, Marks, State, holder, hasArrived}
+use Rattle.rules.specs.Opening.{opened}
+use Rattle.rules.specs.Close.{closed}
+use Rattle.rules.specs.Fetch.{fetched}
+use Rattle.rules.specs.Steps.{read, write, withHolder, acquire, release, atBarrier, allArrived, roundDone, pagesFetched, allFetched, emptied, collected, wantsCollection, arrive, want}
+use Rattle.rules.specs.Refusals.{Action, Read, Write, Acquire, Release, Arrive, Want, Unknown, effect}
+use Rattle.rules.proofs.Tables.{get-put, get-map}
+use Rattle.rules.proofs.Ghosts.{completes}
+
+-- ---- fetches keep the marks
+
+pages-fetched-marks : (lim : Limits) (s : State) (p n : ℕ) → pagesFetched lim s p n .after .marks ≡ s .marks
+unfolding pagesFetched fetched
+pages-fetched-marks lim s p zero = refl
+pages-fetched-marks lim s p (suc g) = pages-fetched-marks lim s p g
+
+all-fetched-marks : (lim : Limits) (s : State) (n : ℕ) → allFetched lim s n .after .marks ≡ s .marks
+unfolding allFetched
+all-fetched-marks lim s zero = refl
+all-fetched-marks lim s (suc k) = pages-fetched-marks lim (allFetched lim s k .after) (suc k) (s .counts .pages) ∙ all-fetched-marks lim s k
+
+-- ---- an arrival
+
+-- the marks of an arrival before its round is completed or left open
+abbrev arrivedMarks : State → ℕ → List ℕ
+arrivedMarks s p = put 0 (s .marks .arrived) p 1
+
+arrive-holders : (lim : Limits) (s : State) (p : ℕ) → arrive lim s p .after .marks .holders ≡ s .marks .holders
+unfolding arrive collected emptied roundDone atBarrier closed
+arrive-holders lim s p = go (allArrived (atBarrier s p)) (wantsCollection (atBarrier s p))
+  where
+    go : (a b : Bool)
+        → cond a (cond b (collected lim (roundDone (atBarrier s p))) (record { after = roundDone (atBarrier s p); count = 0 })) (record { after = atBarrier s p; count = 0 }) .after .marks .holders
+        ≡ s .marks .holders
+    go true true = ap (λ (m : Marks). m .holders) (all-fetched-marks lim (roundDone (atBarrier s p)) (s .counts .processors))
+    go true false = refl
+    go false b = refl
+
+arrive-arrived : (lim : Limits) (s : State) (p : ℕ)
+    → arrive lim s p .after .marks .arrived ≡ cond (completes s p) (map (λ (mark : ℕ). 0) (arrivedMarks s p)) (arrivedMarks s p)
+unfolding arrive collected emptied roundDone atBarrier closed completes
+arrive-arrived lim s p = go (allArrived (atBarrier s p)) (wantsCollection (atBarrier s p))
+  where
+    go : (a b : Bool)
+        → cond a (cond b (collected lim (roundDone (atBarrier s p))) (record { after = roundDone (atBarrier s p); count = 0 })) (record { after = atBarrier s p; count = 0 }) .after .marks .arrived
+        ≡ cond a (map (λ (mark : ℕ). 0) (arrivedMarks s p)) (arrivedMarks s p)
+    go true true = ap (λ (m : Marks). m .arrived) (all-fetched-marks lim (roundDone (atBarrier s p)) (s .counts .processors))
+    go true false = refl
+    go false b = refl
+
+-- whether a mark of a table is set
+marked : List ℕ → ℕ → Bool
+marked l q = not (eqb (getD l q 0) 0)
+
+marked-put : (l : List ℕ) (p q : ℕ) → marked (put 0 l p 1) q ≡ cond (eqb q p) true (marked l q)
+unfolding marked
+marked-put l p q = rw (get-put 0 l p q 1) (go (eqb q p))
+  where
+    go : (b : Bool) → not (eqb (cond b 1 (getD l q 0)) 0) ≡ cond b true (not (eqb (getD l q 0) 0))
+    go true = refl
+    go false = refl
+
+marked-cleared : (l : List ℕ) (q : ℕ) → marked (map (λ (mark : ℕ). 0) l) q ≡ false
+unfolding marked
+marked-cleared l q = rw (get-map {B = ℕ} (λ mark. 0) 0 l q)
+
+-- the marks with the arriving processor's
+pub arrived-at-barrier : (s : State) (p q : ℕ) → hasArrived (atBarrier s p) q ≡ cond (eqb q p) true (hasArrived s q)
+unfolding hasArrived atBarrier closed marked
+arrived-at-barrier s p q = marked-put (s .marks .arrived) p q
+
+-- ---- the holder of each lock after a step
+
+unfoldable pub holderAfter : State → ℕ → Action → ℕ → ℕ
+holderAfter s p (Read x) l = holder s l
+holderAfter s p (Write x v) l = holder s l
+holderAfter s p (Acquire k) l = cond (eqb l k) p (holder s l)
+holderAfter s p (Release k) l = cond (eqb l k) 0 (holder s l)
+holderAfter s p Arrive l = holder s l
+holderAfter s p Want l = holder s l
+holderAfter s p Unknown l = holder s l
+
+-- it is the holder in the state that the step leaves
+pub holder-after : (lim : Limits) (s : State) (p : ℕ) (a : Action) (l : ℕ) → holder (effect lim s p a .after) l ≡ holderAfter s p a l
+unfolding effect read write acquire release want closed fetched withHolder holder holderAfter
+holder-after lim s p (Read x) l = refl
+holder-after lim s p (Write x v) l = refl
+holder-after lim s p (Acquire k) l = get-put 0 (s .marks .holders) k l p
+holder-after lim s p (Release k) l = get-put 0 (s .marks .holders) k l 0
+holder-after lim s p Arrive l = ap (λ (h : List ℕ). getD h l 0) (arrive-holders lim s p)
+holder-after lim s p Want l = refl
+holder-after lim s p Unknown l = refl
+
+-- ---- who has arrived after a step
+
+unfoldable pub arrivedAfter : State → ℕ → Action → ℕ → Bool
+arrivedAfter s p (Read x) q = hasArrived s q
+arrivedAfter s p (Write x v) q = hasArrived s q
+arrivedAfter s p (Acquire k) q = hasArrived s q
+arrivedAfter s p (Release k) q = hasArrived s q
+arrivedAfter s p Arrive q = cond (completes s p) false (cond (eqb q p) true (hasArrived s q))
+arrivedAfter s p Want q = hasArrived s q
+arrivedAfter s p Unknown q = hasArrived s q
+
+arrived-after-arrive : (lim : Limits) (s : State) (p q : ℕ) → hasArrived (arrive lim s p .after) q ≡ arrivedAfter s p Arrive q
+unfolding hasArrived arrivedAfter marked
+arrived-after-arrive lim s p q = ap (λ (l : List ℕ). marked l q) (arrive-arrived lim s p) ∙ go (completes s p)
+  where
+    go : (b : Bool) → marked (cond b (map (λ (mark : ℕ). 0) (arrivedMarks s p)) (arrivedMarks s p)) q ≡ cond b false (cond (eqb q p) true (marked (s .marks .arrived) q))
+    go true = marked-cleared (arrivedMarks s p) q
+    go false = marked-put (s .marks .arrived) p q
+
+-- it is the mark in the state that the step leaves
+pub arrived-after : (lim : Limits) (s : State) (p : ℕ) (a : Action) (q : ℕ) → hasArrived (effect lim s p a .after) q ≡ arrivedAfter s p a q
+unfolding effect read write acquire release want closed fetched withHolder hasArrived arrivedAfter
+arrived-after lim s p (Read x) q = refl
+arrived-after lim s p (Write x v) q = refl
+arrived-after lim s p (Acquire k) q = refl
+arrived-after lim s p (Release k) q = refl
+arrived-after lim s p Arrive q = arrived-after-arrive lim s p q
+arrived-after lim s p Want q = refl
+arrived-after lim s p Unknown q = refl
+
+-- ---- the opening: no lock is held and nobody has arrived
+
+get-zeros : (n i : ℕ) → getD (replicate {A = ℕ} n 0) i 0 ≡ 0
+get-zeros zero i = refl
+get-zeros (suc n) zero = refl
+get-zeros (suc n) (suc i) = get-zeros n i
+
+-- no lock is held
+pub opened-holder : (lim : Limits) (c : Counts) (l : ℕ) → holder (opened lim c) l ≡ 0
+unfolding holder opened
+opened-holder lim c l = get-zeros (lim .locks) l
+
+-- nobody has arrived
+pub opened-arrived : (lim : Limits) (c : Counts) (q : ℕ) → hasArrived (opened lim c) q ≡ false
+unfolding hasArrived opened
+opened-arrived lim c q = rw (get-zeros (suc (lim .processors)) q)
