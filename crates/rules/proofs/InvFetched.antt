@@ -69,6 +69,7 @@ module _ (lim : Limits) (g o : ℕ) (s : State) (γ : Ghost) (ord : InOrder lim 
         where
           not-covered : Covered (clock s p) (nth (standing s) j) → ⊥
           not-covered v = omega (arith, e .1, inv .clocks .informed (Processor p) (h, k) .downward i j hi hj less v)
+
           own-record : nth (standing s) j .processor ≡ p → Covered (clock s p) (nth (standing s) j)
           own-record q = rw q (rw q at (interval-known lim s ord j (hj .within)))
 
@@ -92,12 +93,14 @@ module _ (lim : Limits) (g o : ℕ) (s : State) (γ : Ghost) (ord : InOrder lim 
     where
       own-clock : clockOf (fetched lim s p g .clocks) (Processor p) ≡ clock s p
       own-clock = fetched-knower lim s p g (s .counts) (Processor p) (h, k)
+
       seen-stays : dirtyAt (s .pages) p g ≡ true
           → wordAfter (lim .words) g o (select (λ (r : Record). not (above p (clockOf (s .clocks) (Applied p g)) r)) (standing s)) (γ .base)
           ≡ wordAfter (lim .words) g o (select (λ (r : Record). not (above p (clock s p) r)) (standing s)) (γ .base)
       seen-stays e =
           ap (λ (f : Record → Bool). wordAfter (lim .words) g o (select (λ (r : Record). not (f r)) (standing s)) (γ .base))
           (above-same p (clockOf (s .clocks) (Applied p g)) (clock s p) (old .dirty-applied e))
+
       copy-stays : dirtyAt (s .pages) p g ≡ true → copyOf (fetched lim s p g .pages) p g ≡ copyOf (s .pages) p g
       copy-stays e = fetch-of-current lim s p g (old .dirty-applied e)
 

@@ -32,23 +32,28 @@ module _ (words g o : ℕ) where
     where
       left : (i : ℕ) → Covered a (nth l i) → Covered (joined a b) (nth l i)
       left i v = omega (arith, v, entryOf-joined a b (nth l i .processor))
+
       right : (i : ℕ) → Covered b (nth l i) → Covered (joined a b) (nth l i)
       right i v = omega (arith, v, entryOf-joined a b (nth l i .processor))
+
       either : (i : ℕ) → Covered (joined a b) (nth l i) → Covered a (nth l i) ⊎ Covered b (nth l i)
       either i v = go (decLe (nth l i .interval) (entryOf a (nth l i .processor)))
         where
           go : Dec (nth l i .interval ≤ entryOf a (nth l i .processor)) → Covered a (nth l i) ⊎ Covered b (nth l i)
           go (yes h) = inl h
           go (no h) = inr (omega (arith, v, h, entryOf-joined a b (nth l i .processor)))
+
       all-hits : max j k ≡ writes → (i : ℕ) → HitAt words g o l i → Covered (joined a b) (nth l i)
       all-hits e i h = go (ℕ-discrete j writes)
         where
           go : Dec (j ≡ writes) → Covered (joined a b) (nth l i)
           go (yes d) = left i (p .covers-hits d i h)
           go (no d) = right i (q .covers-hits (omega (arith, e, d)) i h)
+
       bound : (i : ℕ) → HitAt words g o l i → Covered a (nth l i) ⊎ Covered b (nth l i) → sumAt c (nth l i) ≤ sumOf (joined a b)
       bound i h (inl v) = omega (arith, p .bounded i h v, sum-covered (joined a b) a (join-covers-left a b))
       bound i h (inr v) = omega (arith, q .bounded i h v, sum-covered (joined a b) b (join-covers-right a b))
+
       down : (i₁ i₂ : ℕ) → HitAt words g o l i₁ → HitAt words g o l i₂ → sumAt c (nth l i₁) < sumAt c (nth l i₂) → Covered a (nth l i₂) ⊎ Covered b (nth l i₂) → Covered (joined a b) (nth l i₁)
       down i₁ i₂ h₁ h₂ less (inl v) = left i₁ (p .downward i₁ i₂ h₁ h₂ less v)
       down i₁ i₂ h₁ h₂ less (inr v) = right i₁ (q .downward i₁ i₂ h₁ h₂ less v)
@@ -113,13 +118,16 @@ module _ (words g o : ℕ) where
     where
       same : (r : Record) → sumAt (withClock c h v) r ≡ sumAt c r
       same r = sum-at-with n c h v r there
+
       holder : (x : Holder) → Knows n x → (b : Bool) → sameHolder h x ≡ b → Informed words g o c l writes (clockOf (withClock c h v) x) (cond (sameHolder h x) k (known x))
       holder x kx true e = rw (clock-of-with c h v x, e) new
       holder x kx false e = rw (clock-of-with c h v x, e) (inv .informed x kx)
+
       own-number : (writer ≡ 0 → ⊥) → (b : Bool) → sameHolder h (Processor writer) ≡ b → cond (sameHolder h (Processor writer)) k (known (Processor writer)) ≡ writes
       own-number some-writer true e =
           rw e (mine some-writer (rw (same-holder h (Processor writer) e) (same-holder-refl (Processor writer))))
       own-number some-writer false e = rw e (inv .writer-knows some-writer)
+
       other-number : (writer ≡ 0 → ⊥) → (x : Holder) → Knows n x → sameHolder (Processor writer) x ≡ false → (b : Bool) → sameHolder h x ≡ b → cond (sameHolder h x) k (known x) < writes
       other-number some-writer x kx other true e = rw e (behind some-writer (rw (same-holder h x e) other))
       other-number some-writer x kx other false e = rw e (inv .others-behind some-writer x kx other)

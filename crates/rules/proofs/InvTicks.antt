@@ -41,7 +41,6 @@ module _ (words g o : ℕ) where
   module _ (n : Counts) (c c′ : Clocks) (p : ℕ) (l l′ : List Record) (writes writer : ℕ) (known : Holder → ℕ) (ticks : Ticks n c c′ p l l′ writer)
       (present : Knows n (Processor p)) (within : (h : Holder) (q : ℕ) → entryOf (clockOf c h) q ≤ entryOf (clockOf c (Processor q)) q)
       (inv : ClockInv words g o n c l writes writer known) where
-
     -- an old record that sets the word did so before
     pub old-hit : (i : ℕ) → HitAt words g o l′ i → i < length l → HitAt words g o l i
     old-hit i h k = record { within = k; hit = rw (ticks .old i k) at (h .hit) }
@@ -93,13 +92,16 @@ module _ (words g o : ℕ) where
       where
         before : Informed words g o c l writes (clockOf c h) (known h)
         before = inv .informed h kh
+
         covers : known h ≡ writes → (i : ℕ) → HitAt words g o l′ i → Place i → Covered (clockOf c h) (nth l′ i)
         covers e i hi (Old k) = rw (ticks .old i k) (before .covers-hits e i (old-hit i hi k))
         covers e i hi (New k) =
             absurd (omega (arith, e, inv .others-behind (some-writer i hi k) h kh (rw (ticks .new-writer i hi k) d)))
+
         bound : (i : ℕ) → HitAt words g o l′ i → Covered (clockOf c h) (nth l′ i) → Place i → sumAt c′ (nth l′ i) ≤ sumOf (clockOf c h)
         bound i hi v (Old k) = omega (arith, old-sum i k, before .bounded i (old-hit i hi k) (rw (ticks .old i k) at v))
         bound i hi v (New k) = absurd (ticks .new-unknown (clockOf c h) (within h) i hi k v)
+
         down : (i j : ℕ) → HitAt words g o l′ i → HitAt words g o l′ j → sumAt c′ (nth l′ i) < sumAt c′ (nth l′ j) → Covered (clockOf c h) (nth l′ j) → Place i → Place j
             → Covered (clockOf c h) (nth l′ i)
         down i j hi hj less v a (New k) = absurd (ticks .new-unknown (clockOf c h) (within h) j hj k v)
@@ -118,15 +120,19 @@ module _ (words g o : ℕ) where
       where
         before : Informed words g o c l writes (clockOf c (Processor p)) (known (Processor p))
         before = inv .informed (Processor p) present
+
         still : (i : ℕ) → i < length l → Covered (clockOf c (Processor p)) (nth l i) → Covered (clockOf c′ (Processor p)) (nth l′ i)
         still i k v = rw (ticks .old i k) (ticks .old-covered i k v)
+
         covers : known (Processor p) ≡ writes → (i : ℕ) → HitAt words g o l′ i → Place i → Covered (clockOf c′ (Processor p)) (nth l′ i)
         covers e i hi (Old k) = still i k (before .covers-hits e i (old-hit i hi k))
         covers e i hi (New k) = ticks .new-covered i hi k
+
         bound : (i : ℕ) → HitAt words g o l′ i → Covered (clockOf c′ (Processor p)) (nth l′ i) → Place i → sumAt c′ (nth l′ i) ≤ sumOf (clockOf c′ (Processor p))
         bound i hi v (Old k) =
             omega (arith, old-sum i k, ticks .sum-grows, before .bounded i (old-hit i hi k) (ticks .covered-before i k (rw (ticks .old i k) at v)))
         bound i hi v (New k) = ticks .new-bounded i hi k
+
         down : (i j : ℕ) → HitAt words g o l′ i → HitAt words g o l′ j → sumAt c′ (nth l′ i) < sumAt c′ (nth l′ j) → Covered (clockOf c′ (Processor p)) (nth l′ j) → Place i → Place j
             → Covered (clockOf c′ (Processor p)) (nth l′ i)
         down i j hi hj less v (New a) b = ticks .new-covered i hi a
@@ -156,9 +162,11 @@ module _ (words g o : ℕ) where
         none : writes ≡ 0 → (i : ℕ) → HitAt words g o l′ i → Place i → ⊥
         none z i hi (Old k) = inv .none-yet z i (old-hit i hi k)
         none z i hi (New k) = omega (arith, z, inv .others-behind (some-writer i hi k) Barrier tt refl)
+
         who : (h : Holder) → Knows n h → (b : Bool) → sameHolder (Processor p) h ≡ b → Informed words g o c′ l′ writes (clockOf c′ h) (known h)
         who h kh true e = rw (← (same-holder (Processor p) h e)) informed-own
         who h kh false e = informed-other h kh e
+
         go : (b : Bool) → eqb writer p ≡ b → ClockInv words g o n c′ l′ writes (cond b 0 writer) known
         go true e =
             record {

@@ -108,6 +108,7 @@ module _ (lim : Limits) (o : ℕ) (c : Clocks) (m : Pages) (l : List Record) (p 
     where
       word-stays : getD (copyOf m′ p g) o 0 ≡ getD (copyOf m p g) o 0
       word-stays = ap (λ (t : List ℕ). getD t o 0) (stored-copy lim m p x v) ∙ getD-set-other (copyOf m p g) (offsetOfWord lim x) o (v % 4294967296) 0 d
+
       old-copy : (writer ≡ p → ⊥) → (b : Bool) → dirtyAt m p g ≡ b → getD (copyOf m p g) o 0 ≡ seen (lim .words) g o p c l base
       old-copy k true e = inv .dirty-copy e k
       old-copy k false e = inv .clean-copy e

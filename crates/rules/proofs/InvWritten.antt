@@ -40,7 +40,6 @@ module _ (lim : Limits) (w : ℕ) (s : State) (γ : Ghost) (p x v : ℕ) where
 
   module _ (inv : Inv (lim .words) g o s γ) (h : 1 ≤ p) (k : p ≤ s .counts .processors) (here : hasArrived s p ≡ false)
       (current : (q : ℕ) → entryOf (clockOf (s .clocks) (Applied p (pageOfWord lim x))) q ≡ entryOf (clockOf (s .clocks) (Processor p)) q) where
-
     -- a page of which nothing was stored
     page-elsewhere : (q : ℕ) → 1 ≤ q → q ≤ s .counts .processors → Elsewhere lim (s .pages) p x v q g
         → PageInv (lim .words) g o q (s .clocks) (s′ .pages) (standing s) (γ .writer) (γ .last) (γ .base)
@@ -103,10 +102,12 @@ module _ (lim : Limits) (w : ℕ) (s : State) (γ : Ghost) (p x v : ℕ) where
           covers y ky e n =
               let i = inv .clocks .informed y ky in
               record { covers-hits = λ z. i .covers-hits e; bounded = i .bounded; downward = i .downward }
+
           behind : (y : Holder) → Knows (s .counts) y → Informed (lim .words) g o (s .clocks) (standing s) (γ .writes + 1) (clockOf (s .clocks) y) (γ .known y)
           behind y ky =
               let i = inv .clocks .informed y ky in
               record { covers-hits = λ z. absurd (omega (arith, z, few y)); bounded = i .bounded; downward = i .downward }
+
           go : (y : Holder) → Knows (s .counts) y → (b : Bool) → sameHolder (Processor p) y ≡ b
               → Informed (lim .words) g o (s .clocks) (standing s) (γ .writes + 1) (clockOf (s .clocks) y) (cond (sameHolder (Processor p) y) (γ .writes + 1) (γ .known y))
           go y ky true e = rw e (covers y ky (rw (← (same-holder (Processor p) y e)) all) (γ .writes + 1))
@@ -134,6 +135,7 @@ module _ (lim : Limits) (w : ℕ) (s : State) (γ : Ghost) (p x v : ℕ) where
                 writer-dirty = λ z. absurd (e (sym z));
                 writer-copy = λ z. absurd (e (sym z));
               }
+
           go : (q : ℕ) → 1 ≤ q → q ≤ s .counts .processors → Dec (q ≡ p) → PageInv (lim .words) g o q (s .clocks) (s′ .pages) (standing s) p (v % 4294967296) (γ .base)
           go q hq kq (yes e) =
               rw (e, ← d)

@@ -222,12 +222,16 @@ module _ (lim : Limits) (c : Counts) where
             someone-missing = record { at = 0; below = processors .0; passes = ap not (opened-not-arrived 1) };
           }
 
--- so an accepted opening makes a state in order
-pub opening-makes-order : (lim : Limits) (o : Opening) → openingRefusal lim o ≡ 0 → inOrder lim (opened lim (o .counts)) ≡ true
+-- an accepted opening has its counts in range
+pub opening-counts : (lim : Limits) (o : Opening) → openingRefusal lim o ≡ 0 → countsInRange lim (o .counts) ≡ true
 unfolding openingRefusal
-opening-makes-order lim o e = go (eqb (o .first) 0) (countsInRange lim (o .counts)) (eqb (o .rest) 0) refl e
+opening-counts lim o e = go (eqb (o .first) 0) (countsInRange lim (o .counts)) (eqb (o .rest) 0) refl e
   where
-    go : (a b d : Bool) → countsInRange lim (o .counts) ≡ b → _≡_ {A = ℕ} (cond (a && b && d) 0 2) 0 → inOrder lim (opened lim (o .counts)) ≡ true
+    go : (a b d : Bool) → countsInRange lim (o .counts) ≡ b → _≡_ {A = ℕ} (cond (a && b && d) 0 2) 0 → countsInRange lim (o .counts) ≡ true
     go false b d k e = absurd (omega (arith, e))
     go true false d k e = absurd (omega (arith, e))
-    go true true d k e = in-order-when lim (opened lim (o .counts)) (opened-in-order lim (o .counts) k)
+    go true true d k e = k
+
+-- so it makes a state in order
+pub opening-makes-order : (lim : Limits) (o : Opening) → openingRefusal lim o ≡ 0 → inOrder lim (opened lim (o .counts)) ≡ true
+opening-makes-order lim o e = in-order-when lim (opened lim (o .counts)) (opened-in-order lim (o .counts) (opening-counts lim o e))

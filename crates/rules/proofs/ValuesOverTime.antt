@@ -1,32 +1,18 @@
 -- The values that words can have over a whole run: what may be a value at a time holds of all copies and records at that time. Assumes nothing.
 use Prim.Native.Nat.{ℕ, zero, suc, _%_, _<_}
 use native.Mathlib.Omega.{arith}
-use mathlib.Core.Path.{_≡_, refl, sym, ap₂, _∙_, subst}
-use mathlib.Core.List.{List, []}
-use lib.ListN.{getD, replicate}
+use mathlib.Core.Path.{_≡_, sym, ap₂, _∙_, subst}
+use mathlib.Core.List.{List}
+use lib.ListN.{getD}
 use Rattle.rules.specs.State.{Limits, Counts, copyOf, State}
 use Rattle.rules.specs.InOrder.{recordAt}
-use Rattle.rules.specs.Opening.{rows, zeroPages, opened}
+use Rattle.rules.specs.Opening.{opened}
 use Rattle.rules.specs.Steps.{pageOfWord, offsetOfWord}
 use Rattle.rules.specs.Refusals.{Action, Write, actionOf, effect}
 use Rattle.rules.specs.Order.{Event, eventAt, Took}
+use Rattle.rules.proofs.OpenedInOrder.{opened-word}
 use Rattle.rules.proofs.Timeline.{Timeline, Moment, Refused, Taken, moment}
 use Rattle.rules.proofs.Values.{ValuesGood, effect-keeps-values}
-
--- what holds of the element and of the default holds at every place of a list of equal elements
-get-replicate : {A : Type 0} (P : A → Type 0) (n i : ℕ) (a d : A) → P a → P d → P (getD (replicate n a) i d)
-get-replicate P zero i a d x y = y
-get-replicate P (suc n) zero a d x y = x
-get-replicate P (suc n) (suc i) a d x y = get-replicate P n i a d x y
-
--- "Each card starts with a copy of 256 words, all 0"
-pub opened-word : (lim : Limits) (c : Counts) (p g o : ℕ) → getD (copyOf (opened lim c .pages) p g) o 0 ≡ 0
-unfolding opened zeroPages rows copyOf
-opened-word lim c zero g o = refl
-opened-word lim c (suc q) g o =
-    get-replicate (λ (row : List (List ℕ)). getD (getD row g []) o 0 ≡ 0) (lim .processors) q (replicate (lim .pages) (replicate (lim .words) 0)) []
-    (get-replicate (λ (page : List ℕ). getD page o 0 ≡ 0) (lim .pages) g (replicate (lim .words) 0) [] (get-replicate (λ (x : ℕ). x ≡ 0) (lim .words) o 0 0 refl refl) refl)
-    refl
 
 -- where all values have a property they have every weaker one
 values-weaken : (lim : Limits) (Good Fair : ℕ → ℕ → ℕ → Type 0) (s : State) → ((g o x : ℕ) → Good g o x → Fair g o x) → ValuesGood lim Good s → ValuesGood lim Fair s
@@ -46,7 +32,7 @@ module _ (lim : Limits) (c : Counts) (es : List Event) (r : Timeline lim c es) (
   unfolding opened
   values-at-first =
       record {
-        copies = λ p g o a b l m. rw (opened-word lim c p g o) (at-first g o);
+        copies = λ p g o a b l m. rw (opened-word lim p g o) (at-first g o);
         records = λ i o v l m e. absurd (omega (arith, l));
       }
 
