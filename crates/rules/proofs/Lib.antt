@@ -66,3 +66,9 @@ pub mod InvOverTime
 pub mod StrongHalf
 pub mod ListRuns
 pub mod DemandThree
+pub mod Listing
+pub mod ClosingFirst
+pub mod NoInterval
+pub mod StoredCases
+pub mod Cases
+pub mod Race

@@ -1,0 +1,122 @@
+-- The four areas as a state, and a state as the four areas. Assumes nothing.
+use Prim.Native.Nat.{ℕ, suc, _+_, _-_, _*_}
+use mathlib.Core.Bool.{Bool, _&&_}
+use mathlib.Core.List.{List, _∷_, _++_}
+use lib.ListN.{length, getD, drop}
+use lib.Dec.{eqb}
+use Rattle.diff.specs.Reading.{applied}
+use Rattle.rules.specs.InOrder.{slotSize}
+use Rattle.rules.specs.State.{Limits, Holder, Processor, Lock, Barrier, Applied, Interval, Clocks, Pages, Records, Marks, State, standing}
+use Rattle.memory.specs.Layout.{rowOf, tabulate, perProcessor, joinRows}
+
+-- ---- which row a clock has: the barrier's first, then the processors', the locks', the applied clocks and the intervals'
+
+unfoldable pub lockRow : Limits → ℕ → ℕ
+lockRow lim l = lim .processors + 1 + l
+
+unfoldable pub appliedRow : Limits → ℕ → ℕ → ℕ
+appliedRow lim p g = lim .processors + 1 + lim .locks + (p - 1) * lim .pages + g
+
+unfoldable pub intervalRow : Limits → ℕ → ℕ → ℕ
+intervalRow lim p i = lim .processors + 1 + lim .locks + lim .processors * lim .pages + (p - 1) * lim .intervals + (i - 1)
+
+unfoldable pub clockRow : Limits → Holder → ℕ
+clockRow lim Barrier = 0
+clockRow lim (Processor p) = p
+clockRow lim (Lock l) = lockRow lim l
+clockRow lim (Applied p g) = appliedRow lim p g
+clockRow lim (Interval p i) = intervalRow lim p i
+
+unfoldable pub clockRows : Limits → ℕ
+clockRows lim = lim .processors + 1 + lim .locks + lim .processors * lim .pages + lim .processors * lim .intervals
+
+-- ---- which row of words a page has: the copies, then the twins
+
+unfoldable pub copyRow : Limits → ℕ → ℕ → ℕ
+copyRow lim p g = (p - 1) * lim .pages + g
+
+unfoldable pub twinRow : Limits → ℕ → ℕ → ℕ
+twinRow lim p g = lim .processors * lim .pages + copyRow lim p g
+
+unfoldable pub wordRows : Limits → ℕ
+wordRows lim = lim .processors * lim .pages + lim .processors * lim .pages
+
+-- ---- where a mark stands: processors, pages, locks, records standing, collection wanted, arrived, holders, dirty
+
+unfoldable pub arrivedPlace : Limits → ℕ → ℕ
+arrivedPlace lim p = 4 + p
+
+unfoldable pub holderPlace : Limits → ℕ → ℕ
+holderPlace lim l = 5 + lim .processors + l
+
+unfoldable pub dirtyPlace : Limits → ℕ → ℕ → ℕ
+dirtyPlace lim p g = 5 + lim .processors + lim .locks + (p - 1) * lim .pages + g
+
+unfoldable pub markPlaces : Limits → ℕ
+markPlaces lim = 5 + lim .processors + lim .locks + lim .processors * lim .pages
+
+-- ---- decode: the state that the areas hold
+
+unfoldable pub clocksIn : Limits → List ℕ → Clocks
+clocksIn lim c =
+    record {
+      processors = perProcessor (lim .processors) (λ p. rowOf (lim .processors) c (clockRow lim (Processor p)));
+      locks = tabulate (lim .locks) (λ l. rowOf (lim .processors) c (clockRow lim (Lock l)));
+      barrier = rowOf (lim .processors) c (clockRow lim Barrier);
+      applied = perProcessor (lim .processors) (λ p. tabulate (lim .pages) (λ g. rowOf (lim .processors) c (clockRow lim (Applied p g))));
+      intervals = perProcessor (lim .processors) (λ p. perProcessor (lim .intervals) (λ i. rowOf (lim .processors) c (clockRow lim (Interval p i))));
+    }
+
+unfoldable pub pagesIn : Limits → List ℕ → List ℕ → Pages
+pagesIn lim w m =
+    record {
+      copies = perProcessor (lim .processors) (λ p. tabulate (lim .pages) (λ g. rowOf (lim .words) w (copyRow lim p g)));
+      twins = perProcessor (lim .processors) (λ p. tabulate (lim .pages) (λ g. rowOf (lim .words) w (twinRow lim p g)));
+      dirty = perProcessor (lim .processors) (λ p. tabulate (lim .pages) (λ g. getD m (dirtyPlace lim p g) 0));
+    }
+
+unfoldable pub recordsIn : Limits → List ℕ → List ℕ → Records
+recordsIn lim r m = record { standing = getD m 3 0; slots = tabulate (lim .records) (λ i. rowOf (slotSize lim) r i) }
+
+unfoldable pub marksIn : Limits → List ℕ → Marks
+marksIn lim m =
+    record {
+      holders = tabulate (lim .locks) (λ l. getD m (holderPlace lim l) 0);
+      arrived = 0 ∷ tabulate (lim .processors) (λ k. getD m (arrivedPlace lim (suc k)) 0);
+      wanted = getD m 4 0;
+    }
+
+unfoldable pub stateIn : Limits → List ℕ → List ℕ → List ℕ → List ℕ → State
+stateIn lim c w r m =
+    record {
+      counts = record { processors = getD m 0 0; pages = getD m 1 0; locks = getD m 2 0 };
+      clocks = clocksIn lim c;
+      pages = pagesIn lim w m;
+      records = recordsIn lim r m;
+      marks = marksIn lim m;
+    }
+
+-- ---- encode: the areas that hold a state
+
+unfoldable pub clockBytes : Clocks → List ℕ
+clockBytes c = c .barrier ++ joinRows (c .processors) ++ joinRows (c .locks) ++ joinRows (joinRows (c .applied)) ++ joinRows (joinRows (c .intervals))
+
+unfoldable pub pageWords : Pages → List ℕ
+pageWords m = joinRows (joinRows (m .copies)) ++ joinRows (joinRows (m .twins))
+
+unfoldable pub recordBytes : Records → List ℕ
+recordBytes r = joinRows (r .slots)
+
+unfoldable pub markBytes : State → List ℕ
+markBytes s =
+    s .counts .processors ∷ s .counts .pages ∷ s .counts .locks ∷ s .records .standing ∷ s .marks .wanted ∷ drop 1 (s .marks .arrived) ++ s .marks .holders
+    ++ joinRows (s .pages .dirty)
+
+-- ---- "its size is the fixed one"
+
+unfoldable pub sizesRight : Limits → List ℕ → List ℕ → List ℕ → List ℕ → Bool
+sizesRight lim c w r m =
+    eqb (length c) (lim .processors * clockRows lim)
+    && eqb (length w) (lim .words * wordRows lim)
+    && eqb (length r) (slotSize lim * lim .records)
+    && eqb (length m) (markPlaces lim)

@@ -1,0 +1,1 @@
+// The state of one mainframe in lent memory.
