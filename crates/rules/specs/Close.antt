@@ -15,6 +15,7 @@ differ [] (y ∷ b) = true
 differ (x ∷ a) [] = true
 differ (x ∷ a) (y ∷ b) = not (eqb x y) || differ a b
 
+-- a page of p that differs from its twin
 unfoldable pub changed : State → ℕ → ℕ → Bool
 changed s p g = dirtyAt (s .pages) p g && differ (twinOf (s .pages) p g) (copyOf (s .pages) p g)
 

@@ -18,6 +18,7 @@ use Rattle.rules.specs.Order.{Event, events, eventAt, Took, Before, Orde
 unfoldable pub valueField : ℕ → ℕ
 valueField v = v % 4294967296
 
+-- an accepted write to w
 unfoldable pub isWriteTo : Event → ℕ → Bool
 isWriteTo e w = e .accepted && eqb (e .step .kind) 2 && eqb (e .step .object) w
 
@@ -51,6 +52,7 @@ pub record Judged (n : ℕ) (es : List Event) (w j x : ℕ) : Type 0 where
   -- "In each case it is 0 or the value field of one of them"
   pub some-write : (x ≡ 0) ⊎ FromWrite es w j x
 
+-- the value answered at place j
 unfoldable pub valueAt : List Answer → ℕ → ℕ
 valueAt answered j = getD answered j (refusedAs 3) .value
 

@@ -37,6 +37,7 @@ unfoldable pub appliedAll : ℕ → List Record → List ℕ → List ℕ
 appliedAll w [] page = page
 appliedAll w (r ∷ rs) page = appliedAll w rs (applied w (r .diff) page)
 
+-- one copy replaced
 unfoldable pub withCopy : Pages → ℕ → ℕ → List ℕ → Pages
 withCopy m p g page = record { copies = putCell [] (m .copies) p g page; twins = m .twins; dirty = m .dirty }
 

@@ -17,9 +17,11 @@ present s p = leb 1 p && leb p (s .counts .processors)
 unfoldable pub everyProcessor : Limits → (ℕ → Bool) → Bool
 everyProcessor lim t = every (lim .processors) (λ k. t (suc k))
 
+-- a test over every page of every processor
 unfoldable pub everyPage : Limits → (ℕ → ℕ → Bool) → Bool
 everyPage lim t = everyProcessor lim (λ p. every (lim .pages) (t p))
 
+-- a test over every clock that there is place for
 unfoldable pub everyHolder : Limits → (Holder → Bool) → Bool
 everyHolder lim t =
     everyProcessor lim (λ p. t (Processor p))
@@ -39,6 +41,7 @@ unfoldable pub rowsSized : {A : Type 0} → Limits → ℕ → List (List A) →
 rowsSized lim n t =
     eqb (length t) (suc (lim .processors)) && eqb (length (getD t 0 [])) 0 && everyProcessor lim (λ p. eqb (length (getD t p [])) n)
 
+-- the lengths of all tables and of their rows
 unfoldable pub sized : Limits → State → Bool
 sized lim s =
     rowsSized lim (lim .processors) (s .clocks .processors)
@@ -60,14 +63,17 @@ sized lim s =
 
 -- ---- "counts of cards, pages and locks are in range"
 
+-- 1 to most
 unfoldable pub inRange : ℕ → ℕ → Bool
 inRange most n = leb 1 n && leb n most
 
+-- each count is at least 1 and at most its limit
 unfoldable pub countsInRange : Limits → Counts → Bool
 countsInRange lim c = inRange (lim .processors) (c .processors) && inRange (lim .pages) (c .pages) && inRange (lim .locks) (c .locks)
 
 -- ---- "entries, words, marks and holders for absent cards, pages and locks are 0"
 
+-- whether a clock belongs to a present processor, page and lock
 unfoldable pub presentHolder : State → Holder → Bool
 presentHolder s (Processor p) = present s p
 presentHolder s (Lock l) = ltb l (s .counts .locks)
@@ -75,10 +81,12 @@ presentHolder s Barrier = true
 presentHolder s (Applied p g) = present s p && ltb g (s .counts .pages)
 presentHolder s (Interval p i) = present s p
 
+-- every number of a list is 0
 unfoldable pub allZero : List ℕ → Bool
 allZero [] = true
 allZero (x ∷ l) = eqb x 0 && allZero l
 
+-- clocks of absent holders and entries of absent processors; words and dirty marks of absent pages; arrived marks; holders
 unfoldable pub absentZero : Limits → State → Bool
 absentZero lim s =
     everyHolder lim (λ h. presentHolder s h || allZero (clockOf (s .clocks) h))
@@ -90,12 +98,14 @@ absentZero lim s =
 
 -- ---- "the clock kept for an interval above its card's own entry is zeros"
 
+-- for every processor, the intervals above its own entry
 unfoldable pub laterIntervalsZero : Limits → State → Bool
 laterIntervalsZero lim s =
     everyProcessor lim (λ p. every (lim .intervals) (λ k. leb (suc k) (own s p) || allZero (clockOf (s .clocks) (Interval p (suc k)))))
 
 -- ---- "no clock entry exceeds that card's own entry in its own clock, at most 63"
 
+-- for every clock and processor; and for every own entry
 unfoldable pub entriesKnown : Limits → State → Bool
 entriesKnown lim s =
     everyHolder lim (λ h. everyProcessor lim (λ q. leb (entryOf (clockOf (s .clocks) h) q) (own s q)))
@@ -103,12 +113,14 @@ entriesKnown lim s =
 
 -- ---- "no applied clock exceeds its card's clock"
 
+-- for every processor and page
 unfoldable pub appliedKnown : Limits → State → Bool
 appliedKnown lim s = everyPage lim (λ p g. covered (clock s p) (clockOf (s .clocks) (Applied p g)))
 
 -- ---- "each record has a present card and page, a legal change and an interval from 1 to its card's own entry, and no other record has
 -- the same card, interval and page"
 
+-- the record in slot i
 unfoldable pub recordAt : State → ℕ → Record
 recordAt s i = recordIn (getD (s .records .slots) i [])
 
@@ -118,6 +130,7 @@ diffLegal lim s i =
     leb (4 + getD (getD (s .records .slots) i []) 3 0) (slotSize lim)
     && eqb (readRefusal (lim .words) (recordAt s i .diff)) 0
 
+-- a present processor and page, and an interval that was made
 unfoldable pub recordSound : Limits → State → Record → Bool
 recordSound lim s r =
     present s (r .processor)
@@ -125,9 +138,11 @@ recordSound lim s r =
     && leb 1 (r .interval)
     && leb (r .interval) (own s (r .processor))
 
+-- the same card, interval and page
 unfoldable pub sameNotice : Record → Record → Bool
 sameNotice r q = eqb (r .processor) (q .processor) && eqb (r .interval) (q .interval) && eqb (r .page) (q .page)
 
+-- for every standing record, and every earlier one
 unfoldable pub recordsSound : Limits → State → Bool
 recordsSound lim s =
     every (s .records .standing) (λ i. recordSound lim s (recordAt s i) && diffLegal lim s i)
@@ -135,27 +150,33 @@ recordsSound lim s =
 
 -- ---- "records plus dirty pages, counted over all cards, are at most 128"
 
+-- the dirty pages of all processors
 unfoldable pub dirtyPages : State → ℕ
 dirtyPages s = total (s .counts .processors) (λ k. total (s .counts .pages) (λ g. cond (dirtyAt (s .pages) (suc k) g) 1 0))
 
+-- the records that closing will make have their place
 unfoldable pub roomKept : Limits → State → Bool
 roomKept lim s = leb (s .records .standing + dirtyPages s) (lim .records)
 
 -- ---- "a card with a dirty page has own entry at most 62"
 
+-- for every dirty page
 unfoldable pub dirtyHaveInterval : Limits → State → Bool
 dirtyHaveInterval lim s = everyPage lim (λ p g. not (dirtyAt (s .pages) p g) || ltb (own s p) (lim .intervals))
 
 -- ---- "holders are present cards or 0"
 
+-- for every lock
 unfoldable pub holdersPresent : Limits → State → Bool
 holdersPresent lim s = every (lim .locks) (λ l. eqb (holder s l) 0 || present s (holder s l))
 
 -- ---- "not all cards have arrived"
 
+-- one of the processors
 unfoldable pub someoneMissing : State → Bool
 someoneMissing s = any (s .counts .processors) (λ k. not (hasArrived s (suc k)))
 
+-- all of the above
 unfoldable pub inOrder : Limits → State → Bool
 inOrder lim s =
     sized lim s

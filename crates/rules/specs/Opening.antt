@@ -43,6 +43,7 @@ zeroPages lim =
       dirty = rows (lim .processors) (replicate (lim .pages) 0);
     }
 
+-- the state that an accepted opening leaves
 unfoldable pub opened : Limits → Counts → State
 opened lim c =
     record {

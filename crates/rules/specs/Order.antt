@@ -14,6 +14,7 @@ pub record Event : Type 0 where
   pub step : Step
   pub accepted : Bool
 
+-- the steps of a list with their answers
 unfoldable pub events : List Step → List Answer → List Event
 events [] answered = []
 events (t ∷ ts) [] = []
@@ -23,6 +24,7 @@ events (t ∷ ts) (a ∷ answered) = record { step = t; accepted = eqb (a .refus
 unfoldable pub noEvent : Event
 noEvent = record { step = record { kind = 0; processor = 0; object = 0; value = 0 }; accepted = false }
 
+-- the step at place i
 unfoldable pub eventAt : List Event → ℕ → Event
 eventAt es i = getD es i noEvent
 
@@ -32,6 +34,7 @@ pub record Took (es : List Event) (i p : ℕ) (a : Action) : Type 0 where
   pub processor : eventAt es i .step .processor ≡ p
   pub action : actionOf (eventAt es i .step) ≡ a
 
+-- an accepted arrival
 unfoldable pub isArrival : Event → Bool
 isArrival e = cond (e .accepted) (eqb (e .step .kind) 5) false
 
@@ -41,6 +44,7 @@ pub record Groups : Type 0 where
   pub full : ℕ
   pub waiting : ℕ
 
+-- one arrival more
 unfoldable pub countedOff : ℕ → Groups → Groups
 countedOff n g =
     cond (eqb (g .waiting + 1) n) (record { full = g .full + 1; waiting = 0 }) (record { full = g .full; waiting = g .waiting + 1 })

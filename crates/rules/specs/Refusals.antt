@@ -23,6 +23,7 @@ pub data Action : Type 0 where
   Want : Action
   Unknown : Action
 
+-- what a step asks for, by its kind
 unfoldable pub actionOf : Step → Action
 actionOf t =
     cond (eqb (t .kind) 1) (Read (t .object))
@@ -104,6 +105,7 @@ answerInOrder lim s t =
     (record { refusal = 0; value = effect lim s (t .processor) (actionOf t) .value; count = effect lim s (t .processor) (actionOf t) .count })
     (refusedAs (refusalInOrder lim s t))
 
+-- the state that a step leaves there
 unfoldable pub nextInOrder : Limits → State → Step → State
 nextInOrder lim s t = cond (eqb (refusalInOrder lim s t) 0) (effect lim s (t .processor) (actionOf t) .after) s
 
@@ -111,8 +113,10 @@ nextInOrder lim s t = cond (eqb (refusalInOrder lim s t) 0) (effect lim s (t .pr
 unfoldable pub refusal : Limits → State → Step → ℕ
 refusal lim s t = cond (inOrder lim s) (refusalInOrder lim s t) 1
 
+-- what a step answers in any state
 unfoldable pub answer : Limits → State → Step → Answer
 answer lim s t = cond (inOrder lim s) (answerInOrder lim s t) (refusedAs 1)
 
+-- the state that it leaves
 unfoldable pub next : Limits → State → Step → State
 next lim s t = cond (inOrder lim s) (nextInOrder lim s t) s

@@ -4,10 +4,12 @@ use mathlib.Core.List.{List, [], _∷_}
 use Rattle.rules.specs.State.{Limits, State}
 use Rattle.rules.specs.Refusals.{Step, Answer, answerInOrder, nextInOrder, answer, next}
 
+-- what the steps of a list answer, one after the other
 unfoldable pub answers : Limits → State → List Step → List Answer
 answers lim s [] = []
 answers lim s (t ∷ ts) = answer lim s t ∷ answers lim (next lim s t) ts
 
+-- the state that a list of steps leaves
 unfoldable pub stateAfter : Limits → State → List Step → State
 stateAfter lim s [] = s
 stateAfter lim s (t ∷ ts) = stateAfter lim (next lim s t) ts
@@ -17,6 +19,7 @@ unfoldable pub answersInOrder : Limits → State → List Step → List Answer
 answersInOrder lim s [] = []
 answersInOrder lim s (t ∷ ts) = answerInOrder lim s t ∷ answersInOrder lim (nextInOrder lim s t) ts
 
+-- the state that such a run leaves
 unfoldable pub stateInOrder : Limits → State → List Step → State
 stateInOrder lim s [] = s
 stateInOrder lim s (t ∷ ts) = stateInOrder lim (nextInOrder lim s t) ts

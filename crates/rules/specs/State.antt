@@ -1,5 +1,5 @@
 -- Document 01, "The mainframe": the state of one mainframe. Processors (document 01: cards) and intervals are numbered from 1 and keep
--- those numbers as places of tables: place 0, nobody's, stays empty. Pages and locks are numbered from 0. Assumes nothing.
+-- those numbers as places of tables; place 0 is nobody's, and no rule uses it. Pages and locks are numbered from 0. Assumes nothing.
 use Prim.Native.Nat.{ℕ, _+_}
 use mathlib.Core.Bool.{Bool, not}
 use mathlib.Core.List.{List, [], _∷_, _++_, map}
@@ -44,6 +44,7 @@ pub record Clocks : Type 0 where
   pub applied : List (List (List ℕ))
   pub intervals : List (List (List ℕ))
 
+-- the clock of a holder
 unfoldable pub clockOf : Clocks → Holder → List ℕ
 clockOf c (Processor p) = getD (c .processors) p []
 clockOf c (Lock l) = getD (c .locks) l []
@@ -74,12 +75,15 @@ pub record Pages : Type 0 where
   pub twins : List (List (List ℕ))
   pub dirty : List (List ℕ)
 
+-- the copy of page g that processor p has
 unfoldable pub copyOf : Pages → ℕ → ℕ → List ℕ
 copyOf m p g = cell [] (m .copies) p g
 
+-- its twin
 unfoldable pub twinOf : Pages → ℕ → ℕ → List ℕ
 twinOf m p g = cell [] (m .twins) p g
 
+-- whether it is dirty
 unfoldable pub dirtyAt : Pages → ℕ → ℕ → Bool
 dirtyAt m p g = not (eqb (cell 0 (m .dirty) p g) 0)
 
@@ -99,6 +103,7 @@ pub record Records : Type 0 where
 unfoldable pub slotBytes : Record → List ℕ
 slotBytes r = r .processor ∷ r .interval ∷ r .page ∷ length (r .diff) ∷ r .diff
 
+-- the record in a slot
 unfoldable pub recordIn : List ℕ → Record
 recordIn slot =
     record { processor = getD slot 0 0; interval = getD slot 1 0; page = getD slot 2 0; diff = take (getD slot 3 0) (drop 4 slot) }
@@ -133,14 +138,18 @@ pub record State : Type 0 where
 unfoldable pub clock : State → ℕ → List ℕ
 clock s p = clockOf (s .clocks) (Processor p)
 
+-- "own entry": the entry of a processor for itself in its clock
 unfoldable pub own : State → ℕ → ℕ
 own s p = entryOf (clock s p) p
 
+-- the records that stand
 unfoldable pub standing : State → List Record
 standing s = recordsOf (s .records)
 
+-- the holder of a lock; 0 is nobody
 unfoldable pub holder : State → ℕ → ℕ
 holder s l = getD (s .marks .holders) l 0
 
+-- whether a processor has arrived in the open round
 unfoldable pub hasArrived : State → ℕ → Bool
 hasArrived s p = not (eqb (getD (s .marks .arrived) p 0) 0)

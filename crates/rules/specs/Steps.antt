@@ -21,14 +21,17 @@ pub record Effect : Type 0 where
 unfoldable pub pageOfWord : Limits → ℕ → ℕ
 pageOfWord lim w = w / lim .words
 
+-- and at offset w % 32 there
 unfoldable pub offsetOfWord : Limits → ℕ → ℕ
 offsetOfWord lim w = w % lim .words
 
 -- ---- 1. "Read: fetch, then answer the word"
 
+-- the word in the copy of processor p
 unfoldable pub wordOf : Limits → State → ℕ → ℕ → ℕ
 wordOf lim s p w = getD (copyOf (s .pages) p (pageOfWord lim w)) (offsetOfWord lim w) 0
 
+-- the word after the fetch
 unfoldable pub read : Limits → State → ℕ → ℕ → Effect
 read lim s p w =
     let s₁ = fetched lim s p (pageOfWord lim w) in
@@ -36,6 +39,7 @@ read lim s p w =
 
 -- ---- 2. "Write: fetch; if the page is clean, take the twin; store"
 
+-- "if the page is clean, take the twin"
 unfoldable pub twinTaken : Pages → ℕ → ℕ → Pages
 twinTaken m p g =
     record {
@@ -49,6 +53,7 @@ unfoldable pub stored : Limits → Pages → ℕ → ℕ → ℕ → Pages
 stored lim m p w v =
     withCopy m p (pageOfWord lim w) (set (copyOf m p (pageOfWord lim w)) (offsetOfWord lim w) (v % 4294967296))
 
+-- fetch, twin and store in this order
 unfoldable pub write : Limits → State → ℕ → ℕ → ℕ → Effect
 write lim s p w v =
     let s₁ = fetched lim s p (pageOfWord lim w) in
@@ -67,12 +72,15 @@ write lim s p w v =
 
 -- ---- 3. "Acquire: close; the card becomes holder; its clock joins the lock's"
 
+-- the holder of a lock replaced
 unfoldable pub withHolder : Marks → ℕ → ℕ → Marks
 withHolder m l p = record { holders = put 0 (m .holders) l p; arrived = m .arrived; wanted = m .wanted }
 
+-- "A clock that joins another becomes the join of the two; the other keeps its entries"
 unfoldable pub learned : Clocks → Holder → Holder → Clocks
 learned c to from = withClock c to (joined (clockOf c to) (clockOf c from))
 
+-- the three parts in this order
 unfoldable pub acquire : State → ℕ → ℕ → State
 acquire s p l =
     let s₁ = closed s p in
@@ -86,6 +94,7 @@ acquire s p l =
 
 -- ---- 4. "Release: close; holder becomes 0; the lock's clock becomes the card's"
 
+-- the three parts in this order
 unfoldable pub release : State → ℕ → ℕ → State
 release s p l =
     let s₁ = closed s p in
@@ -111,6 +120,7 @@ atBarrier s p =
       marks = record { holders = s₁ .marks .holders; arrived = put 0 (s₁ .marks .arrived) p 1; wanted = s₁ .marks .wanted };
     }
 
+-- "When the last card arrives"
 unfoldable pub allArrived : State → Bool
 allArrived s = every (s .counts .processors) (λ k. hasArrived s (suc k))
 
@@ -178,6 +188,7 @@ collected lim s =
     let f = allFetched lim s (s .counts .processors) in
     record { after = emptied (f .after); count = f .count }
 
+-- "If collection is wanted"
 unfoldable pub wantsCollection : State → Bool
 wantsCollection s = not (eqb (s .marks .wanted) 0)
 
@@ -191,6 +202,7 @@ arrive lim s p =
 
 -- ---- 6. "Want collection: set the wish; setting it again changes nothing"
 
+-- the wish is set, and stays as it is if it was
 unfoldable pub want : State → State
 want s =
     record {
