@@ -1,5 +1,5 @@
 -- What the functions on lent memory ask of one another: areas of the fixed sizes, and rows and places that lie within them. Assumes nothing.
-use Prim.Native.Nat.{ℕ, _+_, _*_, _≤_}
+use Prim.Native.Nat.{ℕ, _+_, _*_, _≤_, _<_}
 use mathlib.Core.Path.{_≡_}
 use mathlib.Core.List.{List}
 use lib.ListN.{length}
@@ -14,3 +14,22 @@ pub record Lent (c w r m : List ℕ) : Type 0 where
 -- the row-th row of n elements lies within the area
 pub record RowThere {A : Type 0} (n : ℕ) (l : List A) (row : ℕ) : Type 0 where
   pub within : n * row + n ≤ length l
+
+-- a processor and a page for which the tables have a place
+pub record OnPage (p g : ℕ) : Type 0 where
+  pub from : 1 ≤ p
+  pub to : p ≤ 8
+  pub page : g < 8
+
+-- a processor and an interval for which the tables have a place
+pub record MadeInterval (p i : ℕ) : Type 0 where
+  pub from : 1 ≤ p
+  pub to : p ≤ 8
+  pub first : 1 ≤ i
+  pub last : i ≤ 63
+
+-- the area of the clocks, and a processor that has rows in it
+pub record ClocksOf (c : List ℕ) (p : ℕ) : Type 0 where
+  pub clocks : length c ≡ 4744
+  pub from : 1 ≤ p
+  pub to : p ≤ 8
