@@ -1,0 +1,79 @@
+-- The records' slots of the mainframe in their area: a slot is a row of 135 bytes, and bytes stored at its front are laid over it. Assumes
+-- nothing.
+use Prim.Native.Nat.{ℕ, _+_, _*_, _≤_, _<_}
+use native.Mathlib.Omega.{arith}
+use native.Mathlib.Decide.{ℕ-discrete}
+use mathlib.Core.Path.{_≡_, sym, ap, _∙_}
+use mathlib.Core.Bool.{cond}
+use mathlib.Core.List.{List, [], _++_}
+use lib.ListN.{length, getD, take, drop}
+use lib.Seq.{sets}
+use lib.Dec.{eqb}
+use borrow.Author.Tests.{eq-eqb, ne-eqb}
+use Rattle.rules.specs.InOrder.{slotSize, recordAt}
+use Rattle.rules.specs.State.{mainframe, recordIn, laidOver, standing}
+use Rattle.rules.specs.Tables.{put}
+use Rattle.memory.specs.Layout.{rowOf, tabulate}
+use Rattle.memory.specs.Areas.{recordsIn, stateIn}
+use Rattle.memory.proofs.RowLaws.{get-row, part-of-row, row-of-sets-other, row-of-sets-front, get-tabulate, tabulate-same, put-tabulate}
+
+-- the slot lies within the area
+pub slot-there : (i : ℕ) → i < 128 → 135 * i + 135 ≤ 17280
+slot-there i b = omega arith
+
+-- a slot is its row
+pub slot-read : (r m : List ℕ) (i : ℕ) → i < 128 → getD (recordsIn mainframe r m .slots) i [] ≡ rowOf 135 r i
+unfolding recordsIn mainframe slotSize
+slot-read r m i b = get-tabulate 128 (λ k. rowOf 135 r k) i [] b
+
+-- a byte of a slot
+pub slot-byte : (r : List ℕ) (i k : ℕ) → k < 135 → getD (rowOf 135 r i) k 0 ≡ getD r (135 * i + k) 0
+slot-byte r i k b = get-row 135 r i k 0 b
+
+-- the bytes of a diff that stands in a slot
+pub slot-diff : (r : List ℕ) (i n : ℕ) → n ≤ 131 → take n (drop 4 (rowOf 135 r i)) ≡ take n (drop (135 * i + 4) r)
+slot-diff r i n b = part-of-row 135 r i 4 n (omega arith)
+
+-- the record that stands in a slot, from the area's bytes
+pub record-read : (c w r m : List ℕ) (i : ℕ) → i < 128 → getD r (135 * i + 3) 0 ≤ 131
+    → recordAt (stateIn mainframe c w r m) i
+    ≡ record {
+      processor = getD r (135 * i) 0;
+      interval = getD r (135 * i + 1) 0;
+      page = getD r (135 * i + 2) 0;
+      diff = take (getD r (135 * i + 3) 0) (drop (135 * i + 4) r);
+    }
+unfolding recordAt stateIn recordIn
+record-read c w r m i b n =
+    ap (λ (slot : List ℕ). recordIn slot) (slot-read r m i b)
+    ∙ (λ k. record {
+      processor = (slot-byte r i 0 (omega arith) ∙ ap (λ (j : ℕ). getD r j 0) first) k;
+      interval = slot-byte r i 1 (omega arith) k;
+      page = slot-byte r i 2 (omega arith) k;
+      diff = (ap (λ (j : ℕ). take j (drop 4 (rowOf 135 r i))) (slot-byte r i 3 (omega arith)) ∙ slot-diff r i (getD r (135 * i + 3) 0) n) k;
+    })
+  where
+    first : 135 * i + 0 ≡ 135 * i
+    first = omega arith
+
+-- bytes stored at the front of a slot
+pub slot-written : (r m bytes : List ℕ) (i : ℕ) → length r ≡ 17280 → length bytes ≤ 135 → i < 128
+    → recordsIn mainframe (sets r (135 * i) bytes) m
+    ≡ record {
+      standing = recordsIn mainframe r m .standing;
+      slots = put [] (recordsIn mainframe r m .slots) i (laidOver bytes (getD (recordsIn mainframe r m .slots) i []));
+    }
+unfolding recordsIn mainframe slotSize laidOver
+slot-written r m bytes i there e b =
+    λ k. record {
+      standing = recordsIn mainframe r m .standing;
+      slots =
+          (tabulate-same 128 (λ j. rowOf 135 (sets r (135 * i) bytes) j) (λ j. cond (eqb j i) (bytes ++ drop (length bytes) (rowOf 135 r i)) (rowOf 135 r j))
+          (λ j x. each j (ℕ-discrete j i))
+          ∙ sym (put-tabulate [] 128 (λ j. rowOf 135 r j) i (bytes ++ drop (length bytes) (rowOf 135 r i)) b)
+          ∙ ap (λ (slot : List ℕ). put [] (tabulate 128 (λ j. rowOf 135 r j)) i (bytes ++ drop (length bytes) slot)) (sym (slot-read r m i b))) k;
+    }
+  where
+    each : (j : ℕ) → Dec (j ≡ i) → rowOf 135 (sets r (135 * i) bytes) j ≡ cond (eqb j i) (bytes ++ drop (length bytes) (rowOf 135 r i)) (rowOf 135 r j)
+    each j (yes s) = rw (eq-eqb j i s) (rw s (row-of-sets-front 135 r bytes i e (omega arith)))
+    each j (no s) = rw (ne-eqb j i s) (row-of-sets-other 135 r bytes i j e s)
