@@ -1,4 +1,5 @@
--- What the kind of a step says of its action, and that the events count the arrivals and the writes to a word. Assumes nothing.
+-- What the kind of a step says of its action, that the events count the arrivals and the writes to a word, and that a read or a write is no
+-- acquire. Rests on the definitions alone. Assumes nothing.
 use Prim.Native.Nat.{ℕ}
 use native.Mathlib.Decide.{ℕ-discrete}
 use mathlib.Core.Path.{_≡_, refl, ap, _∙_}
@@ -117,6 +118,24 @@ kind-value w k x v h = go (ℕ-discrete k 2)
         absurd (false≢true (rw (ne-eqb k 2 e) at z))
 
 -- ---- the events
+
+-- a read and a write are no acquire
+isAcquire : Action → Bool
+isAcquire (Read x) = false
+isAcquire (Write x v) = false
+isAcquire (Acquire l) = true
+isAcquire (Release l) = false
+isAcquire Arrive = false
+isAcquire Want = false
+isAcquire Unknown = false
+
+pub write-no-acquire : (x v l : ℕ) → Write x v ≡ Acquire l → ⊥
+unfolding isAcquire
+write-no-acquire x v l e = false≢true (ap isAcquire e)
+
+pub read-no-acquire : (x l : ℕ) → Read x ≡ Acquire l → ⊥
+unfolding isAcquire
+read-no-acquire x l e = false≢true (ap isAcquire e)
 
 module _ (es : List Event) (t : ℕ) where
   -- an accepted step is counted as an arrival when it is one

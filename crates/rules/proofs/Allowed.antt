@@ -1,16 +1,17 @@
--- What the table of refusals leaves of a step that was taken, by its processor and its action. Assumes nothing.
-use Prim.Native.Nat.{ℕ, suc, _≤_}
+-- What the table of refusals leaves of a step that was taken, by its processor and its action. Rests on Timeline. Assumes nothing.
+use Prim.Native.Nat.{ℕ, _≤_, _<_}
 use native.Mathlib.Omega.{arith}
-use mathlib.Core.Path.{_≡_, refl, sym, ap, ap₂, _∙_}
-use mathlib.Core.Bool.{Bool, true, false, cond, false≢true}
+use mathlib.Core.Path.{_≡_, refl, ap}
+use mathlib.Core.Bool.{Bool, true, false, cond}
 use mathlib.Core.List.{List}
 use lib.Dec.{eqb}
 use borrow.Author.Tests.{eqb-true}
 use Rattle.rules.specs.State.{Limits, Counts, State, holder, hasArrived}
-use Rattle.rules.specs.Refusals.{Action, Acquire, Release, lateRefusal, effect}
+use Rattle.rules.specs.Steps.{pageOfWord}
+use Rattle.rules.specs.Refusals.{Action, Read, Acquire, Release, lateRefusal}
 use Rattle.rules.specs.Order.{Event, eventAt, Took}
-use Rattle.rules.proofs.Accepted.{Accepted, present-says}
-use Rattle.rules.proofs.Timeline.{Timeline, Moment, Refused, Taken, moment, counts-stay}
+use Rattle.rules.proofs.Accepted.{Accepted, present-says, read-on-page}
+use Rattle.rules.proofs.Timeline.{Timeline, took-accepted, counts-stay}
 
 -- the step's processor is one of the n, has not arrived, and holds the lock that it releases
 pub record Allowed (n : ℕ) (s : State) (p : ℕ) (a : Action) : Type 0 where
@@ -54,18 +55,10 @@ module _ (lim : Limits) (c : Counts) (es : List Event) (r : Timeline lim c es) w
       late : lateRefusal lim (r .state t) p a ≡ 0
       late = rw (took .processor, took .action) at (acc .not-late)
 
-  -- the same of a step that was taken, and the state that it leaves
+  -- the same of a step that was taken
   pub took-allowed : (t p : ℕ) (a : Action) → Took es t p a → Allowed (c .processors) (r .state t) p a
-  took-allowed t p a took = go (moment lim c es r t)
-    where
-      go : Moment lim es t (r .state t) (r .state (suc t)) → Allowed (c .processors) (r .state t) p a
-      go (Refused e k) = absurd (false≢true (sym e ∙ took .accepted))
-      go (Taken q b also acc k) = allowed t p a took acc
+  took-allowed t p a took = allowed t p a took (took-accepted lim c es r t p a took)
 
-  -- a step that was taken leaves the state of its effect
-  pub took-state : (t p : ℕ) (a : Action) → Took es t p a → r .state (suc t) ≡ effect lim (r .state t) p a .after
-  took-state t p a took = go (moment lim c es r t)
-    where
-      go : Moment lim es t (r .state t) (r .state (suc t)) → r .state (suc t) ≡ effect lim (r .state t) p a .after
-      go (Refused e k) = absurd (false≢true (sym e ∙ took .accepted))
-      go (Taken q b also acc k) = k ∙ ap₂ (λ (x : ℕ) (y : Action). effect lim (r .state t) x y .after) (sym (also .processor) ∙ took .processor) (sym (also .action) ∙ took .action)
+  -- the page of a read that was taken is present
+  pub took-read-page : (t p w : ℕ) → Took es t p (Read w) → pageOfWord lim w < r .state t .counts .pages
+  took-read-page t p w took = read-on-page lim (r .state t) (eventAt es t .step) w (took .action) (took-accepted lim c es r t p (Read w) took)

@@ -1,4 +1,4 @@
--- The conditions of "in order" as lists of tests, from which one can be taken by its number. Assumes nothing.
+-- The conditions of "in order" as lists of tests, from which one can be taken by its number. Rests on Everywhere. Assumes nothing.
 use Prim.Native.Nat.{suc}
 use mathlib.Core.Path.{_≡_, refl}
 use mathlib.Core.Bool.{Bool, not, _||_}

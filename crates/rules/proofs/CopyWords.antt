@@ -1,34 +1,32 @@
--- The words of a copy after records were applied to it, after one of them was stored and after it was replaced. Assumes nothing.
-use Prim.Native.Nat.{ℕ, _<_}
+-- The words of a copy after records were applied to it, after one of them was stored and after the copy was replaced. Rests on Tables and
+-- Selected. Assumes nothing.
+use Prim.Native.Nat.{ℕ, suc, _<_}
 use native.Mathlib.Omega.{arith}
 use native.Mathlib.Decide.{decLt, ℕ-discrete}
 use mathlib.Core.Path.{_≡_, refl, sym, ap, _∙_, subst}
-use mathlib.Core.Bool.{Bool, true, false, cond, not, _&&_, false≢true}
+use mathlib.Core.Bool.{Bool, true, false, cond}
 use mathlib.Core.Option.{Option, none, some, Option·getD}
 use mathlib.Core.List.{List, [], _∷_}
 use lib.ListN.{length, getD, set, List·getD-eq-default}
 use lib.Seq.{getD-set-same, getD-set-other}
-use lib.Dec.{leb, ltb, eqb}
-use borrow.Author.Tests.{eqb-true}
-use Rattle.clock.specs.Clocks.{entryOf}
+use lib.Dec.{eqb}
 use Rattle.diff.specs.Format.{Below, setting}
 use Rattle.diff.specs.Reading.{settings, settingAt, applied}
 use Rattle.diff.proofs.Overlay.{length-overlay}
 use Rattle.diff.proofs.Theorems.{applied-word}
-use Rattle.rules.specs.Tables.{cell}
-use Rattle.rules.specs.State.{Processor, Applied, Clocks, clockOf, Pages, copyOf, Record}
-use Rattle.rules.specs.Fetch.{isPending, appliedAll, withCopy}
-use Rattle.rules.proofs.Tables.{cell-put}
-use Rattle.rules.proofs.WordOfRecords.{isSet}
-use Rattle.rules.proofs.AllOf.{AllOf}
+use Rattle.rules.specs.State.{Pages, copyOf, Record}
+use Rattle.rules.specs.Fetch.{appliedAll, withCopy}
+use Rattle.rules.proofs.Tables.{by-put-cell}
+use Rattle.rules.proofs.Selected.{Each}
 
 -- ---- records applied
 
-length-applied : (w : ℕ) (bytes page : List ℕ) → length (applied w bytes page) ≡ length page
+-- a page keeps its length when a diff is applied to it
+pub length-applied : (w : ℕ) (bytes page : List ℕ) → length (applied w bytes page) ≡ length page
 unfolding applied
 length-applied w bytes page = length-overlay (settings w bytes) page
 
--- a page keeps its length when records are applied to it
+-- and when records are
 pub length-applied-all : (w : ℕ) (rs : List Record) (page : List ℕ) → length (appliedAll w rs page) ≡ length page
 unfolding appliedAll
 length-applied-all w [] page = refl
@@ -36,7 +34,7 @@ length-applied-all w (r ∷ rs) page = length-applied-all w rs (applied w (r .di
 
 -- a word of it has a property if it had it before and every value that a record sets it to has it
 pub word-applied-all : (X : ℕ → Type 0) (w o : ℕ) (rs : List Record) (page : List ℕ) → o < length page
-    → AllOf (λ r. (v : ℕ) → settingAt w (r .diff) o ≡ some v → X v) rs → X (getD page o 0) → X (getD (appliedAll w rs page) o 0)
+    → Each (λ r. (v : ℕ) → settingAt w (r .diff) o ≡ some v → X v) rs → X (getD page o 0) → X (getD (appliedAll w rs page) o 0)
 unfolding appliedAll
 word-applied-all X w o [] page l h x = x
 word-applied-all X w o (r ∷ rs) page l h x =
@@ -47,39 +45,21 @@ word-applied-all X w o (r ∷ rs) page l h x =
     go none e = x
     go (some v) e = h .0 v e
 
--- a record that is pending for a page is one of that page
-pub pending-page : (c : Clocks) (p g : ℕ) (r : Record) → isPending c p g r ≡ true → r .page ≡ g
-unfolding isPending
-pending-page c p g r e =
-    eqb-true (r .page) g
-    (go (eqb (r .page) g) (not (eqb (r .processor) p)) (ltb (entryOf (clockOf c (Applied p g)) (r .processor)) (r .interval))
-    (leb (r .interval) (entryOf (clockOf c (Processor p)) (r .processor))) e)
-  where
-    go : (a b c d : Bool) → (a && b && c && d) ≡ true → a ≡ true
-    go true b c d e = refl
-    go false b c d e = e
-
 -- ---- one word, one copy
 
 -- a setting of a word sets its new value
 pub setting-new : (x y v : ℕ) → setting x y ≡ some v → y ≡ v
-unfolding setting isSet
+unfolding setting
 setting-new x y v e = go (eqb x y) e
   where
     go : (b : Bool) → cond b none (some y) ≡ some v → y ≡ v
-    go true e = let z : _≡_ {A = Bool} false true = ap isSet e in absurd (false≢true z)
+    go true e = let z : suc v ≡ v = ap (λ (a : Option ℕ). Option·getD a (suc v)) e in absurd (omega (arith, z))
     go false e = ap (λ (a : Option ℕ). Option·getD a y) e
 
 -- a copy is the one that was put there, or the one that was there
 pub with-copy : (m : Pages) (p g : ℕ) (page : List ℕ) (q k : ℕ) (X : List ℕ → Type 0) → (q ≡ p → k ≡ g → X page) → X (copyOf m q k) → X (copyOf (withCopy m p g page) q k)
 unfolding withCopy copyOf
-with-copy m p g page q k X new old = subst X (sym (cell-put [] (m .copies) p g q k page)) (go (eqb q p) (eqb k g) refl refl)
-  where
-    go : (a b : Bool) → eqb q p ≡ a → eqb k g ≡ b → X (cond (a && b) page (cell [] (m .copies) q k))
-    go true true e f = new (eqb-true q p e) (eqb-true k g f)
-    go true false e f = old
-    go false true e f = old
-    go false false e f = old
+with-copy m p g page q k X new old = by-put-cell X [] (m .copies) p g q k page new old
 
 -- a word is the one that was stored, or the one that was there
 pub word-set : (X : ℕ → ℕ → Type 0) (page : List ℕ) (i v o : ℕ) → o < length page → X i v → X o (getD page o 0) → X o (getD (set page i v) o 0)

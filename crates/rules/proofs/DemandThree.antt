@@ -6,12 +6,11 @@
 --     answered is the value field of the last of them, or 0 if there are none;
 --   * in each case the value answered is 0 or the value field of one of them.
 -- happens-before-1 is made from the number of processors, the fields of the steps and whether each was accepted (specs/Order.antt), and the
--- claim is `DemandThree` of specs/Demand.antt. Assumes nothing.
+-- claim is `DemandThree` of specs/Demand.antt. Rests on InvOverTime, WeakHalf, StrongHalf and ListRuns. Assumes nothing.
 use Prim.Native.Nat.{ℕ, _<_}
 use native.Mathlib.Omega.{arith}
 use mathlib.Core.Path.{_≡_, _∙_}
 use mathlib.Core.List.{List}
-use Rattle.diff.proofs.Pairs.{words-there}
 use Rattle.rules.specs.State.{Limits, Counts}
 use Rattle.rules.specs.Opening.{Opening, openingRefusal, opened}
 use Rattle.rules.specs.Steps.{pageOfWord, offsetOfWord, wordOf, read}
@@ -22,10 +21,11 @@ use Rattle.rules.proofs.OpenedInOrder.{opened-in-order, opening-counts}
 use Rattle.rules.proofs.InOrderRuns.{answers-in-order}
 use Rattle.rules.proofs.Timeline.{Timeline, counts-stay}
 use Rattle.rules.proofs.Ghosts.{ghostAt}
-use Rattle.rules.proofs.Allowed.{took-allowed}
+use Rattle.rules.proofs.ActionKinds.{read-no-acquire}
+use Rattle.rules.proofs.Allowed.{took-allowed, took-read-page}
 use Rattle.rules.proofs.NumbersFollow.{knows-all-writes, last-is-last-written}
 use Rattle.rules.proofs.WeakHalf.{weak-half}
-use Rattle.rules.proofs.InvOverTime.{offset-in-page, read-no-acquire, read-page-opened, inv-at}
+use Rattle.rules.proofs.InvOverTime.{offset-in-page, inv-at}
 use Rattle.rules.proofs.StrongHalf.{reads-last}
 use Rattle.rules.proofs.ListRuns.{eventsOf, timeline, read-answer}
 
@@ -35,7 +35,7 @@ module _ (lim : Limits) (c : Counts) (es : List Event) (r : Timeline lim c es) w
   strong-half j p w took sync =
       let ok = took-allowed lim c es r j p (Read w) took in
       let n = counts-stay lim c es r j in
-      let l = read-page-opened lim c es r w j p w took in
+      let l = took-read-page lim c es r j p w took in
       let inv = inv-at lim c es r w j (sync .ordered) (rw n at l) j (omega arith) in
       let all = knows-all-writes lim c es r w j p (Read w) took (read-no-acquire w) (sync .before) in
       reads-last lim (pageOfWord lim w) (offsetOfWord lim w) (r .state j) (ghostAt lim c es r w j) p (r .ordered j) (offset-in-page lim w (r .words-there)) (ok .from)

@@ -1,4 +1,5 @@
--- A test over every processor, page or clock as a fact about each of them, and a test of two conditions as two facts. Assumes nothing.
+-- A test over every processor, page or clock as a fact about each of them, and a test of two conditions as two facts. Rests on Facts.
+-- Assumes nothing.
 use Prim.Native.Nat.{ℕ, zero, suc, _≤_, _<_}
 use native.Mathlib.Omega.{arith}
 use native.Mathlib.Decide.{decLe}

@@ -1,15 +1,15 @@
--- What "in order" says, as facts about every holder, processor and page: the form that the proofs use. Assumes nothing.
+-- What "in order" says, as facts about every holder, processor and page: the form that the proofs use. Rests on Tables. Assumes nothing.
 use Prim.Native.Nat.{ℕ, suc, _+_, _≤_, _<_}
+use native.Mathlib.Omega.{arith}
 use mathlib.Core.Path.{_≡_}
 use mathlib.Core.Bool.{true, false, not}
 use mathlib.Core.Logic.{_⊎_}
 use mathlib.Core.List.{[]}
 use lib.ListN.{length, getD}
 use Rattle.clock.specs.Clocks.{entryOf}
-use Rattle.diff.specs.Reading.{readRefusal, applied}
+use Rattle.diff.specs.Reading.{readRefusal}
 use Rattle.rules.specs.State.{Limits, Holder, Processor, Lock, Barrier, Applied, Interval, clockOf, copyOf, twinOf, dirtyAt, State, clock, own, holder, hasArrived}
-use Rattle.rules.specs.InOrder.{present, slotSize, sized, presentHolder, recordAt, sameNotice, dirtyPages}
-use Rattle.rules.specs.Refusals.{known, fits}
+use Rattle.rules.specs.InOrder.{present, slotSize, presentHolder, recordAt, sameNotice, dirtyPages}
 use Rattle.rules.proofs.Tables.{Passes}
 
 -- a holder for which the tables have a place
@@ -83,3 +83,17 @@ pub record InOrder (lim : Limits) (s : State) : Type 0 where
   pub dirty-has-interval : (p g : ℕ) → dirtyAt (s .pages) p g ≡ true → own s p < lim .intervals
   pub holder-present : (l : ℕ) → (holder s l ≡ 0) ⊎ (present s (holder s l) ≡ true)
   pub someone-missing : Passes (s .counts .processors) (λ k. not (hasArrived s (suc k)))
+
+-- ---- what follows at once
+
+module _ (lim : Limits) (s : State) (o : InOrder lim s) where
+  -- the standing records have their slots
+  pub slots-enough : s .records .standing ≤ length (s .records .slots)
+  slots-enough = omega (arith, o .sized .slots, o .sized .few-standing)
+
+  -- a present processor's copy of a present page has all its words, and so has its twin
+  pub whole-copy : (p g : ℕ) → 1 ≤ p → p ≤ s .counts .processors → g < s .counts .pages → length (copyOf (s .pages) p g) ≡ lim .words
+  whole-copy p g h k l = o .sized .copy p g h (omega (arith, k, o .processors-fit)) (omega (arith, l, o .pages-fit))
+
+  pub whole-twin : (p g : ℕ) → 1 ≤ p → p ≤ s .counts .processors → g < s .counts .pages → length (twinOf (s .pages) p g) ≡ lim .words
+  whole-twin p g h k l = o .sized .twin p g h (omega (arith, k, o .processors-fit)) (omega (arith, l, o .pages-fit))

@@ -1,4 +1,5 @@
--- What a fetch does to one word of a page, the word at offset o of page g, and what it leaves as it is. Assumes nothing.
+-- What a fetch does to one word of a page, the word at offset o of page g, and what it leaves of the copies and the clocks as it is. Rests
+-- on Holders, CopyWords and SortedRecords. Assumes nothing.
 use Prim.Native.Nat.{ℕ, _≤_, _<_}
 use native.Mathlib.Omega.{arith}
 use native.Mathlib.Decide.{ℕ-discrete}
@@ -10,15 +11,15 @@ use lib.ListN.{length, getD}
 use lib.Dec.{leb, ltb, eqb}
 use borrow.Author.Tests.{ltb-true, leb-true, leb-false, eqb-true, lt-ltb, le-ltb, eq-eqb, ne-eqb}
 use Rattle.clock.specs.Clocks.{entryOf}
-use Rattle.diff.specs.Reading.{settings, settingAt, applied}
-use Rattle.diff.proofs.Overlay.{length-overlay}
+use Rattle.diff.specs.Reading.{settingAt, applied}
 use Rattle.diff.proofs.Theorems.{applied-word}
-use Rattle.rules.specs.Tables.{cell, putCell, select}
-use Rattle.rules.specs.State.{Limits, Processor, Applied, Clocks, clockOf, withClock, copyOf, twinOf, dirtyAt, Record, State, clock, standing}
+use Rattle.rules.specs.Tables.{select}
+use Rattle.rules.specs.State.{Limits, Holder, Processor, Applied, Clocks, clockOf, withClock, copyOf, Record, State, clock, standing}
 use Rattle.rules.specs.Fetch.{isPending, sumAt, earlier, due, appliedAll, withCopy, fetched}
-use Rattle.rules.proofs.Tables.{cell-put-same, cell-put-row, cell-put-place}
-use Rattle.rules.proofs.Selected.{Each, each-map, selected-pass, each-sort}
-use Rattle.rules.proofs.Holders.{sameHolder, clock-of-with-other}
+use Rattle.rules.proofs.Tables.{cell-put-same}
+use Rattle.rules.proofs.Selected.{Each, each-always, each-select, each-sort}
+use Rattle.rules.proofs.Holders.{sameHolder, clock-of-with-same, clock-of-with-other}
+use Rattle.rules.proofs.CopyWords.{length-applied, length-applied-all, with-copy}
 use Rattle.rules.proofs.WordOfRecords.{nth, setsWord, wordAfter, Rising, FreshUp, hit-page}
 use Rattle.rules.proofs.SortedRecords.{rising-select, word-after-sort, word-after-fresh}
 
@@ -83,7 +84,8 @@ pub smaller-sum-earlier : (c : Clocks) (x y : Record) → sumAt c x < sumAt c y 
 unfolding earlier
 smaller-sum-earlier c x y h = rw (ne-eqb (sumAt c x) (sumAt c y) (λ e. omega (arith, e, h))) (lt-ltb (sumAt c x) (sumAt c y) h)
 
-pending-page : (c : Clocks) (p g : ℕ) (r : Record) → isPending c p g r ≡ true → r .page ≡ g
+-- a pending record is one of the page
+pub pending-page : (c : Clocks) (p g : ℕ) (r : Record) → isPending c p g r ≡ true → r .page ≡ g
 unfolding isPending
 pending-page c p g r e =
     let a : ℕ = entryOf (clockOf c (Applied p g)) (r .processor) in
@@ -99,25 +101,19 @@ pub due-of-page : (s : State) (p g : ℕ) → Each (λ r. r .page ≡ g) (due s 
 unfolding due
 due-of-page s p g =
     each-sort (λ r. r .page ≡ g) (earlier (s .clocks)) (select (isPending (s .clocks) p g) (standing s))
-    (each-map (λ r. isPending (s .clocks) p g r ≡ true) (λ r. r .page ≡ g) (select (isPending (s .clocks) p g) (standing s)) (pending-page (s .clocks) p g)
-    (selected-pass (isPending (s .clocks) p g) (standing s)))
+    (each-select (λ r. Unit) (λ r. r .page ≡ g) (isPending (s .clocks) p g) (standing s) (λ r e u. pending-page (s .clocks) p g r e)
+    (each-always (λ r. Unit) (standing s) (λ r. tt)))
 
 -- ---- records applied to a page
-
--- the page keeps its length
-pub length-applied-all : (w : ℕ) (rs : List Record) (page : List ℕ) → length (appliedAll w rs page) ≡ length page
-unfolding appliedAll applied
-length-applied-all w [] page = refl
-length-applied-all w (r ∷ rs) page = length-applied-all w rs (applied w (r .diff) page) ∙ length-overlay (settings w (r .diff)) page
 
 module _ (words g o : ℕ) where
   -- its word is what the records make of it
   pub applied-all-word : (rs : List Record) (page : List ℕ) → Each (λ r. r .page ≡ g) rs → o < length page
       → getD (appliedAll words rs page) o 0 ≡ wordAfter words g o rs (getD page o 0)
-  unfolding appliedAll wordAfter setsWord applied
+  unfolding appliedAll wordAfter setsWord
   applied-all-word [] page e h = refl
   applied-all-word (r ∷ rs) page e h =
-      applied-all-word rs (applied words (r .diff) page) (e .1) (rw (length-overlay (settings words (r .diff)) page) h)
+      applied-all-word rs (applied words (r .diff) page) (e .1) (rw (length-applied words (r .diff) page) h)
       ∙ ap (wordAfter words g o rs)
       (applied-word words (r .diff) page o h
       ∙ ap (λ (b : Bool). Option·getD (cond b (settingAt words (r .diff) o) none) (getD page o 0)) (sym (eq-eqb (r .page) g (e .0))))
@@ -131,43 +127,40 @@ module _ (lim : Limits) (s : State) (p g : ℕ) where
 
   -- the copies of other processors, and of other pages, are as they were
   pub fetched-elsewhere : (q h : ℕ) → (q ≡ p → h ≡ g → ⊥) → copyOf (fetched lim s p g .pages) q h ≡ copyOf (s .pages) q h
-  unfolding fetched withCopy copyOf
-  fetched-elsewhere q h e = go (ℕ-discrete q p)
-    where
-      go : Dec (q ≡ p) → cell [] (putCell [] (s .pages .copies) p g (appliedAll (lim .words) (due s p g) (copyOf (s .pages) p g))) q h ≡ cell [] (s .pages .copies) q h
-      go (yes k) = rw k (cell-put-place [] (s .pages .copies) p g h (appliedAll (lim .words) (due s p g) (copyOf (s .pages) p g)) (e k))
-      go (no k) = cell-put-row [] (s .pages .copies) p g q h (appliedAll (lim .words) (due s p g) (copyOf (s .pages) p g)) k
+  unfolding fetched
+  fetched-elsewhere q h e =
+      with-copy (s .pages) p g (appliedAll (lim .words) (due s p g) (copyOf (s .pages) p g)) q h (λ (x : List ℕ). x ≡ copyOf (s .pages) q h) (λ a b. absurd (e a b)) refl
 
-  -- and so are the twins and the dirty marks, the records and the sums of the intervals' clocks
-  pub fetched-twin : (q h : ℕ) → twinOf (fetched lim s p g .pages) q h ≡ twinOf (s .pages) q h
-  unfolding fetched withCopy twinOf
-  fetched-twin q h = refl
-
-  pub fetched-dirty : (q h : ℕ) → dirtyAt (fetched lim s p g .pages) q h ≡ dirtyAt (s .pages) q h
-  unfolding fetched withCopy dirtyAt
-  fetched-dirty q h = refl
-
-  pub fetched-standing : standing (fetched lim s p g) ≡ standing s
-  unfolding fetched standing
-  fetched-standing = refl
-
+  -- and so are the sums of the intervals' clocks
   pub fetched-sum : (r : Record) → sumAt (fetched lim s p g .clocks) r ≡ sumAt (s .clocks) r
   unfolding fetched sumAt withClock clockOf
   fetched-sum r = refl
 
   -- every copy keeps its length
   pub fetched-length : (q h : ℕ) → length (copyOf (fetched lim s p g .pages) q h) ≡ length (copyOf (s .pages) q h)
-  fetched-length q h = go (ℕ-discrete q p) (ℕ-discrete h g)
-    where
-      go : Dec (q ≡ p) → Dec (h ≡ g) → length (copyOf (fetched lim s p g .pages) q h) ≡ length (copyOf (s .pages) q h)
-      go (yes e) (yes k) = rw (e, k) (ap length fetched-copy ∙ length-applied-all (lim .words) (due s p g) (copyOf (s .pages) p g))
-      go (yes e) (no k) = ap length (fetched-elsewhere q h (λ a b. k b))
-      go (no e) k = ap length (fetched-elsewhere q h (λ a b. e a))
+  unfolding fetched
+  fetched-length q h =
+      with-copy (s .pages) p g (appliedAll (lim .words) (due s p g) (copyOf (s .pages) p g)) q h (λ (x : List ℕ). length x ≡ length (copyOf (s .pages) q h))
+      (λ a b. rw (a, b) (length-applied-all (lim .words) (due s p g) (copyOf (s .pages) p g))) refl
+
+  -- no clock changes but the applied one of the page, which becomes the processor's
+  pub fetched-clock : (h : Holder) → sameHolder (Applied p g) h ≡ false → clockOf (fetched lim s p g .clocks) h ≡ clockOf (s .clocks) h
+  unfolding fetched
+  fetched-clock h e = clock-of-with-other (s .clocks) (Applied p g) (clock s p) h e
+
+  pub fetched-applied : clockOf (fetched lim s p g .clocks) (Applied p g) ≡ clock s p
+  unfolding fetched
+  fetched-applied = clock-of-with-same (s .clocks) (Applied p g) (clock s p)
+
+  -- the two are the same then
+  pub fetched-current : clockOf (fetched lim s p g .clocks) (Applied p g) ≡ clockOf (fetched lim s p g .clocks) (Processor p)
+  unfolding sameHolder clock
+  fetched-current = fetched-applied ∙ sym (fetched-clock (Processor p) refl)
 
   -- the other applied clocks are as they were
   pub fetched-applied-elsewhere : (q h : ℕ) → (q ≡ p → h ≡ g → ⊥) → clockOf (fetched lim s p g .clocks) (Applied q h) ≡ clockOf (s .clocks) (Applied q h)
-  unfolding fetched sameHolder
-  fetched-applied-elsewhere q h e = clock-of-with-other (s .clocks) (Applied p g) (clock s p) (Applied q h) (go (ℕ-discrete q p))
+  unfolding sameHolder
+  fetched-applied-elsewhere q h e = fetched-clock (Applied q h) (go (ℕ-discrete q p))
     where
       go : Dec (q ≡ p) → (eqb q p && eqb h g) ≡ false
       go (yes k) = rw (eq-eqb q p k) (ne-eqb h g (e k))

@@ -1,5 +1,6 @@
--- A fetch applies exactly the pending records, each once, the smallest first, counts them, and leaves none pending. Assumes nothing.
-use Prim.Native.Nat.{ℕ, zero, suc, _≤_, _<_}
+-- A fetch applies exactly the pending records, each once, the smallest first, counts them, and leaves none pending. Rests on Everywhere and
+-- FetchedWord. Assumes nothing.
+use Prim.Native.Nat.{ℕ, _≤_, _<_}
 use native.Mathlib.Omega.{arith}
 use native.Mathlib.Decide.{ℕ-discrete}
 use native.Mathlib.Nat.{le-of-eq}
@@ -10,13 +11,12 @@ use lib.ListN.{length}
 use lib.Dec.{leb, ltb, eqb}
 use borrow.Author.Tests.{ltb-true, ltb-false, leb-true, le-ltb, eq-eqb, ne-eqb}
 use Rattle.clock.specs.Clocks.{covered, entryOf}
-use Rattle.clock.proofs.Laws.{covered→Covers}
 use Rattle.rules.specs.Tables.{select, sortBy}
 use Rattle.rules.specs.State.{Limits, Processor, Applied, Clocks, clockOf, withClock, Record, State, clock, standing}
 use Rattle.rules.specs.Fetch.{isPending, sumAt, earlier, due, fetched, fetchCount}
 use Rattle.rules.proofs.Selected.{each-always, select-none, count-sort, length-sort, Sorted, Sorts, sorted-sort}
-use Rattle.rules.proofs.Holders.{clock-of-with-same}
-use Rattle.rules.proofs.FetchedWord.{fetched-applied-elsewhere}
+use Rattle.rules.proofs.Everywhere.{covered-entries}
+use Rattle.rules.proofs.FetchedWord.{fetched-current, fetched-applied-elsewhere}
 
 -- ---- the order in which records are applied: by sum, then processor, then interval
 
@@ -140,21 +140,14 @@ none-due s p g h =
     (select-none (isPending (s .clocks) p g) (standing s)
     (each-always (λ r. isPending (s .clocks) p g r ≡ false) (standing s) (not-pending (s .clocks) p g h)))
 
-entries-covered : (a b : List ℕ) → covered a b ≡ true → (q : ℕ) → entryOf b q ≤ entryOf a q
-unfolding entryOf
-entries-covered a b e zero = omega arith
-entries-covered a b e (suc q) = covered→Covers a b e .at q
-
 -- where the applied clock covers the processor's clock nothing is pending
 pub nothing-pending-when-covered : (s : State) (p g : ℕ) → covered (clockOf (s .clocks) (Applied p g)) (clock s p) ≡ true → due s p g ≡ []
 unfolding clock
-nothing-pending-when-covered s p g e = none-due s p g (entries-covered (clockOf (s .clocks) (Applied p g)) (clockOf (s .clocks) (Processor p)) e)
+nothing-pending-when-covered s p g e = none-due s p g (λ q. covered-entries (clockOf (s .clocks) (Applied p g)) (clockOf (s .clocks) (Processor p)) q e)
 
 -- a fetch leaves nothing pending
 pub fetch-leaves-none-pending : (lim : Limits) (s : State) (p g : ℕ) → due (fetched lim s p g) p g ≡ []
-unfolding fetched clock clockOf withClock
-fetch-leaves-none-pending lim s p g =
-    none-due (fetched lim s p g) p g (λ q. le-of-eq (ap (λ (c : List ℕ). entryOf c q) (sym (clock-of-with-same (s .clocks) (Applied p g) (clock s p)))))
+fetch-leaves-none-pending lim s p g = none-due (fetched lim s p g) p g (λ q. le-of-eq (ap (λ (c : List ℕ). entryOf c q) (sym (fetched-current lim s p g))))
 
 -- what is pending for other processors and pages stays pending
 pub fetch-leaves-others-pending : (lim : Limits) (s : State) (p g q h : ℕ) → (q ≡ p → h ≡ g → ⊥) → due (fetched lim s p g) q h ≡ due s q h

@@ -1,12 +1,15 @@
--- What is counted beside a run, for one word w, to prove what its reads answer; none of it is in the state. Assumes nothing.
-use Prim.Native.Nat.{ℕ, zero, suc, _+_, max}
-use mathlib.Core.Path.{_≡_}
-use mathlib.Core.Bool.{Bool, false, cond, _&&_}
+-- What is counted beside a run, for one word w, to prove what its reads answer; none of it is in the state. Rests on Holders and Timeline.
+-- Assumes nothing.
+use Prim.Native.Nat.{ℕ, zero, suc, _+_, _≤_, max}
+use native.Mathlib.Omega.{arith}
+use mathlib.Core.Path.{_≡_, refl, sym, _∙_}
+use mathlib.Core.Bool.{Bool, true, false, cond, _&&_}
 use mathlib.Core.List.{List}
 use lib.Dec.{eqb}
+use borrow.Author.Tests.{eqb-false, ne-eqb}
 use Rattle.rules.specs.State.{Limits, Counts, Holder, Processor, Lock, Barrier, Applied, Interval, State}
 use Rattle.rules.specs.Steps.{atBarrier, allArrived, wantsCollection}
-use Rattle.rules.specs.Refusals.{Action, Read, Write, Acquire, Release, Arrive, Want, Unknown, actionOf, known}
+use Rattle.rules.specs.Refusals.{Action, Read, Write, Acquire, Release, Arrive, Want, Unknown, actionOf}
 use Rattle.rules.specs.Order.{Event, eventAt, Took}
 use Rattle.rules.specs.Demand.{valueField}
 use Rattle.rules.proofs.Holders.{sameHolder}
@@ -100,3 +103,18 @@ module _ (lim : Limits) (c : Counts) (es : List Event) (r : Timeline lim c es) (
   pub ghost-taken : (t p : ℕ) (a : Action) → Took es t p a → ghostAt (suc t) ≡ ghostAfter w (r .state t) p a (ghostAt t)
   unfolding ghostAt
   ghost-taken t p a k = rw (k .accepted, k .processor, k .action)
+
+-- ---- who has stores without an interval once a processor has closed
+
+-- the writer after closing is who it was, unless that is the processor that closed
+pub writer-was : (γ : Ghost) (p q : ℕ) → 1 ≤ q → writerClosed γ p ≡ q → (γ .writer ≡ q) × (q ≡ p → ⊥)
+unfolding writerClosed
+writer-was γ p q h e = go (eqb (γ .writer) p) refl e
+  where
+    go : (b : Bool) → eqb (γ .writer) p ≡ b → cond b 0 (γ .writer) ≡ q → (γ .writer ≡ q) × (q ≡ p → ⊥)
+    go true d e = absurd (omega (arith, e, h))
+    go false d e = (e, λ z. eqb-false (γ .writer) p d (e ∙ z))
+
+pub writer-stays : (γ : Ghost) (p q : ℕ) → (q ≡ p → ⊥) → γ .writer ≡ q → writerClosed γ p ≡ q
+unfolding writerClosed
+writer-stays γ p q d e = rw (ne-eqb (γ .writer) p (λ z. d (sym e ∙ z))) e

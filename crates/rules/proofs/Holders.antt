@@ -1,18 +1,18 @@
--- Laws of clock holders: what clock each holder has after one of them changed, and after the moves of clocks that the rules make. Assumes nothing.
+-- Laws of clock holders: what clock each holder has after one of them changed, after an entry was raised and after all were cleared. Rests
+-- on Tables. Assumes nothing.
 use Prim.Native.Nat.{ℕ, zero, suc, _+_, _≤_, _<_}
 use native.Mathlib.Omega.{arith}
-use native.Mathlib.Decide.{ℕ-discrete}
 use mathlib.Core.Path.{_≡_, refl, sym, ap, ap₂, _∙_}
 use mathlib.Core.Bool.{Bool, true, false, cond, _&&_, and-eq-true-iff, false≢true}
 use mathlib.Core.List.{List, [], _∷_, map}
 use lib.ListN.{length, getD, length-map}
 use lib.Dec.{eqb}
-use borrow.Author.Tests.{eqb-true, eq-eqb, ne-eqb}
-use Rattle.clock.specs.Clocks.{joined, entryOf, sumOf}
+use borrow.Author.Tests.{eqb-true, eq-eqb}
+use Rattle.clock.specs.Clocks.{entryOf, sumOf}
 use Rattle.rules.specs.Tables.{put}
 use Rattle.rules.specs.State.{Holder, Processor, Lock, Barrier, Applied, Interval, Clocks, clockOf, withClock, cleared}
 use Rattle.rules.specs.Close.{raised}
-use Rattle.rules.specs.Steps.{learned, allLearned, allCleared}
+use Rattle.rules.specs.Steps.{allCleared}
 use Rattle.rules.proofs.Tables.{get-put-same, get-put-other, get-put, length-put-within, cell-put, get-map}
 
 -- ---- whether two holders are one
@@ -165,57 +165,3 @@ clock-of-all-cleared c Barrier = refl
 clock-of-all-cleared c (Applied p g) = ap (λ (row : List (List ℕ)). getD row g []) (get-map (map cleared) [] (c .applied) p) ∙ get-map cleared [] (getD (c .applied) p []) g
 clock-of-all-cleared c (Interval p i) =
     ap (λ (row : List (List ℕ)). getD row i []) (get-map (map cleared) [] (c .intervals) p) ∙ get-map cleared [] (getD (c .intervals) p []) i
-
--- ---- a clock that learns another
-
-pub clock-of-learned : (c : Clocks) (to from k : Holder) → clockOf (learned c to from) k ≡ cond (sameHolder to k) (joined (clockOf c to) (clockOf c from)) (clockOf c k)
-unfolding learned
-clock-of-learned c to from k = clock-of-with c to (joined (clockOf c to) (clockOf c from)) k
-
--- the barrier's clock stays while the processors learn it, and so does every clock but theirs
-pub all-learned-barrier : (c : Clocks) (n : ℕ) → allLearned c n .barrier ≡ c .barrier
-unfolding allLearned learned withClock
-all-learned-barrier c zero = refl
-all-learned-barrier c (suc k) = all-learned-barrier c k
-
-barrier-clock : (c : Clocks) (n : ℕ) → clockOf (allLearned c n) Barrier ≡ c .barrier
-unfolding clockOf
-barrier-clock c n = all-learned-barrier c n
-
-pub all-learned-locks : (c : Clocks) (n : ℕ) → allLearned c n .locks ≡ c .locks
-unfolding allLearned learned withClock
-all-learned-locks c zero = refl
-all-learned-locks c (suc k) = all-learned-locks c k
-
-pub all-learned-applied : (c : Clocks) (n : ℕ) → allLearned c n .applied ≡ c .applied
-unfolding allLearned learned withClock
-all-learned-applied c zero = refl
-all-learned-applied c (suc k) = all-learned-applied c k
-
-pub all-learned-intervals : (c : Clocks) (n : ℕ) → allLearned c n .intervals ≡ c .intervals
-unfolding allLearned learned withClock
-all-learned-intervals c zero = refl
-all-learned-intervals c (suc k) = all-learned-intervals c k
-
--- a processor above n has not learned it yet
-pub all-learned-not-yet : (c : Clocks) (n p : ℕ) → n < p → clockOf (allLearned c n) (Processor p) ≡ clockOf c (Processor p)
-unfolding allLearned sameHolder
-all-learned-not-yet c zero p h = refl
-all-learned-not-yet c (suc k) p h =
-    clock-of-learned (allLearned c k) (Processor (suc k)) Barrier (Processor p)
-    ∙ ap (λ (b : Bool). cond b (joined (clockOf (allLearned c k) (Processor (suc k))) (clockOf (allLearned c k) Barrier)) (clockOf (allLearned c k) (Processor p)))
-    (ne-eqb p (suc k) (λ e. omega (arith, e, h)))
-    ∙ all-learned-not-yet c k p (omega arith)
-
--- the processors 1 to n have learned it
-pub all-learned-processor : (c : Clocks) (n p : ℕ) → 1 ≤ p → p ≤ n → clockOf (allLearned c n) (Processor p) ≡ joined (clockOf c (Processor p)) (c .barrier)
-unfolding allLearned sameHolder
-all-learned-processor c zero p h l = absurd (omega arith)
-all-learned-processor c (suc k) p h l =
-    clock-of-learned (allLearned c k) (Processor (suc k)) Barrier (Processor p) ∙ go (ℕ-discrete p (suc k)) (all-learned-processor c k p h)
-  where
-    go : Dec (p ≡ suc k) → (p ≤ k → clockOf (allLearned c k) (Processor p) ≡ joined (clockOf c (Processor p)) (c .barrier))
-        → cond (eqb p (suc k)) (joined (clockOf (allLearned c k) (Processor (suc k))) (clockOf (allLearned c k) Barrier)) (clockOf (allLearned c k) (Processor p))
-        ≡ joined (clockOf c (Processor p)) (c .barrier)
-    go (yes e) ih = rw (eq-eqb p (suc k) e, e) (ap₂ joined (all-learned-not-yet c k (suc k) (omega arith)) (barrier-clock c k))
-    go (no e) ih = rw (ne-eqb p (suc k) e) (ih (omega arith))

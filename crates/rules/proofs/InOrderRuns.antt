@@ -1,4 +1,5 @@
--- In order is kept over a whole list of steps from an opening, so refusal 1 never arises in a run. Assumes nothing.
+-- In order is kept over a whole list of steps from an opening, so refusal 1 never arises in a run. Rests on InOrderSays, InOrderWhen and
+-- Kept. Assumes nothing.
 use mathlib.Core.Path.{_≡_, refl, ap}
 use mathlib.Core.Bool.{Bool, true, false, cond}
 use mathlib.Core.List.{List, [], _∷_}

@@ -1,4 +1,4 @@
--- A state that passes the test `inOrder` is in order, fact by fact. Assumes nothing.
+-- A state that passes the test `inOrder` is in order, fact by fact. Rests on Outside and Conditions. Assumes nothing.
 use Prim.Native.Nat.{ℕ, suc, _+_, _≤_, _<_}
 use native.Mathlib.Omega.{arith}
 use native.Mathlib.Nat.{lt-of-not-le}
@@ -10,15 +10,15 @@ use lib.ListN.{getD}
 use lib.Dec.{leb, ltb, eqb}
 use borrow.Author.Tests.{ltb-true, leb-true, eqb-true, not-true, lt-leb}
 use Rattle.clock.specs.Clocks.{entryOf}
-use Rattle.diff.specs.Reading.{readRefusal, applied}
+use Rattle.diff.specs.Reading.{readRefusal}
 use Rattle.rules.specs.Tables.{every}
 use Rattle.rules.specs.State.{Limits, Holder, Processor, Lock, Applied, Interval, clockOf, copyOf, dirtyAt, State, clock, own, holder, hasArrived}
 use Rattle.rules.specs.InOrder.{present, everyProcessor, everyHolder, slotSize, sized, inRange, presentHolder, allZero, absentZero, laterIntervalsZero, entriesKnown, appliedKnown, recordAt, diffLegal, recordSound, sameNotice, recordsSound, roomKept, dirtyHaveInterval, holdersPresent, someoneMissing, inOrder}
-use Rattle.rules.specs.Refusals.{known, fits}
 use Rattle.rules.proofs.Tables.{every-at, any-at}
 use Rattle.rules.proofs.Facts.{Within, Sized, RecordSound, InOrder}
 use Rattle.rules.proofs.Everywhere.{and-left, and-right, conjoined-at, or-says, or-either, every-processor-at, every-page-at, every-interval-at, every-holder-at, by-place, all-zero-at, entry-all-zero, covered-entries}
-use Rattle.rules.proofs.Outside.{rows-sized-says, entry-outside, entry-absent-place, copy-outside, clean-outside, not-arrived-outside, not-held-outside}
+use Rattle.rules.proofs.Rows.{rows-sized-says}
+use Rattle.rules.proofs.Outside.{entry-outside, entry-absent-place, copy-outside, clean-outside, not-arrived-outside, not-held-outside}
 use Rattle.rules.proofs.Conditions.{sizedTests, sized-tests, absentTests, absent-tests, countsTests, counts-tests, recordTests, record-tests, orderTests, order-tests}
 
 module _ (lim : Limits) (s : State) where

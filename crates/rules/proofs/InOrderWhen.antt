@@ -1,4 +1,4 @@
--- A state that is in order, fact by fact, passes the test `inOrder`. Assumes nothing.
+-- A state that is in order, fact by fact, passes the test `inOrder`. Rests on Outside and Conditions. Assumes nothing.
 use Prim.Native.Nat.{ℕ, suc, _+_, _≤_}
 use mathlib.Core.Path.{_≡_, ap, _∙_}
 use mathlib.Core.Bool.{Bool, true, false, not, _&&_, _||_}
@@ -15,7 +15,8 @@ use Rattle.rules.specs.InOrder.{present, everyProcessor, everyHolder, sl
 use Rattle.rules.proofs.Tables.{every-holds, any-holds}
 use Rattle.rules.proofs.Facts.{Sized, RecordSound, InOrder}
 use Rattle.rules.proofs.Everywhere.{and-both, Given, conjoined-holds, or-when, either-or, every-processor-holds, every-page-holds, every-interval-holds, every-holder-holds, all-zero-holds, entries-all-zero, entries-covered}
-use Rattle.rules.proofs.Outside.{rows-sized-when, processors-rows, applied-rows, interval-rows, copies-rows, twins-rows, dirty-rows}
+use Rattle.rules.proofs.Rows.{rows-sized-when}
+use Rattle.rules.proofs.Outside.{processors-rows, applied-rows, interval-rows, copies-rows, twins-rows, dirty-rows}
 use Rattle.rules.proofs.Conditions.{sizedTests, sized-tests, absentTests, absent-tests, countsTests, counts-tests, recordTests, record-tests, orderTests, order-tests}
 
 module _ (lim : Limits) (s : State) where

@@ -1,48 +1,48 @@
--- Arriving at the barrier keeps the invariant before the round is completed or left open, where closing keeps it. Assumes nothing.
-use Prim.Native.Nat.{ℕ, _≤_, max}
-use native.Mathlib.Omega.{arith}
-use mathlib.Core.Path.{_≡_, refl, sym, _∙_}
-use mathlib.Core.Bool.{Bool, true, false, cond, false≢true}
-use lib.Dec.{eqb}
-use borrow.Author.Tests.{eqb-true}
-use Rattle.clock.specs.Clocks.{joined}
-use Rattle.rules.specs.State.{Limits, Holder, Processor, Barrier, clockOf, dirtyAt, State, standing, hasArrived}
+-- An arrival keeps the invariant, where closing keeps it: when it leaves the round open, when it completes it, and when garbage is
+-- collected then. Rests on KeptBarrier, InvRound and InvCollect. Assumes nothing.
+use Prim.Native.Nat.{ℕ, _≤_, _<_}
+use mathlib.Core.Path.{_≡_, refl}
+use mathlib.Core.Bool.{Bool, true, false, cond, _&&_}
+use Rattle.rules.specs.State.{Limits, State}
 use Rattle.rules.specs.Close.{closed}
-use Rattle.rules.specs.Steps.{learned, atBarrier}
-use Rattle.rules.proofs.Holders.{sameHolder}
-use Rattle.rules.proofs.KeptFetch.{withClocks, withMarks}
-use Rattle.rules.proofs.Ghosts.{Ghost, closedGhost, arrivedNumbers}
-use Rattle.rules.proofs.MarksAfter.{arrived-at-barrier}
-use Rattle.rules.proofs.Invariant.{Knows, Inv}
-use Rattle.rules.proofs.InvMoves.{informed-by-join}
-use Rattle.rules.proofs.InvMoved.{closed-clean, withKnown, clock-move-keeps}
-use Rattle.rules.proofs.InvLocks.{closer-behind}
+use Rattle.rules.specs.Steps.{atBarrier, roundDone, collected, wantsCollection, arrive}
+use Rattle.rules.specs.Refusals.{Arrive, effect}
+use Rattle.rules.proofs.Facts.{InOrder}
+use Rattle.rules.proofs.KeptParts.{among-when, parts-of}
+use Rattle.rules.proofs.KeptBarrier.{round-parts}
+use Rattle.rules.proofs.Ghosts.{Ghost, roundNumbers, completes, collects, writerClosed, closedGhost, arrivedNumbers, ghostAfter}
+use Rattle.rules.proofs.NumbersAfter.{Knowing}
+use Rattle.rules.proofs.Invariant.{Inv}
+use Rattle.rules.proofs.InvMoves.{withKnown}
+use Rattle.rules.proofs.InvBarrier.{arrivedGhost, at-barrier-keeps}
+use Rattle.rules.proofs.InvRound.{roundGhost, completed-clean, completed-no-writer, completed-knows, completed-keeps}
+use Rattle.rules.proofs.InvCollect.{collectedGhost, collect-keeps}
 
--- the counts of the state at the barrier
-unfoldable pub arrivedGhost : Ghost → ℕ → Ghost
-arrivedGhost γ p = withKnown (closedGhost γ p) (arrivedNumbers γ p)
+module _ (lim : Limits) (g o : ℕ) (s : State) (γ : Ghost) (p : ℕ) (from : 1 ≤ p) (to : p ≤ s .counts .processors) (ord : InOrder lim s) (in-page : o < lim .words)
+    (closing : Inv (lim .words) g o (closed s p) (closedGhost γ p)) (numbers : Knowing (s .counts .processors) s γ) where
+  -- the round is completed and collects
+  collected-keeps : completes s p ≡ true → Inv (lim .words) g o (collected lim (roundDone (atBarrier s p)) .after) (collectedGhost (roundGhost γ p))
+  unfolding roundDone atBarrier closed roundGhost closedGhost withKnown
+  collected-keeps full =
+      collect-keeps lim g o (roundDone (atBarrier s p)) (roundGhost γ p) (round-parts lim s p (parts-of lim s ord) (among-when (s .counts) p from to)) in-page
+      (completed-keeps lim g o s γ p from to closing numbers full ord) (completed-no-writer lim g o s γ p from to closing numbers full)
+      (completed-clean lim g o s γ p from to closing numbers full) (completed-knows lim g o s γ p from to closing numbers full)
 
-module _ (lim : Limits) (g o : ℕ) (s : State) (γ : Ghost) (p : ℕ) (from : 1 ≤ p) (to : p ≤ s .counts .processors)
-    (closing : Inv (lim .words) g o (closed s p) (closedGhost γ p)) (few : (h : Holder) → γ .known h ≤ γ .writes) where
-  -- the page of every processor that has arrived is clean, that of p too
-  arrived-are-clean : (q : ℕ) → 1 ≤ q → q ≤ s .counts .processors → hasArrived (atBarrier s p) q ≡ true → dirtyAt (closed s p .pages) q g ≡ false
-  unfolding closed hasArrived
-  arrived-are-clean q h k e = go (eqb q p) refl (sym (arrived-at-barrier s p q) ∙ e)
+  -- every arrival
+  pub arrive-keeps : (w : ℕ) → Inv (lim .words) g o (effect lim s p Arrive .after) (ghostAfter w s p Arrive γ)
+  unfolding effect arrive ghostAfter completes collects wantsCollection atBarrier closed arrivedGhost roundGhost closedGhost collectedGhost withKnown
+  arrive-keeps w = go (completes s p) (wantsCollection s) refl
     where
-      go : (b : Bool) → eqb q p ≡ b → cond b true (hasArrived s q) ≡ true → dirtyAt (closed s p .pages) q g ≡ false
-      go true d a = rw (eqb-true q p d) (closed-clean s p g)
-      go false d a = closing .arrived-clean q h k a
-
-  -- the barrier's clock joins p's, and p is marked
-  pub at-barrier-keeps : Inv (lim .words) g o (atBarrier s p) (arrivedGhost γ p)
-  unfolding atBarrier arrivedGhost closedGhost arrivedNumbers learned withKnown withMarks withClocks closed Knows sameHolder hasArrived
-  at-barrier-keeps =
-      clock-move-keeps (lim .words) g o (closed s p) (closedGhost γ p) closing Barrier (joined (clockOf (closed s p .clocks) Barrier) (clockOf (closed s p .clocks) (Processor p)))
-      (max (γ .known Barrier) (γ .known (Processor p))) (atBarrier s p .marks) tt
-      (informed-by-join (lim .words) g o (closed s p .clocks) (standing (closed s p)) (γ .writes) (clockOf (closed s p .clocks) Barrier) (clockOf (closed s p .clocks) (Processor p))
-      (γ .known Barrier) (γ .known (Processor p)) (few Barrier) (few (Processor p))
-      (closing .clocks .informed Barrier tt) (closing .clocks .informed (Processor p) (from, to)))
-      (λ e d. absurd (false≢true d))
-      (λ e d. omega (arith, closer-behind lim g o s γ p from to closing e, closing .clocks .others-behind e Barrier tt refl))
-      (λ q d. absurd (false≢true d))
-      arrived-are-clean
+      go : (b c : Bool) → completes s p ≡ b
+          → Inv (lim .words) g o
+          (cond b (cond c (collected lim (roundDone (atBarrier s p))) (record { after = roundDone (atBarrier s p); count = 0 })) (record { after = atBarrier s p; count = 0 }) .after)
+          (record {
+            writes = γ .writes;
+            last = γ .last;
+            base = cond (b && c) (γ .last) (γ .base);
+            writer = writerClosed γ p;
+            known = cond b (roundNumbers (arrivedNumbers γ p)) (arrivedNumbers γ p);
+          })
+      go true true full = collected-keeps full
+      go true false full = completed-keeps lim g o s γ p from to closing numbers full ord
+      go false c e = at-barrier-keeps lim g o s γ p from to closing (numbers .at-most)

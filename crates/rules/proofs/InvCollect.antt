@@ -1,28 +1,29 @@
--- Garbage collection keeps the invariant: every processor fetches every page, then all records go and all clocks become zeros. Assumes nothing.
+-- Garbage collection keeps the invariant: every processor fetches every page, then all records go and all clocks become zeros. Rests on
+-- KeptFetch, SelectedRecords, InvEmpty and InvFetch. Assumes nothing.
 use Prim.Native.Nat.{ℕ, zero, suc, _≤_, _<_}
 use native.Mathlib.Omega.{arith}
 use native.Mathlib.Decide.{ℕ-discrete}
 use mathlib.Core.Path.{_≡_, refl, sym, ap, _∙_}
-use mathlib.Core.Bool.{Bool, true, false, not, false≢true}
-use mathlib.Core.List.{List, []}
+use mathlib.Core.Bool.{Bool, true, false, not}
+use mathlib.Core.List.{List}
 use lib.ListN.{getD}
 use Rattle.clock.specs.Clocks.{entryOf}
-use Rattle.rules.specs.Tables.{select}
-use Rattle.rules.specs.State.{Limits, Counts, Processor, Applied, clockOf, copyOf, dirtyAt, Record, recordsOf, State, clock, standing, hasArrived}
+use Rattle.rules.specs.State.{Limits, Counts, Processor, Applied, clockOf, copyOf, dirtyAt, Record, recordsOf, State, standing}
 use Rattle.rules.specs.Fetch.{withCopy, fetched}
-use Rattle.rules.specs.Steps.{pagesFetched, allFetched, allCleared, emptied, collected}
+use Rattle.rules.specs.Steps.{pagesFetched, allFetched, emptied, collected}
 use Rattle.rules.proofs.Holders.{sameHolder}
+use Rattle.rules.proofs.Fetches.{all-fetched-keep}
 use Rattle.rules.proofs.Facts.{InOrder}
-use Rattle.rules.proofs.KeptParts.{Parts, in-order-of}
-use Rattle.rules.proofs.KeptMoves.{among-when}
+use Rattle.rules.proofs.KeptParts.{among-when, Parts, in-order-of}
 use Rattle.rules.proofs.KeptFetch.{fetched-parts}
 use Rattle.rules.proofs.Ghosts.{Ghost}
-use Rattle.rules.proofs.WordOfRecords.{nth, wordAfter, HitAt, hit-page}
+use Rattle.rules.proofs.WordOfRecords.{nth, HitAt, hit-page}
 use Rattle.rules.proofs.SelectedRecords.{all-selected}
-use Rattle.rules.proofs.FetchedWord.{above, fetched-applied-elsewhere}
-use Rattle.rules.proofs.Invariant.{Knows, seen, PageInv, Inv}
-use Rattle.rules.proofs.InvFetch.{nth-standing, above-says}
-use Rattle.rules.proofs.InvFetched.{fetched-clock, fetched-applied, fetch-keeps}
+use Rattle.rules.proofs.FetchedWord.{above, fetched-clock, fetched-current, fetched-applied-elsewhere}
+use Rattle.rules.proofs.Invariant.{Knows, seen, Inv}
+use Rattle.rules.proofs.InvEmpty.{inv-without-records}
+use Rattle.rules.proofs.InvSame.{nth-standing, above-says}
+use Rattle.rules.proofs.InvFetch.{fetch-keeps}
 
 -- the counts after it
 unfoldable pub collectedGhost : Ghost → Ghost
@@ -42,49 +43,10 @@ module _ (words g o : ℕ) (s : State) (γ : Ghost) (inv : Inv words g o s γ) (
       ∙ all-selected words g o (λ (r : Record). not (above q (clockOf (s .clocks) (Applied q g)) r)) (standing s) (γ .base) (λ i hit. ap not (nothing-fresh q h k i hit))
       ∙ inv .closed-value no-writer
 
-  -- where no record stands none sets the word
-  nothing-stands : (i : ℕ) → HitAt words g o [] i → ⊥
-  nothing-stands i hit = omega (arith, hit .within)
-
-  emptied-page : (q : ℕ) → 1 ≤ q → q ≤ s .counts .processors → PageInv words g o q (allCleared (s .clocks)) (s .pages) [] (γ .writer) (γ .last) (γ .last)
-  unfolding seen select wordAfter
-  emptied-page q h k =
-      record {
-        fresh-up = record { up = λ i j hi hj less e. absurd (nothing-stands i hi) };
-        dirty-applied = λ e. absurd (dirty e);
-        clean-copy = λ e. copy-is-last q h k;
-        dirty-twin = λ e. absurd (dirty e);
-        dirty-copy = λ e. absurd (dirty e);
-        writer-dirty = λ e. absurd (omega (arith, e, no-writer, h));
-        writer-copy = λ e. absurd (omega (arith, e, no-writer, h));
-      }
-    where
-      dirty : dirtyAt (s .pages) q g ≡ true → ⊥
-      dirty e = false≢true (sym (clean q h k) ∙ e)
-
   -- the records go, the clocks become zeros, and the value of the last write is the base
-  pub emptied-keeps : Inv words g o (emptied s) (collectedGhost γ)
-  unfolding collectedGhost emptied standing recordsOf hasArrived wordAfter
-  emptied-keeps =
-      record {
-        clocks =
-            record {
-              none-yet = λ e. nothing-stands;
-              informed = λ h k.
-                  record {
-                    covers-hits = λ e i hit. absurd (nothing-stands i hit);
-                    bounded = λ i hit. absurd (nothing-stands i hit);
-                    downward = λ i j hit. absurd (nothing-stands i hit);
-                  };
-              rising = record { rises = λ i j hit. absurd (nothing-stands i hit) };
-              writer-present = λ e. absurd (e no-writer);
-              writer-knows = λ e. absurd (e no-writer);
-              others-behind = λ e. absurd (e no-writer);
-            };
-        page = emptied-page;
-        closed-value = λ e. refl;
-        arrived-clean = inv .arrived-clean;
-      }
+  emptied-keeps : Inv words g o (emptied s) (collectedGhost γ)
+  unfolding collectedGhost emptied standing recordsOf
+  emptied-keeps = inv-without-records words g o (emptied s) (collectedGhost γ) refl no-writer refl clean copy-is-last
 
 -- ---- the fetches
 
@@ -93,10 +55,6 @@ abbrev Current : State → ℕ → ℕ → Type 0
 Current s q g = clockOf (s .clocks) (Applied q g) ≡ clockOf (s .clocks) (Processor q)
 
 module _ (lim : Limits) (s : State) (p g₁ : ℕ) where
-  fetch-makes-current : Current (fetched lim s p g₁) p g₁
-  unfolding sameHolder clock
-  fetch-makes-current = fetched-applied lim s p g₁ ∙ sym (fetched-clock lim s p g₁ (Processor p) refl)
-
   fetch-keeps-current : (q g : ℕ) → Current s q g → Current (fetched lim s p g₁) q g
   unfolding sameHolder
   fetch-keeps-current q g e = go (ℕ-discrete q p) (ℕ-discrete g g₁)
@@ -105,7 +63,7 @@ module _ (lim : Limits) (s : State) (p g₁ : ℕ) where
       other d = fetched-applied-elsewhere lim s p g₁ q g d ∙ e ∙ sym (fetched-clock lim s p g₁ (Processor q) refl)
 
       go : Dec (q ≡ p) → Dec (g ≡ g₁) → Current (fetched lim s p g₁) q g
-      go (yes a) (yes b) = rw (a, b) fetch-makes-current
+      go (yes a) (yes b) = rw (a, b) (fetched-current lim s p g₁)
       go (yes a) (no b) = other (λ x y. b y)
       go (no a) b = other (λ x y. a x)
 
@@ -120,7 +78,7 @@ pages-make-current lim s p zero g h = absurd (omega arith)
 pages-make-current lim s p (suc k) g h = go (ℕ-discrete g k) (pages-make-current lim s p k g)
   where
     go : Dec (g ≡ k) → (g < k → Current (pagesFetched lim s p k .after) p g) → Current (fetched lim (pagesFetched lim s p k .after) p k) p g
-    go (yes e) r = rw e (fetch-makes-current lim (pagesFetched lim s p k .after) p k)
+    go (yes e) r = rw e (fetched-current lim (pagesFetched lim s p k .after) p k)
     go (no e) r = fetch-keeps-current lim (pagesFetched lim s p k .after) p k p g (r (omega arith))
 
 -- the first n processors have every page current
@@ -154,18 +112,6 @@ module _ (lim : Limits) (n : Counts) (g o : ℕ) (γ : Ghost) (in-page : o < lim
         clean = f .clean;
       }
 
-  pages-keep-all : (s : State) (p m : ℕ) → 1 ≤ p → p ≤ n .processors → m ≤ n .pages → Collecting s → Collecting (pagesFetched lim s p m .after)
-  unfolding pagesFetched
-  pages-keep-all s p zero h k l f = f
-  pages-keep-all s p (suc m) h k l f = fetch-keeps-all (pagesFetched lim s p m .after) p m h k l (pages-keep-all s p m h k (omega arith) f)
-
-  all-keep-all : (s : State) (m : ℕ) → m ≤ n .processors → Collecting s → Collecting (allFetched lim s m .after)
-  unfolding allFetched
-  all-keep-all s zero h f = f
-  all-keep-all s (suc m) h f =
-      pages-keep-all (allFetched lim s m .after) (suc m) (s .counts .pages) (omega arith) h (omega (arith, ap (λ (c : Counts). c .pages) (f .same-counts)))
-      (all-keep-all s m (omega arith) f)
-
 -- ---- collection
 
 module _ (lim : Limits) (g o : ℕ) (s : State) (γ : Ghost) (parts : Parts lim s) (in-page : o < lim .words) (inv : Inv (lim .words) g o s γ) (no-writer : γ .writer ≡ 0)
@@ -176,7 +122,9 @@ module _ (lim : Limits) (g o : ℕ) (s : State) (γ : Ghost) (parts : Parts lim 
 
   still : Collecting lim (s .counts) g o γ in-page after-fetches
   unfolding after-fetches
-  still = all-keep-all lim (s .counts) g o γ in-page s (s .counts .processors) (omega arith) (record { parts = parts; same-counts = refl; inv = inv; clean = clean })
+  still =
+      all-fetched-keep lim s (Collecting lim (s .counts) g o γ in-page) (fetch-keeps-all lim (s .counts) g o γ in-page)
+      (record { parts = parts; same-counts = refl; inv = inv; clean = clean })
 
   -- every clock covers the records that set the word, so none is left to fetch
   none-above : (q : ℕ) → 1 ≤ q → q ≤ after-fetches .counts .processors → (i : ℕ) → HitAt (lim .words) g o (standing after-fetches) i

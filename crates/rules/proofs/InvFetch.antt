@@ -1,92 +1,119 @@
--- The invariant under a fetch: the copy then has what every known interval stored. Assumes nothing.
+-- A fetch keeps the invariant: the copy then has what every known interval stored. Rests on Fetching and InvSame. Assumes nothing.
 use Prim.Native.Nat.{ℕ, _≤_, _<_}
 use native.Mathlib.Omega.{arith}
-use mathlib.Core.Path.{_≡_, sym, ap, _∙_, fun-ext}
-use mathlib.Core.Bool.{Bool, true, not, _&&_, and-eq-true-iff}
+use native.Mathlib.Decide.{ℕ-discrete}
+use native.Mathlib.Nat.{lt-of-not-le}
+use mathlib.Core.Path.{_≡_, refl, ap, _∙_}
+use mathlib.Core.Bool.{Bool, true, not}
 use mathlib.Core.List.{List}
-use lib.ListN.{length, getD}
-use lib.Dec.{ltb, eqb}
-use borrow.Author.Tests.{ltb-true, eqb-false, not-true, lt-ltb, ne-eqb}
+use lib.ListN.{getD}
 use Rattle.clock.specs.Clocks.{entryOf}
-use Rattle.rules.specs.State.{Limits, Counts, Holder, Processor, Applied, Clocks, clockOf, Pages, copyOf, twinOf, dirtyAt, Record, State, own, standing}
-use Rattle.rules.specs.InOrder.{recordAt}
-use Rattle.rules.specs.Fetch.{sumAt}
-use Rattle.rules.specs.Refusals.{known}
-use Rattle.rules.proofs.Slots.{standing-at, length-standing}
-use Rattle.rules.proofs.Facts.{InOrder}
-use Rattle.rules.proofs.WordOfRecords.{noRecord, nth, FreshUp}
-use Rattle.rules.proofs.FetchedWord.{above}
-use Rattle.rules.proofs.Invariant.{Knows, ClockInv, seen, PageInv}
-use Rattle.rules.proofs.InvMoves.{informed-same-sums}
+use Rattle.rules.specs.Tables.{select}
+use Rattle.rules.specs.State.{Limits, Counts, Holder, Processor, Lock, Barrier, Applied, Interval, clockOf, copyOf, twinOf, dirtyAt, Record, State, clock, own, standing, hasArrived}
+use Rattle.rules.specs.Fetch.{sumAt, appliedAll, withCopy, fetched}
+use Rattle.rules.proofs.Holders.{sameHolder}
+use Rattle.rules.proofs.Facts.{InOrder, whole-copy}
+use Rattle.rules.proofs.Everywhere.{entries-covered}
+use Rattle.rules.proofs.Ghosts.{Ghost}
+use Rattle.rules.proofs.WordOfRecords.{nth, wordAfter, HitAt, FreshUp}
+use Rattle.rules.proofs.FetchedWord.{above, fetched-copy, fetched-elsewhere, fetched-sum, fetched-clock, fetched-applied, fetched-applied-elsewhere, fetched-word}
+use Rattle.rules.proofs.Fetching.{nothing-pending-when-covered}
+use Rattle.rules.proofs.Invariant.{Knows, Covered, seen, PageInv, Inv}
+use Rattle.rules.proofs.InvSame.{interval-known, above-says, above-when, above-same, clock-inv-same, fresh-up-same, page-inv-same}
 
--- ---- records that stand in a state in order
+-- ---- what a fetch leaves as it was
 
-module _ (lim : Limits) (s : State) (ord : InOrder lim s) where
-  pub slots-enough : s .records .standing ≤ length (s .records .slots)
-  slots-enough = omega (arith, ord .sized .slots, ord .sized .few-standing)
+module _ (lim : Limits) (s : State) (p g₁ : ℕ) where
+  pub fetched-knower : (n : Counts) (h : Holder) → Knows n h → clockOf (fetched lim s p g₁ .clocks) h ≡ clockOf (s .clocks) h
+  unfolding Knows sameHolder
+  fetched-knower n (Processor q) k = fetched-clock lim s p g₁ (Processor q) refl
+  fetched-knower n (Lock l) k = fetched-clock lim s p g₁ (Lock l) refl
+  fetched-knower n Barrier k = fetched-clock lim s p g₁ Barrier refl
+  fetched-knower n (Applied q h) k = absurd k
+  fetched-knower n (Interval q i) k = absurd k
 
-  -- a standing record by its place
-  pub nth-standing : (i : ℕ) → i < length (standing s) → (i < s .records .standing) × (nth (standing s) i ≡ recordAt s i)
-  unfolding standing recordAt
-  nth-standing i h =
-      let k : i < s .records .standing = omega (arith, h, length-standing (s .records) slots-enough) in
-      (k, standing-at (s .records) i noRecord k slots-enough)
+-- where the applied clock is the processor's, a fetch changes no copy
+pub fetch-of-current : (lim : Limits) (s : State) (p g : ℕ) → ((q : ℕ) → entryOf (clockOf (s .clocks) (Applied p g)) q ≡ entryOf (clock s p) q)
+    → copyOf (fetched lim s p g .pages) p g ≡ copyOf (s .pages) p g
+unfolding appliedAll
+fetch-of-current lim s p g e =
+    fetched-copy lim s p g
+    ∙ ap (λ (rs : List Record). appliedAll (lim .words) rs (copyOf (s .pages) p g))
+    (nothing-pending-when-covered s p g (entries-covered (clockOf (s .clocks) (Applied p g)) (clock s p) (λ q. omega (arith, e q))))
 
-  pub interval-made : (i : ℕ) → i < length (standing s) → 1 ≤ nth (standing s) i .interval
-  interval-made i h = let e = nth-standing i h in rw (e .1) (ord .record-sound i (e .0) .some-interval)
+module _ (lim : Limits) (g o : ℕ) (s : State) (γ : Ghost) (ord : InOrder lim s) (in-page : o < lim .words) (inv : Inv (lim .words) g o s γ) where
+  -- records above the processor's own clock: a later one than an unknown one is unknown
+  unknown-up : (p : ℕ) → 1 ≤ p → p ≤ s .counts .processors → FreshUp (lim .words) g o (sumAt (s .clocks)) (above p (clock s p)) (standing s)
+  unfolding Knows clock own
+  unknown-up p h k = record { up = λ i j hi hj less e. later i j hi hj less (above-says p (clock s p) (nth (standing s) i) e) }
+    where
+      later : (i j : ℕ) → HitAt (lim .words) g o (standing s) i → HitAt (lim .words) g o (standing s) j
+          → sumAt (s .clocks) (nth (standing s) i) < sumAt (s .clocks) (nth (standing s) j)
+          → (nth (standing s) i .processor ≡ p → ⊥) × (entryOf (clock s p) (nth (standing s) i .processor) < nth (standing s) i .interval)
+          → above p (clock s p) (nth (standing s) j) ≡ true
+      later i j hi hj less e =
+          above-when p (clock s p) (nth (standing s) j) (λ q. not-covered (own-record q)) (lt-of-not-le not-covered)
+        where
+          not-covered : Covered (clock s p) (nth (standing s) j) → ⊥
+          not-covered v = omega (arith, e .1, inv .clocks .informed (Processor p) (h, k) .downward i j hi hj less v)
 
-  -- no clock knows of more intervals than were made
-  pub interval-known : (i : ℕ) → i < length (standing s) → nth (standing s) i .interval ≤ own s (nth (standing s) i .processor)
-  interval-known i h = let e = nth-standing i h in rw (e .1) (ord .record-sound i (e .0) .made-interval)
+          own-record : nth (standing s) j .processor ≡ p → Covered (clock s p) (nth (standing s) j)
+          own-record q = rw q (rw q at (interval-known lim s ord j (hj .within)))
 
--- ---- what a record above a clock is
-
-pub above-says : (p : ℕ) (v : List ℕ) (r : Record) → above p v r ≡ true → (r .processor ≡ p → ⊥) × (entryOf v (r .processor) < r .interval)
-unfolding above
-above-says p v r e =
-    let t = and-eq-true-iff (not (eqb (r .processor) p)) (ltb (entryOf v (r .processor)) (r .interval)) .0 e in
-    (eqb-false (r .processor) p (not-true (eqb (r .processor) p) (t .0)), ltb-true (entryOf v (r .processor)) (r .interval) (t .1))
-
-pub above-when : (p : ℕ) (v : List ℕ) (r : Record) → (r .processor ≡ p → ⊥) → entryOf v (r .processor) < r .interval → above p v r ≡ true
-unfolding above
-above-when p v r d l = rw (ne-eqb (r .processor) p d, lt-ltb (entryOf v (r .processor)) (r .interval) l)
-
--- clocks with the same entries
-pub above-same : (p : ℕ) (v u : List ℕ) → ((q : ℕ) → entryOf v q ≡ entryOf u q) → above p v ≡ above p u
-unfolding above
-above-same p v u e = fun-ext (λ (r : Record). ap (λ (x : ℕ). not (eqb (r .processor) p) && ltb x (r .interval)) (e (r .processor)))
-
-module _ (words g o : ℕ) where
-  -- ---- clocks that agree where the invariant looks
-
-  pub clock-inv-same : (n : Counts) (c d : Clocks) (l : List Record) (writes writer : ℕ) (known : Holder → ℕ) → ((h : Holder) → Knows n h → clockOf d h ≡ clockOf c h)
-      → ((r : Record) → sumAt d r ≡ sumAt c r) → ClockInv words g o n c l writes writer known → ClockInv words g o n d l writes writer known
-  clock-inv-same n c d l writes writer known clocks sums inv =
+  -- the page that is fetched
+  fetched-page : (p : ℕ) → 1 ≤ p → p ≤ s .counts .processors → g < s .counts .pages
+      → PageInv (lim .words) g o p (s .clocks) (s .pages) (standing s) (γ .writer) (γ .last) (γ .base)
+      → PageInv (lim .words) g o p (fetched lim s p g .clocks) (fetched lim s p g .pages) (standing s) (γ .writer) (γ .last) (γ .base)
+  unfolding seen Knows clock clockOf fetched withCopy dirtyAt twinOf
+  fetched-page p h k l old =
       record {
-        none-yet = inv .none-yet;
-        informed = λ h k. informed-same-sums words g o c d l writes (clockOf d h) (known h) sums (rw (clocks h k) (inv .informed h k));
-        rising = record { rises = λ i j hi hj less. omega (arith, sums (nth l i), sums (nth l j), inv .rising .rises i j hi hj less) };
-        writer-present = inv .writer-present;
-        writer-knows = inv .writer-knows;
-        others-behind = inv .others-behind;
+        fresh-up = rw (fetched-applied lim s p g) (fresh-up-same (lim .words) g o (s .clocks) (fetched lim s p g .clocks) (above p (clock s p)) (standing s) (fetched-sum lim s p g) (unknown-up p h k));
+        dirty-applied = λ e q. rw (fetched-applied lim s p g, own-clock) refl;
+        clean-copy = λ e. rw (fetched-applied lim s p g)
+            (fetched-word lim s p g o (γ .base) (rw (whole-copy lim s ord p g h k l) in-page)
+            (inv .clocks .rising) (old .fresh-up) (λ q. ord .applied-known p g q) (old .clean-copy e));
+        dirty-twin = λ e. rw (fetched-applied lim s p g) (old .dirty-twin e ∙ seen-stays e);
+        dirty-copy = λ e d. rw (fetched-applied lim s p g) (ap (λ (page : List ℕ). getD page o 0) (copy-stays e) ∙ old .dirty-copy e d ∙ seen-stays e);
+        writer-dirty = λ e. old .writer-dirty e;
+        writer-copy = λ e. ap (λ (page : List ℕ). getD page o 0) (copy-stays (old .writer-dirty e)) ∙ old .writer-copy e;
       }
+    where
+      own-clock : clockOf (fetched lim s p g .clocks) (Processor p) ≡ clock s p
+      own-clock = fetched-knower lim s p g (s .counts) (Processor p) (h, k)
 
-  pub fresh-up-same : (c d : Clocks) (f : Record → Bool) (l : List Record) → ((r : Record) → sumAt d r ≡ sumAt c r) → FreshUp words g o (sumAt c) f l → FreshUp words g o (sumAt d) f l
-  fresh-up-same c d f l sums u = record { up = λ i j hi hj less e. u .up i j hi hj (omega (arith, less, sums (nth l i), sums (nth l j))) e }
+      seen-stays : dirtyAt (s .pages) p g ≡ true
+          → wordAfter (lim .words) g o (select (λ (r : Record). not (above p (clockOf (s .clocks) (Applied p g)) r)) (standing s)) (γ .base)
+          ≡ wordAfter (lim .words) g o (select (λ (r : Record). not (above p (clock s p) r)) (standing s)) (γ .base)
+      seen-stays e =
+          ap (λ (f : Record → Bool). wordAfter (lim .words) g o (select (λ (r : Record). not (f r)) (standing s)) (γ .base))
+          (above-same p (clockOf (s .clocks) (Applied p g)) (clock s p) (old .dirty-applied e))
 
-  -- a page of which clocks, word and mark stay
-  pub page-inv-same : (p : ℕ) (c d : Clocks) (m n : Pages) (l : List Record) (writer last base : ℕ) → ((r : Record) → sumAt d r ≡ sumAt c r)
-      → clockOf d (Applied p g) ≡ clockOf c (Applied p g) → clockOf d (Processor p) ≡ clockOf c (Processor p)
-      → getD (copyOf n p g) o 0 ≡ getD (copyOf m p g) o 0 → getD (twinOf n p g) o 0 ≡ getD (twinOf m p g) o 0 → dirtyAt n p g ≡ dirtyAt m p g
-      → PageInv words g o p c m l writer last base → PageInv words g o p d n l writer last base
-  unfolding seen
-  page-inv-same p c d m n l writer last base sums ea ep ec et ed inv =
+      copy-stays : dirtyAt (s .pages) p g ≡ true → copyOf (fetched lim s p g .pages) p g ≡ copyOf (s .pages) p g
+      copy-stays e = fetch-of-current lim s p g (old .dirty-applied e)
+
+  -- a page that is not fetched
+  untouched : (p g₁ q : ℕ) → 1 ≤ q → q ≤ s .counts .processors → clockOf (fetched lim s p g₁ .clocks) (Applied q g) ≡ clockOf (s .clocks) (Applied q g)
+      → copyOf (fetched lim s p g₁ .pages) q g ≡ copyOf (s .pages) q g
+      → PageInv (lim .words) g o q (fetched lim s p g₁ .clocks) (fetched lim s p g₁ .pages) (standing s) (γ .writer) (γ .last) (γ .base)
+  unfolding Knows fetched withCopy dirtyAt twinOf
+  untouched p g₁ q h k ea ec =
+      page-inv-same (lim .words) g o q (s .clocks) (fetched lim s p g₁ .clocks) (s .pages) (fetched lim s p g₁ .pages) (standing s) (γ .writer) (γ .last) (γ .base)
+      (fetched-sum lim s p g₁) ea (λ e. fetched-knower lim s p g₁ (s .counts) (Processor q) (h, k)) (ap (λ (page : List ℕ). getD page o 0) ec) refl refl (inv .page q h k)
+
+  pub fetch-keeps : (p g₁ : ℕ) → 1 ≤ p → p ≤ s .counts .processors → g₁ < s .counts .pages → Inv (lim .words) g o (fetched lim s p g₁) γ
+  unfolding standing fetched hasArrived withCopy dirtyAt
+  fetch-keeps p g₁ h k l =
       record {
-        fresh-up = rw ea (fresh-up-same c d (above p (clockOf c (Applied p g))) l sums (inv .fresh-up));
-        dirty-applied = λ e q. rw (ea, ep) (inv .dirty-applied (sym ed ∙ e) q);
-        clean-copy = λ e. rw ea (ec ∙ inv .clean-copy (sym ed ∙ e));
-        dirty-twin = λ e. rw ea (et ∙ inv .dirty-twin (sym ed ∙ e));
-        dirty-copy = λ e k. rw ea (ec ∙ inv .dirty-copy (sym ed ∙ e) k);
-        writer-dirty = λ e. ed ∙ inv .writer-dirty e;
-        writer-copy = λ e. ec ∙ inv .writer-copy e;
+        clocks = clock-inv-same (lim .words) g o (s .counts) (s .clocks) (fetched lim s p g₁ .clocks) (standing s) (γ .writes) (γ .writer) (γ .known)
+            (fetched-knower lim s p g₁ (s .counts)) (fetched-sum lim s p g₁) (inv .clocks);
+        page = λ q hq kq. go q hq kq (ℕ-discrete q p) (ℕ-discrete g g₁);
+        closed-value = inv .closed-value;
+        arrived-clean = inv .arrived-clean;
       }
+    where
+      go : (q : ℕ) → 1 ≤ q → q ≤ s .counts .processors → Dec (q ≡ p) → Dec (g ≡ g₁)
+          → PageInv (lim .words) g o q (fetched lim s p g₁ .clocks) (fetched lim s p g₁ .pages) (standing s) (γ .writer) (γ .last) (γ .base)
+      go q hq kq (yes e) (yes d) = rw (e, ← d) (fetched-page p h k (rw d l) (inv .page p h k))
+      go q hq kq (yes e) (no d) =
+          rw e (untouched p g₁ p h k (fetched-applied-elsewhere lim s p g₁ p g (λ a b. d b)) (fetched-elsewhere lim s p g₁ p g (λ a b. d b)))
+      go q hq kq (no e) d = untouched p g₁ q hq kq (fetched-applied-elsewhere lim s p g₁ q g (λ a b. e a)) (fetched-elsewhere lim s p g₁ q g (λ a b. e a))

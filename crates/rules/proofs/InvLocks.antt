@@ -1,4 +1,4 @@
--- Acquiring and releasing a lock keep the invariant, where closing keeps it. Assumes nothing.
+-- Acquiring and releasing a lock keep the invariant, where closing keeps it. Rests on KeptClose and InvMoves. Assumes nothing.
 use Prim.Native.Nat.{ℕ, _≤_, _<_, max}
 use native.Mathlib.Omega.{arith}
 use mathlib.Core.Path.{_≡_, refl, sym, _∙_}
@@ -10,18 +10,19 @@ use Rattle.rules.specs.Close.{closed}
 use Rattle.rules.specs.Steps.{withHolder, learned, acquire, release}
 use Rattle.rules.specs.Refusals.{Acquire, Release, effect}
 use Rattle.rules.proofs.Holders.{sameHolder}
+use Rattle.rules.proofs.KeptClose.{closed-clean}
 use Rattle.rules.proofs.KeptFetch.{withClocks, withMarks}
-use Rattle.rules.proofs.Ghosts.{Ghost, writerClosed, closedGhost, ghostAfter}
+use Rattle.rules.proofs.Ghosts.{Ghost, writerClosed, closedGhost, ghostAfter, writer-was}
 use Rattle.rules.proofs.Invariant.{Knows, Inv}
-use Rattle.rules.proofs.InvMoves.{informed-by-join}
-use Rattle.rules.proofs.InvMoved.{closed-clean, closed-no-writer, withKnown, clock-move-keeps}
+use Rattle.rules.proofs.InvClocks.{informed-by-join}
+use Rattle.rules.proofs.InvMoves.{withKnown, clock-move-keeps}
 
 module _ (lim : Limits) (g o : ℕ) (s : State) (γ : Ghost) (p : ℕ) (from : 1 ≤ p) (to : p ≤ s .counts .processors)
     (closing : Inv (lim .words) g o (closed s p) (closedGhost γ p)) where
   -- a processor with stores that no interval has yet is not p
   pub closer-is-other : sameHolder (Processor (writerClosed γ p)) (Processor p) ≡ false
   unfolding sameHolder
-  closer-is-other = ne-eqb p (writerClosed γ p) (λ e. closed-no-writer γ p from (sym e))
+  closer-is-other = ne-eqb p (writerClosed γ p) (λ e. writer-was γ p p from (sym e) .1 refl)
 
   -- where there is one, p does not know of all writes
   pub closer-behind : (writerClosed γ p ≡ 0 → ⊥) → γ .known (Processor p) < γ .writes

@@ -1,133 +1,67 @@
--- The invariant under moves of clocks: one holder's clock is copied, joined or cleared. Assumes nothing.
-use Prim.Native.Nat.{ℕ, _≤_, _<_, max}
-use native.Mathlib.Numerals.{bound}
-use native.Mathlib.Omega.{arith}
-use native.Mathlib.Decide.{decLe, ℕ-discrete}
-use mathlib.Core.Path.{_≡_, refl, sym, ap}
-use mathlib.Core.Bool.{Bool, true, false, cond}
-use mathlib.Core.Logic.{_⊎_, inl, inr}
+-- A move of one clock keeps the invariant: one holder's clock is replaced and the marks change, the pages and records stay. Rests on
+-- KeptFetch and InvSame. Assumes nothing.
+use Prim.Native.Nat.{ℕ, _≤_, _<_}
+use mathlib.Core.Path.{_≡_, refl, sym, _∙_}
+use mathlib.Core.Bool.{Bool, true, false, false≢true}
 use mathlib.Core.List.{List}
-use lib.ListN.{length}
-use Rattle.clock.specs.Clocks.{joined, entryOf, sumOf}
-use Rattle.clock.proofs.Laws.{join-covers-left, join-covers-right, entryOf-joined, sum-covered}
-use Rattle.rules.specs.State.{Counts, Holder, Processor, Lock, Barrier, Applied, Interval, Clocks, clockOf, withClock, cleared, Record, holder}
+use Rattle.rules.specs.State.{Holder, Processor, clockOf, withClock, dirtyAt, Record, Marks, State, standing, hasArrived}
 use Rattle.rules.specs.Fetch.{sumAt}
-use Rattle.rules.specs.Refusals.{known}
-use Rattle.rules.proofs.Holders.{sameHolder, same-holder-refl, same-holder, clock-of-with, clock-of-with-other, entry-cleared}
-use Rattle.rules.proofs.Ghosts.{withNumber}
-use Rattle.rules.proofs.WordOfRecords.{nth, HitAt}
-use Rattle.rules.proofs.Invariant.{Knows, Covered, Informed, ClockInv}
+use Rattle.rules.proofs.Holders.{sameHolder, clock-of-with-other}
+use Rattle.rules.proofs.KeptParts.{arrivedIn}
+use Rattle.rules.proofs.KeptFetch.{withClocks, withMarks}
+use Rattle.rules.proofs.Ghosts.{Ghost, withNumber}
+use Rattle.rules.proofs.Invariant.{Knows, Informed, Inv}
+use Rattle.rules.proofs.InvClocks.{sum-at-with, applied-with, clock-moved}
+use Rattle.rules.proofs.InvSame.{page-inv-same}
+
+-- the counts with other numbers of known writes
+unfoldable pub withKnown : Ghost → (Holder → ℕ) → Ghost
+withKnown γ f = record { writes = γ .writes; last = γ .last; base = γ .base; writer = γ .writer; known = f }
 
 module _ (words g o : ℕ) where
-  -- ---- what each kind of move makes of clocks that are informed
-
-  pub informed-by-join : (c : Clocks) (l : List Record) (writes : ℕ) (a b : List ℕ) (j k : ℕ) → j ≤ writes → k ≤ writes
-      → Informed words g o c l writes a j → Informed words g o c l writes b k → Informed words g o c l writes (joined a b) (max j k)
-  informed-by-join c l writes a b j k hj hk p q =
+  -- the numbers matter only at holders whose clocks carry news
+  pub inv-same-numbers : (s : State) (γ : Ghost) (f : Holder → ℕ) → ((h : Holder) → Knows (s .counts) h → f h ≡ γ .known h)
+      → Inv words g o s γ → Inv words g o s (withKnown γ f)
+  unfolding withKnown Knows
+  inv-same-numbers s γ f same inv =
       record {
-        covers-hits = λ e i h. all-hits e i h;
-        bounded = λ i h v. bound i h (either i v);
-        downward = λ i₁ i₂ h₁ h₂ less v. down i₁ i₂ h₁ h₂ less (either i₂ v);
-      }
-    where
-      left : (i : ℕ) → Covered a (nth l i) → Covered (joined a b) (nth l i)
-      left i v = omega (arith, v, entryOf-joined a b (nth l i .processor))
-
-      right : (i : ℕ) → Covered b (nth l i) → Covered (joined a b) (nth l i)
-      right i v = omega (arith, v, entryOf-joined a b (nth l i .processor))
-
-      either : (i : ℕ) → Covered (joined a b) (nth l i) → Covered a (nth l i) ⊎ Covered b (nth l i)
-      either i v = go (decLe (nth l i .interval) (entryOf a (nth l i .processor)))
-        where
-          go : Dec (nth l i .interval ≤ entryOf a (nth l i .processor)) → Covered a (nth l i) ⊎ Covered b (nth l i)
-          go (yes h) = inl h
-          go (no h) = inr (omega (arith, v, h, entryOf-joined a b (nth l i .processor)))
-
-      all-hits : max j k ≡ writes → (i : ℕ) → HitAt words g o l i → Covered (joined a b) (nth l i)
-      all-hits e i h = go (ℕ-discrete j writes)
-        where
-          go : Dec (j ≡ writes) → Covered (joined a b) (nth l i)
-          go (yes d) = left i (p .covers-hits d i h)
-          go (no d) = right i (q .covers-hits (omega (arith, e, d)) i h)
-
-      bound : (i : ℕ) → HitAt words g o l i → Covered a (nth l i) ⊎ Covered b (nth l i) → sumAt c (nth l i) ≤ sumOf (joined a b)
-      bound i h (inl v) = omega (arith, p .bounded i h v, sum-covered (joined a b) a (join-covers-left a b))
-      bound i h (inr v) = omega (arith, q .bounded i h v, sum-covered (joined a b) b (join-covers-right a b))
-
-      down : (i₁ i₂ : ℕ) → HitAt words g o l i₁ → HitAt words g o l i₂ → sumAt c (nth l i₁) < sumAt c (nth l i₂) → Covered a (nth l i₂) ⊎ Covered b (nth l i₂) → Covered (joined a b) (nth l i₁)
-      down i₁ i₂ h₁ h₂ less (inl v) = left i₁ (p .downward i₁ i₂ h₁ h₂ less v)
-      down i₁ i₂ h₁ h₂ less (inr v) = right i₁ (q .downward i₁ i₂ h₁ h₂ less v)
-
-  -- a cleared clock covers no record, and there is none while there is no write
-  pub informed-when-cleared : (c : Clocks) (l : List Record) (writes : ℕ) (v : List ℕ) → (writes ≡ 0 → (i : ℕ) → HitAt words g o l i → ⊥)
-      → ((i : ℕ) → i < length l → 1 ≤ nth l i .interval) → Informed words g o c l writes (cleared v) 0
-  informed-when-cleared c l writes v none-yet made =
-      record {
-        covers-hits = λ e i h. absurd (none-yet (sym e) i h);
-        bounded = λ i h k. absurd (omega (arith, k, made i (h .within), entry-cleared v (nth l i .processor)));
-        downward = λ i j h₁ h₂ less k. absurd (omega (arith, k, made j (h₂ .within), entry-cleared v (nth l j .processor)));
+        clocks =
+            record {
+              none-yet = inv .clocks .none-yet;
+              informed = λ h k. rw (same h k) (inv .clocks .informed h k);
+              rising = inv .clocks .rising;
+              writer-present = inv .clocks .writer-present;
+              writer-knows = λ e. same (Processor (γ .writer)) (inv .clocks .writer-present e) ∙ inv .clocks .writer-knows e;
+              others-behind = λ e h k d. rw (same h k) (inv .clocks .others-behind e h k d);
+            };
+        page = inv .page;
+        closed-value = inv .closed-value;
+        arrived-clean = inv .arrived-clean;
       }
 
-  -- ---- one holder's clock replaced
+  module _ (s : State) (γ : Ghost) (inv : Inv words g o s γ) where
+    -- holder h gets the clock v, with its number k; the page of a processor that gets one is clean
+    pub clock-move-keeps : (h : Holder) (v : List ℕ) (k : ℕ) (marks : Marks) → Knows (s .counts) h
+        → Informed words g o (s .clocks) (standing s) (γ .writes) v k
+        → ((γ .writer ≡ 0 → ⊥) → sameHolder (Processor (γ .writer)) h ≡ true → k ≡ γ .writes)
+        → ((γ .writer ≡ 0 → ⊥) → sameHolder (Processor (γ .writer)) h ≡ false → k < γ .writes)
+        → ((q : ℕ) → sameHolder h (Processor q) ≡ true → dirtyAt (s .pages) q g ≡ false)
+        → ((q : ℕ) → 1 ≤ q → q ≤ s .counts .processors → arrivedIn marks q ≡ true → dirtyAt (s .pages) q g ≡ false)
+        → Inv words g o (withMarks (withClocks s (withClock (s .clocks) h v)) marks) (withKnown γ (withNumber (γ .known) h k))
+    unfolding withMarks withClocks withKnown standing hasArrived
+    clock-move-keeps h v k marks there new mine behind clean arrived =
+        record {
+          clocks = clock-moved words g o (s .counts) (s .clocks) (standing s) (γ .writes) (γ .writer) (γ .known) h v k (inv .clocks) there new mine behind;
+          page = λ q hq kq.
+              page-inv-same words g o q (s .clocks) (withClock (s .clocks) h v) (s .pages) (s .pages) (standing s) (γ .writer) (γ .last) (γ .base) sums
+              (applied-with words g o (s .counts) (s .clocks) h v q g there) (own-clock q (sameHolder h (Processor q)) refl) refl refl refl (inv .page q hq kq);
+          closed-value = inv .closed-value;
+          arrived-clean = arrived;
+        }
+      where
+        sums : (r : Record) → sumAt (withClock (s .clocks) h v) r ≡ sumAt (s .clocks) r
+        sums r = sum-at-with words g o (s .counts) (s .clocks) h v r there
 
-  -- the sums of the intervals' clocks do not change
-  pub sum-at-with : (n : Counts) (c : Clocks) (h : Holder) (v : List ℕ) (r : Record) → Knows n h → sumAt (withClock c h v) r ≡ sumAt c r
-  unfolding sumAt Knows sameHolder
-  sum-at-with n c (Processor p) v r k = ap sumOf (clock-of-with-other c (Processor p) v (Interval (r .processor) (r .interval)) refl)
-  sum-at-with n c (Lock l) v r k = ap sumOf (clock-of-with-other c (Lock l) v (Interval (r .processor) (r .interval)) refl)
-  sum-at-with n c Barrier v r k = ap sumOf (clock-of-with-other c Barrier v (Interval (r .processor) (r .interval)) refl)
-  sum-at-with n c (Applied p g) v r k = absurd k
-  sum-at-with n c (Interval p i) v r k = absurd k
-
-  -- nor does an applied clock
-  pub applied-with : (n : Counts) (c : Clocks) (h : Holder) (v : List ℕ) (p g₁ : ℕ) → Knows n h → clockOf (withClock c h v) (Applied p g₁) ≡ clockOf c (Applied p g₁)
-  unfolding Knows sameHolder
-  applied-with n c (Processor q) v p g₁ k = clock-of-with-other c (Processor q) v (Applied p g₁) refl
-  applied-with n c (Lock l) v p g₁ k = clock-of-with-other c (Lock l) v (Applied p g₁) refl
-  applied-with n c Barrier v p g₁ k = clock-of-with-other c Barrier v (Applied p g₁) refl
-  applied-with n c (Applied q h) v p g₁ k = absurd k
-  applied-with n c (Interval q i) v p g₁ k = absurd k
-
-  -- clocks that agree on the intervals inform alike
-  pub informed-same-sums : (c d : Clocks) (l : List Record) (writes : ℕ) (v : List ℕ) (k : ℕ) → ((r : Record) → sumAt d r ≡ sumAt c r)
-      → Informed words g o c l writes v k → Informed words g o d l writes v k
-  informed-same-sums c d l writes v k same p =
-      record {
-        covers-hits = p .covers-hits;
-        bounded = λ i h w. omega (arith, same (nth l i), p .bounded i h w);
-        downward = λ i j h₁ h₂ less w. p .downward i j h₁ h₂ (omega (arith, less, same (nth l i), same (nth l j))) w;
-      }
-
-  -- the invariant of the clocks, with holder h's clock v and its number k
-  pub clock-moved : (n : Counts) (c : Clocks) (l : List Record) (writes writer : ℕ) (known : Holder → ℕ) (h : Holder) (v : List ℕ) (k : ℕ)
-      → ClockInv words g o n c l writes writer known → Knows n h → Informed words g o c l writes v k
-      → ((writer ≡ 0 → ⊥) → sameHolder (Processor writer) h ≡ true → k ≡ writes)
-      → ((writer ≡ 0 → ⊥) → sameHolder (Processor writer) h ≡ false → k < writes)
-      → ClockInv words g o n (withClock c h v) l writes writer (withNumber known h k)
-  unfolding withNumber
-  clock-moved n c l writes writer known h v k inv there new mine behind =
-      record {
-        none-yet = inv .none-yet;
-        informed = λ x kx. informed-same-sums c (withClock c h v) l writes (clockOf (withClock c h v) x) (cond (sameHolder h x) k (known x)) same
-            (holder x kx (sameHolder h x) refl);
-        rising = record { rises = λ i j hi hj less. omega (arith, same (nth l i), same (nth l j), inv .rising .rises i j hi hj less) };
-        writer-present = inv .writer-present;
-        writer-knows = λ some-writer. own-number some-writer (sameHolder h (Processor writer)) refl;
-        others-behind = λ some-writer x kx other. other-number some-writer x kx other (sameHolder h x) refl;
-      }
-    where
-      same : (r : Record) → sumAt (withClock c h v) r ≡ sumAt c r
-      same r = sum-at-with n c h v r there
-
-      holder : (x : Holder) → Knows n x → (b : Bool) → sameHolder h x ≡ b → Informed words g o c l writes (clockOf (withClock c h v) x) (cond (sameHolder h x) k (known x))
-      holder x kx true e = rw (clock-of-with c h v x, e) new
-      holder x kx false e = rw (clock-of-with c h v x, e) (inv .informed x kx)
-
-      own-number : (writer ≡ 0 → ⊥) → (b : Bool) → sameHolder h (Processor writer) ≡ b → cond (sameHolder h (Processor writer)) k (known (Processor writer)) ≡ writes
-      own-number some-writer true e =
-          rw e (mine some-writer (rw (same-holder h (Processor writer) e) (same-holder-refl (Processor writer))))
-      own-number some-writer false e = rw e (inv .writer-knows some-writer)
-
-      other-number : (writer ≡ 0 → ⊥) → (x : Holder) → Knows n x → sameHolder (Processor writer) x ≡ false → (b : Bool) → sameHolder h x ≡ b → cond (sameHolder h x) k (known x) < writes
-      other-number some-writer x kx other true e = rw e (behind some-writer (rw (same-holder h x e) other))
-      other-number some-writer x kx other false e = rw e (inv .others-behind some-writer x kx other)
+        own-clock : (q : ℕ) (b : Bool) → sameHolder h (Processor q) ≡ b → dirtyAt (s .pages) q g ≡ true → clockOf (withClock (s .clocks) h v) (Processor q) ≡ clockOf (s .clocks) (Processor q)
+        own-clock q true e d = absurd (false≢true (sym (clean q e) ∙ d))
+        own-clock q false e d = clock-of-with-other (s .clocks) h v (Processor q) e

@@ -1,127 +1,56 @@
--- The invariant at every time of a run whose writes to w are ordered. Assumes nothing.
-use Prim.Native.Nat.{ℕ, zero, suc, _*_, _≤_, _<_}
+-- The invariant at every time of a run whose writes to w are ordered. Rests on NumbersFollow, WordsFit, InvWrite, InvArrive and InvClose.
+-- Assumes nothing.
+use Prim.Native.Nat.{ℕ, zero, suc, _≤_, _<_}
 use native.Mathlib.Omega.{arith}
 use native.Mathlib.Decide.{ℕ-discrete}
 use native.Mathlib.Nat.{mod-lt}
 use mathlib.Core.Path.{_≡_, refl, sym, ap, _∙_, subst}
-use mathlib.Core.Bool.{Bool, true, false, and-eq-true-iff, false≢true}
+use mathlib.Core.Bool.{false, false≢true}
 use mathlib.Core.Logic.{inl, inr}
 use mathlib.Core.List.{List}
-use lib.ListN.{length, getD}
-use lib.Dec.{ltb, eqb}
-use borrow.Author.Tests.{ltb-true, eqb-true, eq-eqb, ne-eqb}
+use lib.ListN.{length}
+use borrow.Author.Tests.{eq-eqb, ne-eqb}
 use Rattle.clock.specs.Clocks.{entryOf}
-use Rattle.rules.specs.Tables.{select}
-use Rattle.rules.specs.State.{Limits, Counts, Processor, Applied, clockOf, copyOf, dirtyAt, recordsOf, State, clock, standing, hasArrived}
+use Rattle.rules.specs.State.{Limits, Counts, Processor, Applied, clockOf, copyOf, recordsOf, State, standing, hasArrived}
 use Rattle.rules.specs.Opening.{opened}
 use Rattle.rules.specs.Close.{closed}
-use Rattle.rules.specs.Fetch.{earlier, fetched}
+use Rattle.rules.specs.Fetch.{fetched}
 use Rattle.rules.specs.Steps.{pageOfWord, offsetOfWord, read, write, want}
-use Rattle.rules.specs.Refusals.{Step, Action, Read, Write, Acquire, Release, Arrive, Want, Unknown, actionOf, known, fits, refusalInOrder, effect}
+use Rattle.rules.specs.Refusals.{Action, Read, Write, Acquire, Release, Arrive, Want, Unknown, known, effect}
 use Rattle.rules.specs.Order.{Event, eventAt, Took, Before, program, Ordered}
 use Rattle.rules.specs.Demand.{valueField, EarlierWrite}
+use Rattle.rules.proofs.Facts.{whole-copy}
 use Rattle.rules.proofs.OpenedInOrder.{opened-word, opened-clean}
-use Rattle.rules.proofs.Accepted.{Accepted, accepted-says}
+use Rattle.rules.proofs.Accepted.{Accepted, read-on-page, write-on-page, acquire-there, release-there}
 use Rattle.rules.proofs.Timeline.{Timeline, Moment, Refused, Taken, moment, counts-stay}
 use Rattle.rules.proofs.Ghosts.{Ghost, noGhost, closedGhost, ghostAfter, ghostAt, ghost-refused, ghost-taken}
 use Rattle.rules.proofs.StrictOrder.{before-goes-forward}
+use Rattle.rules.proofs.ActionKinds.{write-no-acquire}
 use Rattle.rules.proofs.Allowed.{Allowed, took-allowed}
-use Rattle.rules.proofs.NumbersAfter.{writer-knows}
 use Rattle.rules.proofs.Numbers.{knowing, known-at-most-writes}
 use Rattle.rules.proofs.NumbersFollow.{knows-all-writes}
-use Rattle.rules.proofs.WordOfRecords.{wordAfter, HitAt}
-use Rattle.rules.proofs.FetchedWord.{fetched-length}
-use Rattle.rules.proofs.Invariant.{Knows, seen, Inv}
-use Rattle.rules.proofs.InvFetched.{fetched-applied, fetched-knower, fetch-keeps}
-use Rattle.rules.proofs.InvWritten.{page-opened, store-elsewhere-keeps, store-there-keeps}
-use Rattle.rules.proofs.InvLocks.{acquire-keeps, release-keeps}
-use Rattle.rules.proofs.InvArrived.{arrive-keeps}
-use Rattle.rules.proofs.InvClosing.{close-keeps}
+use Rattle.rules.proofs.FetchedWord.{fetched-length, fetched-current}
 use Rattle.rules.proofs.WordsFit.{words-fit}
+use Rattle.rules.proofs.Invariant.{Inv}
+use Rattle.rules.proofs.InvEmpty.{inv-without-records}
+use Rattle.rules.proofs.InvFetch.{fetch-keeps}
+use Rattle.rules.proofs.InvWrite.{store-elsewhere-keeps, store-there-keeps}
+use Rattle.rules.proofs.InvLocks.{acquire-keeps, release-keeps}
+use Rattle.rules.proofs.InvArrive.{arrive-keeps}
+use Rattle.rules.proofs.InvClose.{close-keeps}
 
 -- ---- at the opening
 
 opened-inv : (lim : Limits) (c : Counts) (g o : ℕ) → Inv (lim .words) g o (opened lim c) noGhost
-unfolding seen wordAfter select standing recordsOf opened hasArrived
+unfolding standing recordsOf opened
 opened-inv lim c g o =
-    record {
-      clocks = record {
-        none-yet = λ z i h. no-hit i h;
-        informed = λ x kx. record {
-          covers-hits = λ z i h. absurd (no-hit i h);
-          bounded = λ i h v. absurd (no-hit i h);
-          downward = λ i j h v less x. absurd (no-hit i h);
-        };
-        rising = record { rises = λ i j h v less. absurd (no-hit i h) };
-        writer-present = λ z. absurd (z refl);
-        writer-knows = λ z. absurd (z refl);
-        others-behind = λ z. absurd (z refl);
-      };
-      page = λ p hp kp. record {
-        fresh-up = record { up = λ i j h v less e. absurd (no-hit i h) };
-        dirty-applied = λ e. absurd (false≢true (sym (clean p) ∙ e));
-        clean-copy = λ e. zero-word p;
-        dirty-twin = λ e. absurd (false≢true (sym (clean p) ∙ e));
-        dirty-copy = λ e. absurd (false≢true (sym (clean p) ∙ e));
-        writer-dirty = λ e. absurd (omega (arith, e, hp));
-        writer-copy = λ e. absurd (omega (arith, e, hp));
-      };
-      closed-value = λ e. refl;
-      arrived-clean = λ p hp kp e. clean p;
-    }
-  where
-    no-hit : (i : ℕ) → HitAt (lim .words) g o (standing (opened lim c)) i → ⊥
-    no-hit i h = omega (arith, h .within)
-
-    clean : (p : ℕ) → dirtyAt (opened lim c .pages) p g ≡ false
-    clean p = opened-clean lim p g
-
-    zero-word : (p : ℕ) → getD (copyOf (opened lim c .pages) p g) o 0 ≡ 0
-    zero-word p = opened-word lim p g o
+    inv-without-records (lim .words) g o (opened lim c) noGhost refl refl refl (λ q h k. opened-clean lim q g) (λ q h k. opened-word lim q g o)
 
 -- ---- fields of an accepted read or write
 
 pub offset-in-page : (lim : Limits) (x : ℕ) → 0 < lim .words → offsetOfWord lim x < lim .words
 unfolding offsetOfWord
 offset-in-page lim x h = mod-lt x h
-
--- the word of an accepted read or write is on an opened page
-pub read-on-page : (lim : Limits) (s : State) (t : Step) (x : ℕ) → 0 < lim .words → actionOf t ≡ Read x → Accepted lim s t → pageOfWord lim x < s .counts .pages
-unfolding fits pageOfWord
-read-on-page lim s t x h e a =
-    let f = rw e at (a .fields-fit) in
-    page-opened (lim .words) x (s .counts .pages) h (ltb-true x (s .counts .pages * lim .words) (and-eq-true-iff (ltb x (s .counts .pages * lim .words)) (eqb (t .value) 0) .0 f .0))
-
-pub write-on-page : (lim : Limits) (s : State) (t : Step) (x v : ℕ) → 0 < lim .words → actionOf t ≡ Write x v → Accepted lim s t → pageOfWord lim x < s .counts .pages
-unfolding fits pageOfWord
-write-on-page lim s t x v h e a = page-opened (lim .words) x (s .counts .pages) h (ltb-true x (s .counts .pages * lim .words) (rw e at (a .fields-fit)))
-
--- so is the lock of an accepted acquire or release
-acquire-there : (lim : Limits) (s : State) (t : Step) (x : ℕ) → actionOf t ≡ Acquire x → Accepted lim s t → x < s .counts .locks
-unfolding fits
-acquire-there lim s t x e a = ltb-true x (s .counts .locks) (and-eq-true-iff (ltb x (s .counts .locks)) (eqb (t .value) 0) .0 (rw e at (a .fields-fit)) .0)
-
-release-there : (lim : Limits) (s : State) (t : Step) (x : ℕ) → actionOf t ≡ Release x → Accepted lim s t → x < s .counts .locks
-unfolding fits
-release-there lim s t x e a = ltb-true x (s .counts .locks) (and-eq-true-iff (ltb x (s .counts .locks)) (eqb (t .value) 0) .0 (rw e at (a .fields-fit)) .0)
-
--- a read and a write are no acquire
-isAcquire : Action → Bool
-isAcquire (Read x) = false
-isAcquire (Write x v) = false
-isAcquire (Acquire l) = true
-isAcquire (Release l) = false
-isAcquire Arrive = false
-isAcquire Want = false
-isAcquire Unknown = false
-
-pub write-no-acquire : (x v l : ℕ) → Write x v ≡ Acquire l → ⊥
-unfolding isAcquire
-write-no-acquire x v l e = false≢true (ap isAcquire e)
-
-pub read-no-acquire : (x l : ℕ) → Read x ≡ Acquire l → ⊥
-unfolding isAcquire
-read-no-acquire x l e = false≢true (ap isAcquire e)
 
 module _ (lim : Limits) (c : Counts) (es : List Event) (r : Timeline lim c es) (w : ℕ) where
   abbrev g : ℕ
@@ -135,12 +64,6 @@ module _ (lim : Limits) (c : Counts) (es : List Event) (r : Timeline lim c es) (
 
   in-page : o < lim .words
   in-page = offset-in-page lim w (r .words-there)
-
-  -- the place of an accepted read is on an opened page
-  pub read-page-opened : (j p x : ℕ) → Took es j p (Read x) → pageOfWord lim x < r .state j .counts .pages
-  read-page-opened j p x took =
-      read-on-page lim (r .state j) (eventAt es j .step) x (r .words-there) (took .action)
-      (accepted-says lim (r .state j) (eventAt es j .step) (eqb-true (refusalInOrder lim (r .state j) (eventAt es j .step)) 0 (sym (r .judged j) ∙ took .accepted)))
 
   -- the invariant at time t
   abbrev pub InvAt : ℕ → Type 0
@@ -172,8 +95,7 @@ module _ (lim : Limits) (c : Counts) (es : List Event) (r : Timeline lim c es) (
 
     -- after the fetch of a page the applied clock is the processor's
     current : (x : ℕ) (q : ℕ) → entryOf (clockOf (fetched lim s p x .clocks) (Applied p x)) q ≡ entryOf (clockOf (fetched lim s p x .clocks) (Processor p)) q
-    unfolding Knows clock
-    current x q = ap (λ (v : List ℕ). entryOf v q) (fetched-applied lim s p x ∙ sym (fetched-knower lim s p x (s .counts) (Processor p) (h, k)))
+    current x q = ap (λ (v : List ℕ). entryOf v q) (fetched-current lim s p x)
 
     pub read-keeps : (x : ℕ) → pageOfWord lim x < s .counts .pages → Inv (lim .words) g o (effect lim s p (Read x) .after) (ghostAfter w s p (Read x) (ghost t))
     unfolding effect read ghostAfter
@@ -189,7 +111,7 @@ module _ (lim : Limits) (c : Counts) (es : List Event) (r : Timeline lim c es) (
 
         long : x ≡ w → o < length (copyOf (fetched lim s p (pageOfWord lim x) .pages) p g)
         long e =
-            rw (fetched-length lim s p (pageOfWord lim x) p g, r .ordered t .sized .copy p g h (omega (arith, k, r .ordered t .processors-fit)) (omega (arith, r .ordered t .pages-fit, page-of-w e)))
+            rw (fetched-length lim s p (pageOfWord lim x) p g, whole-copy lim s (r .ordered t) p g h k (page-of-w e))
             in-page
           where
             page-of-w : x ≡ w → g < s .counts .pages
@@ -228,9 +150,9 @@ module _ (lim : Limits) (c : Counts) (es : List Event) (r : Timeline lim c es) (
       → Allowed (r .state t .counts .processors) (r .state t) p a → InvAt t → Inv (lim .words) g o (effect lim (r .state t) p a .after) (ghostAfter w (r .state t) p a (ghost t))
   unfolding known
   by-action j t p (Read x) ordered l less took acc ok ih =
-      read-keeps t p (ok .from) (ok .to) ih x (read-on-page lim (r .state t) (eventAt es t .step) x (r .words-there) (took .action) acc)
+      read-keeps t p (ok .from) (ok .to) ih x (read-on-page lim (r .state t) (eventAt es t .step) x (took .action) acc)
   by-action j t p (Write x v) ordered l less took acc ok ih =
-      write-keeps t p (ok .from) (ok .to) ih x v (write-on-page lim (r .state t) (eventAt es t .step) x v (r .words-there) (took .action) acc) (ok .not-arrived)
+      write-keeps t p (ok .from) (ok .to) ih x v (write-on-page lim (r .state t) (eventAt es t .step) x v (took .action) acc) (ok .not-arrived)
       (λ e. knows-all-writes lim c es r w t p (Write w v) (rw e at took) (write-no-acquire w v) (write-before-write j t p v ordered less (rw e at took)))
   by-action j t p (Acquire x) ordered l less took acc ok ih = acquire-kept t p (ok .from) (ok .to) ih l x (acquire-there lim (r .state t) (eventAt es t .step) x (took .action) acc)
   by-action j t p (Release x) ordered l less took acc ok ih = release-kept t p (ok .from) (ok .to) ih l x (release-there lim (r .state t) (eventAt es t .step) x (took .action) acc)

@@ -1,4 +1,5 @@
--- A completed round keeps the invariant: every processor learns the barrier's clock, which is then cleared. Assumes nothing.
+-- A completed round keeps the invariant: every processor learns the barrier's clock, which is then cleared. Rests on NumbersAfter and
+-- InvBarrier. Assumes nothing.
 use Prim.Native.Nat.{ℕ, zero, suc, _≤_, _<_, max}
 use native.Mathlib.Omega.{arith}
 use native.Mathlib.Decide.{ℕ-discrete}
@@ -22,10 +23,10 @@ use Rattle.rules.proofs.MarksAfter.{arrived-at-barrier}
 use Rattle.rules.proofs.NumbersAfter.{Knowing}
 use Rattle.rules.proofs.WordOfRecords.{nth}
 use Rattle.rules.proofs.Invariant.{Knows, Inv}
-use Rattle.rules.proofs.InvMoves.{informed-by-join, informed-when-cleared}
-use Rattle.rules.proofs.InvFetch.{interval-made}
-use Rattle.rules.proofs.InvMoved.{withKnown, inv-same-numbers, clock-move-keeps}
-use Rattle.rules.proofs.InvArrive.{arrivedGhost, at-barrier-keeps}
+use Rattle.rules.proofs.InvClocks.{informed-by-join, informed-when-cleared}
+use Rattle.rules.proofs.InvSame.{interval-made}
+use Rattle.rules.proofs.InvMoves.{withKnown, inv-same-numbers, clock-move-keeps}
+use Rattle.rules.proofs.InvBarrier.{arrivedGhost, at-barrier-keeps}
 
 -- ---- the numbers while the processors learn the barrier's clock
 

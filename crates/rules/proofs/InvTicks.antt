@@ -1,20 +1,16 @@
--- Closing and the clocks: a processor's clock may rise by its own entry, and records may be added behind those that stand. Assumes nothing.
+-- The clocks' part of the invariant under closing: a processor's clock may rise by its own entry, and records may be added behind those
+-- that stand. Rests on Invariant. Assumes nothing.
 use Prim.Native.Nat.{ℕ, suc, _≤_, _<_}
-use native.Mathlib.Numerals.{bound}
 use native.Mathlib.Omega.{arith}
 use native.Mathlib.Decide.{decLe}
 use mathlib.Core.Path.{_≡_, refl, ap, _∙_}
 use mathlib.Core.Bool.{Bool, true, false, cond}
-use mathlib.Core.Option.{none}
 use mathlib.Core.List.{List}
 use lib.ListN.{length}
 use lib.Dec.{eqb}
 use Rattle.clock.specs.Clocks.{entryOf, sumOf}
-use Rattle.diff.specs.Reading.{applied}
 use Rattle.rules.specs.State.{Counts, Holder, Processor, Barrier, Applied, Clocks, clockOf, Record}
-use Rattle.rules.specs.InOrder.{present}
 use Rattle.rules.specs.Fetch.{sumAt}
-use Rattle.rules.specs.Refusals.{known}
 use Rattle.rules.proofs.Holders.{sameHolder, same-holder}
 use Rattle.rules.proofs.WordOfRecords.{nth, HitAt, Rising}
 use Rattle.rules.proofs.Invariant.{Knows, Covered, Informed, ClockInv}
@@ -151,9 +147,6 @@ module _ (words g o : ℕ) where
         go i j hi hj less (New a) b = absurd (ticks .one-new i j hi hj a less)
 
     -- ---- the invariant of the clocks once p has closed
-
-    closedWriter : ℕ
-    closedWriter = cond (eqb writer p) 0 writer
 
     pub ticks-keep-clocks : ClockInv words g o n c′ l′ writes (cond (eqb writer p) 0 writer) known
     unfolding Knows sameHolder

@@ -1,129 +1,139 @@
--- A store keeps the invariant, once the page is fetched: a store to another word changes nothing of it, and one to w makes its processor
--- the one with stores that no interval has yet. Assumes nothing.
-use Prim.Native.Nat.{ℕ, _%_, _<_}
-use mathlib.Core.Path.{_≡_, refl, sym, ap, _∙_}
-use mathlib.Core.Bool.{Bool, true, false, cond, not, false≢true}
-use mathlib.Core.List.{List, []}
-use lib.ListN.{length, getD, set}
-use lib.Seq.{getD-set-same, getD-set-other}
-use lib.Dec.{eqb}
+-- A write keeps the invariant, once its page is fetched: one to another word, and one to w by a processor that knows of every write. Rests
+-- on InvSame and InvStore. Assumes nothing.
+use Prim.Native.Nat.{ℕ, _+_, _*_, _/_, _%_, _≤_, _<_}
+use native.Mathlib.Omega.{arith}
+use native.Mathlib.Decide.{ℕ-discrete}
+use native.Mathlib.Nat.{div-add-mod}
+use mathlib.Core.Path.{_≡_, refl, sym, ap, ap₂, _∙_}
+use mathlib.Core.Bool.{Bool, true, false, cond, false≢true}
+use mathlib.Core.List.{List}
+use lib.ListN.{length, getD}
+use borrow.Author.Tests.{ne-eqb}
 use Rattle.clock.specs.Clocks.{entryOf}
-use Rattle.rules.specs.Tables.{cell, putCell}
-use Rattle.rules.specs.State.{Limits, Processor, Applied, Clocks, clockOf, Pages, copyOf, twinOf, dirtyAt, Record}
-use Rattle.rules.specs.Fetch.{withCopy}
+use Rattle.rules.specs.State.{Limits, Holder, Processor, Applied, clockOf, copyOf, dirtyAt, State, standing, hasArrived}
 use Rattle.rules.specs.Steps.{pageOfWord, offsetOfWord, twinTaken, stored}
-use Rattle.rules.proofs.Tables.{cell-put-same, cell-put-row, cell-put-place}
-use Rattle.rules.proofs.Invariant.{seen, PageInv}
+use Rattle.rules.proofs.Holders.{sameHolder, same-holder-refl, same-holder}
+use Rattle.rules.proofs.Ghosts.{Ghost, withNumber}
+use Rattle.rules.proofs.Invariant.{Knows, Informed, ClockInv, PageInv, Inv}
+use Rattle.rules.proofs.InvSame.{page-inv-same}
+use Rattle.rules.proofs.InvStore.{Elsewhere, stored-copy-elsewhere, stored-dirty-elsewhere, stored-twin-elsewhere, store-beside, store-there}
 
--- ---- what a store leaves in the pages
+-- a word is where its page and its offset say
+pub word-from-place : (n x w : ℕ) → x / n ≡ w / n → x % n ≡ w % n → x ≡ w
+word-from-place n x w d m = sym (div-add-mod x n) ∙ ap₂ _+_ (ap (λ (k : ℕ). n * k) d) m ∙ div-add-mod w n
 
-module _ (lim : Limits) (m : Pages) (p x v : ℕ) where
-  -- the page of the store
-  abbrev page : ℕ
-  page = pageOfWord lim x
-
-  abbrev pub storedPages : Pages
-  storedPages = stored lim (twinTaken m p (pageOfWord lim x)) p x v
-
-  pub stored-copy : copyOf storedPages p page ≡ set (copyOf m p page) (offsetOfWord lim x) (v % 4294967296)
-  unfolding stored twinTaken withCopy copyOf
-  stored-copy = cell-put-same [] (m .copies) p page (set (copyOf m p page) (offsetOfWord lim x) (v % 4294967296))
-
-  -- a page other than the one stored to
-  pub data Elsewhere (q g : ℕ) : Type 0 where
-    OtherProcessor : (q ≡ p → ⊥) → Elsewhere q g
-    OtherPage : q ≡ p → (g ≡ pageOfWord lim x → ⊥) → Elsewhere q g
-
-  cell-elsewhere : {A : Type 0} (d : A) (t : List (List A)) (a : A) (q g : ℕ) → Elsewhere q g → cell d (putCell d t p page a) q g ≡ cell d t q g
-  cell-elsewhere d t a q g (OtherProcessor e) = cell-put-row d t p page q g a e
-  cell-elsewhere d t a q g (OtherPage e k) = rw e (cell-put-place d t p page g a k)
-
-  pub stored-copy-elsewhere : (q g : ℕ) → Elsewhere q g → copyOf storedPages q g ≡ copyOf m q g
-  unfolding stored twinTaken withCopy copyOf
-  stored-copy-elsewhere q g e = cell-elsewhere [] (m .copies) (set (copyOf m p page) (offsetOfWord lim x) (v % 4294967296)) q g e
-
-  pub stored-dirty : dirtyAt storedPages p page ≡ true
-  unfolding stored twinTaken withCopy dirtyAt
-  stored-dirty = go (dirtyAt m p page) refl
-    where
-      go : (b : Bool) → dirtyAt m p page ≡ b → not (eqb (cell 0 (cond b (m .dirty) (putCell 0 (m .dirty) p page 1)) p page) 0) ≡ true
-      go true e = e
-      go false e = rw (cell-put-same 0 (m .dirty) p page 1)
-
-  pub stored-dirty-elsewhere : (q g : ℕ) → Elsewhere q g → dirtyAt storedPages q g ≡ dirtyAt m q g
-  unfolding stored twinTaken withCopy dirtyAt
-  stored-dirty-elsewhere q g k = go (dirtyAt m p page)
-    where
-      go : (b : Bool) → not (eqb (cell 0 (cond b (m .dirty) (putCell 0 (m .dirty) p page 1)) q g) 0) ≡ not (eqb (cell 0 (m .dirty) q g) 0)
-      go true = refl
-      go false = rw (cell-elsewhere 0 (m .dirty) 1 q g k)
-
-  -- a clean page gets its twin, a dirty one keeps it
-  pub stored-twin-clean : dirtyAt m p page ≡ false → twinOf storedPages p page ≡ copyOf m p page
-  unfolding stored twinTaken withCopy twinOf
-  stored-twin-clean e = rw (e) (cell-put-same [] (m .twins) p page (copyOf m p page))
-
-  pub stored-twin-dirty : dirtyAt m p page ≡ true → twinOf storedPages p page ≡ twinOf m p page
-  unfolding stored twinTaken withCopy twinOf
-  stored-twin-dirty e = rw (e)
-
-  pub stored-twin-elsewhere : (q g : ℕ) → Elsewhere q g → twinOf storedPages q g ≡ twinOf m q g
-  unfolding stored twinTaken withCopy twinOf
-  stored-twin-elsewhere q g k = go (dirtyAt m p page)
-    where
-      go : (b : Bool) → cell [] (cond b (m .twins) (putCell [] (m .twins) p page (copyOf m p page))) q g ≡ cell [] (m .twins) q g
-      go true = refl
-      go false = cell-elsewhere [] (m .twins) (copyOf m p page) q g k
-
--- ---- the page of the store
-
-module _ (lim : Limits) (o : ℕ) (c : Clocks) (m : Pages) (l : List Record) (p x v writer last base : ℕ)
-    (current : (q : ℕ) → entryOf (clockOf c (Applied p (pageOfWord lim x))) q ≡ entryOf (clockOf c (Processor p)) q)
-    (inv : PageInv (lim .words) (pageOfWord lim x) o p c m l writer last base) where
-  abbrev m′ : Pages
-  m′ = stored lim (twinTaken m p (pageOfWord lim x)) p x v
-
+module _ (lim : Limits) (w : ℕ) (s : State) (γ : Ghost) (p x v : ℕ) where
   abbrev g : ℕ
-  g = pageOfWord lim x
+  g = pageOfWord lim w
 
-  twin-seen : getD (twinOf m′ p g) o 0 ≡ seen (lim .words) g o p c l base
-  twin-seen = go (dirtyAt m p g) refl
-    where
-      go : (b : Bool) → dirtyAt m p g ≡ b → getD (twinOf m′ p g) o 0 ≡ seen (lim .words) g o p c l base
-      go true e = ap (λ (t : List ℕ). getD t o 0) (stored-twin-dirty lim m p x v e) ∙ inv .dirty-twin e
-      go false e = ap (λ (t : List ℕ). getD t o 0) (stored-twin-clean lim m p x v e) ∙ inv .clean-copy e
+  abbrev o : ℕ
+  o = offsetOfWord lim w
 
-  -- a store to another word of the page
-  pub store-beside : (o ≡ offsetOfWord lim x → ⊥) → PageInv (lim .words) g o p c m′ l writer last base
-  store-beside d =
-      record {
-        fresh-up = inv .fresh-up;
-        dirty-applied = λ e q. current q;
-        clean-copy = λ e. absurd (false≢true (sym e ∙ stored-dirty lim m p x v));
-        dirty-twin = λ e. twin-seen;
-        dirty-copy = λ e k. word-stays ∙ old-copy k (dirtyAt m p g) refl;
-        writer-dirty = λ e. stored-dirty lim m p x v;
-        writer-copy = λ e. word-stays ∙ inv .writer-copy e;
-      }
-    where
-      word-stays : getD (copyOf m′ p g) o 0 ≡ getD (copyOf m p g) o 0
-      word-stays = ap (λ (t : List ℕ). getD t o 0) (stored-copy lim m p x v) ∙ getD-set-other (copyOf m p g) (offsetOfWord lim x) o (v % 4294967296) 0 d
+  -- the state after the store, where s is the state after the fetch
+  abbrev s′ : State
+  s′ =
+      record { counts = s .counts; clocks = s .clocks; pages = stored lim (twinTaken (s .pages) p (pageOfWord lim x)) p x v; records = s .records; marks = s .marks }
 
-      old-copy : (writer ≡ p → ⊥) → (b : Bool) → dirtyAt m p g ≡ b → getD (copyOf m p g) o 0 ≡ seen (lim .words) g o p c l base
-      old-copy k true e = inv .dirty-copy e k
-      old-copy k false e = inv .clean-copy e
+  module _ (inv : Inv (lim .words) g o s γ) (h : 1 ≤ p) (k : p ≤ s .counts .processors) (here : hasArrived s p ≡ false)
+      (current : (q : ℕ) → entryOf (clockOf (s .clocks) (Applied p (pageOfWord lim x))) q ≡ entryOf (clockOf (s .clocks) (Processor p)) q) where
+    -- a page of which nothing was stored
+    page-elsewhere : (q : ℕ) → 1 ≤ q → q ≤ s .counts .processors → Elsewhere lim (s .pages) p x v q g
+        → PageInv (lim .words) g o q (s .clocks) (s′ .pages) (standing s) (γ .writer) (γ .last) (γ .base)
+    page-elsewhere q hq kq e =
+        page-inv-same (lim .words) g o q (s .clocks) (s .clocks) (s .pages) (s′ .pages) (standing s) (γ .writer) (γ .last) (γ .base) (λ r. refl) refl (λ z. refl)
+        (ap (λ (t : List ℕ). getD t o 0) (stored-copy-elsewhere lim (s .pages) p x v q g e)) (ap (λ (t : List ℕ). getD t o 0) (stored-twin-elsewhere lim (s .pages) p x v q g e))
+        (stored-dirty-elsewhere lim (s .pages) p x v q g e) (inv .page q hq kq)
 
-  -- a store to the word
-  pub store-there : o ≡ offsetOfWord lim x → o < length (copyOf m p g) → PageInv (lim .words) g o p c m′ l p (v % 4294967296) base
-  store-there d h =
-      record {
-        fresh-up = inv .fresh-up;
-        dirty-applied = λ e q. current q;
-        clean-copy = λ e. absurd (false≢true (sym e ∙ stored-dirty lim m p x v));
-        dirty-twin = λ e. twin-seen;
-        dirty-copy = λ e k. absurd (k refl);
-        writer-dirty = λ e. stored-dirty lim m p x v;
-        writer-copy =
-            λ e. ap (λ (t : List ℕ). getD t o 0) (stored-copy lim m p x v)
-            ∙ rw (← d) (getD-set-same (copyOf m p g) o (v % 4294967296) 0 h);
-      }
+    -- who has arrived has stored nothing
+    still-clean : (q : ℕ) → 1 ≤ q → q ≤ s .counts .processors → hasArrived s q ≡ true → dirtyAt (s′ .pages) q g ≡ false
+    still-clean q hq kq e =
+        stored-dirty-elsewhere lim (s .pages) p x v q g (λ d z. false≢true (sym here ∙ ap (hasArrived s) (sym d) ∙ e))
+        ∙ inv .arrived-clean q hq kq e
+
+    pub store-elsewhere-keeps : (x ≡ w → ⊥) → Inv (lim .words) g o s′ γ
+    unfolding standing hasArrived pageOfWord offsetOfWord
+    store-elsewhere-keeps d =
+        record {
+          clocks = inv .clocks;
+          page = λ q hq kq. go q hq kq (ℕ-discrete q p) (ℕ-discrete g (pageOfWord lim x));
+          closed-value = inv .closed-value;
+          arrived-clean = still-clean;
+        }
+      where
+        go : (q : ℕ) → 1 ≤ q → q ≤ s .counts .processors → Dec (q ≡ p) → Dec (g ≡ pageOfWord lim x)
+            → PageInv (lim .words) g o q (s .clocks) (s′ .pages) (standing s) (γ .writer) (γ .last) (γ .base)
+        go q hq kq (yes e) (yes same) =
+            rw (e, same)
+            (store-beside lim o (s .clocks) (s .pages) (standing s) p x v (γ .writer) (γ .last) (γ .base) current (rw same at (inv .page p h k))
+            (λ off. d (word-from-place (lim .words) x w (sym same) (sym off))))
+        go q hq kq (yes e) (no other) = page-elsewhere q hq kq (λ a z. other z)
+        go q hq kq (no e) b = page-elsewhere q hq kq (λ a z. e a)
+
+    -- the counts after a store to w
+    abbrev γ′ : Ghost
+    γ′ = record { writes = γ .writes + 1; last = v % 4294967296; base = γ .base; writer = p; known = withNumber (γ .known) (Processor p) (γ .writes + 1) }
+
+    module _ (all : γ .known (Processor p) ≡ γ .writes) (few : (y : Holder) → γ .known y ≤ γ .writes) where
+      -- no other processor has stores to w that no interval has
+      sole-writer : (q : ℕ) → 1 ≤ q → (q ≡ p → ⊥) → γ .writer ≡ q → ⊥
+      unfolding Knows sameHolder
+      sole-writer q hq d e =
+          let some-writer : γ .writer ≡ 0 → ⊥ = λ z. omega (arith, z, e, hq) in
+          let behind = inv .clocks .others-behind some-writer (Processor p) (h, k) (ne-eqb p (γ .writer) (λ z. d (sym e ∙ sym z))) in
+          omega (arith, all, behind)
+
+      clocks-after : ClockInv (lim .words) g o (s .counts) (s .clocks) (standing s) (γ .writes + 1) p (withNumber (γ .known) (Processor p) (γ .writes + 1))
+      unfolding withNumber Knows
+      clocks-after =
+          record {
+            none-yet = λ z i hi. omega (arith, z);
+            informed = λ y ky. go y ky (sameHolder (Processor p) y) refl;
+            rising = inv .clocks .rising;
+            writer-present = λ z. (h, k);
+            writer-knows = λ z. rw (same-holder-refl (Processor p));
+            others-behind = λ z y ky other. rw other (omega (arith, few y));
+          }
+        where
+          covers : (y : Holder) → Knows (s .counts) y → γ .known y ≡ γ .writes → (n : ℕ) → Informed (lim .words) g o (s .clocks) (standing s) (γ .writes + 1) (clockOf (s .clocks) y) n
+          covers y ky e n =
+              let i = inv .clocks .informed y ky in
+              record { covers-hits = λ z. i .covers-hits e; bounded = i .bounded; downward = i .downward }
+
+          behind : (y : Holder) → Knows (s .counts) y → Informed (lim .words) g o (s .clocks) (standing s) (γ .writes + 1) (clockOf (s .clocks) y) (γ .known y)
+          behind y ky =
+              let i = inv .clocks .informed y ky in
+              record { covers-hits = λ z. absurd (omega (arith, z, few y)); bounded = i .bounded; downward = i .downward }
+
+          go : (y : Holder) → Knows (s .counts) y → (b : Bool) → sameHolder (Processor p) y ≡ b
+              → Informed (lim .words) g o (s .clocks) (standing s) (γ .writes + 1) (clockOf (s .clocks) y) (cond (sameHolder (Processor p) y) (γ .writes + 1) (γ .known y))
+          go y ky true e = rw e (covers y ky (rw (← (same-holder (Processor p) y e)) all) (γ .writes + 1))
+          go y ky false e = rw e (behind y ky)
+
+      pub store-there-keeps : x ≡ w → o < length (copyOf (s .pages) p g) → Inv (lim .words) g o s′ γ′
+      unfolding standing hasArrived
+      store-there-keeps d long =
+          record {
+            clocks = clocks-after;
+            page = λ q hq kq. go q hq kq (ℕ-discrete q p);
+            closed-value = λ z. absurd (omega (arith, z, h));
+            arrived-clean = still-clean;
+          }
+        where
+          other : (q : ℕ) → 1 ≤ q → q ≤ s .counts .processors → (q ≡ p → ⊥) → PageInv (lim .words) g o q (s .clocks) (s′ .pages) (standing s) p (v % 4294967296) (γ .base)
+          other q hq kq e =
+              let i = page-elsewhere q hq kq (λ a z. e a) in
+              record {
+                fresh-up = i .fresh-up;
+                dirty-applied = i .dirty-applied;
+                clean-copy = i .clean-copy;
+                dirty-twin = i .dirty-twin;
+                dirty-copy = λ dirty z. i .dirty-copy dirty (sole-writer q hq e);
+                writer-dirty = λ z. absurd (e (sym z));
+                writer-copy = λ z. absurd (e (sym z));
+              }
+
+          go : (q : ℕ) → 1 ≤ q → q ≤ s .counts .processors → Dec (q ≡ p) → PageInv (lim .words) g o q (s .clocks) (s′ .pages) (standing s) p (v % 4294967296) (γ .base)
+          go q hq kq (yes e) =
+              rw (e, ← d)
+              (store-there lim (offsetOfWord lim x) (s .clocks) (s .pages) (standing s) p x v (γ .writer) (γ .last) (γ .base) current (rw (← d) at (inv .page p h k)) refl (rw d long))
+          go q hq kq (no e) = other q hq kq e

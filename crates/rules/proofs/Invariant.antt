@@ -1,4 +1,5 @@
--- What holds, for one word w, at every time of a run whose writes to w are ordered. w is at offset o of page g. Assumes nothing.
+-- What holds, for one word w, at every time of a run whose writes to w are ordered. w is at offset o of page g. Rests on Ghosts and
+-- FetchedWord. Assumes nothing.
 use Prim.Native.Nat.{ℕ, _≤_, _<_}
 use mathlib.Core.Path.{_≡_}
 use mathlib.Core.Bool.{true, false, not}
@@ -8,7 +9,6 @@ use Rattle.clock.specs.Clocks.{entryOf, sumOf}
 use Rattle.rules.specs.Tables.{select}
 use Rattle.rules.specs.State.{Counts, Holder, Processor, Lock, Barrier, Applied, Interval, Clocks, clockOf, Pages, copyOf, twinOf, dirtyAt, Record, State, standing, hasArrived}
 use Rattle.rules.specs.Fetch.{sumAt}
-use Rattle.rules.specs.Refusals.{known}
 use Rattle.rules.proofs.Holders.{sameHolder}
 use Rattle.rules.proofs.Ghosts.{Ghost}
 use Rattle.rules.proofs.WordOfRecords.{nth, wordAfter, HitAt, Rising, FreshUp}

@@ -1,36 +1,21 @@
--- Every accepted step keeps the state in order, from every state in order. Start reading here. Assumes nothing.
-use Prim.Native.Nat.{ℕ, zero, suc, _+_, _*_, _/_, _≤_, _<_}
+-- Every accepted step keeps the state in order, from every state in order. Of the Kept files read this one first. Rests on Accepted and
+-- KeptBarrier. Assumes nothing.
+use Prim.Native.Nat.{ℕ, _+_, _≤_, _<_}
 use native.Mathlib.Omega.{arith}
-use native.Mathlib.Nat.{mul-zero, div-lt-iff-lt-mul}
 use mathlib.Core.Path.{_≡_, refl, sym, _∙_}
-use mathlib.Core.Bool.{Bool, true, false, cond, and-eq-true-iff, false≢true}
-use lib.Dec.{ltb, eqb}
-use borrow.Author.Tests.{ltb-true, eqb-true, eqb-false}
+use mathlib.Core.Bool.{Bool, true, false, cond, false≢true}
+use lib.Dec.{eqb}
+use borrow.Author.Tests.{eqb-true, eqb-false}
 use Rattle.rules.specs.State.{Limits, dirtyAt, State, clock, own}
 use Rattle.rules.specs.InOrder.{present, dirtyPages}
 use Rattle.rules.specs.Steps.{pageOfWord, read}
-use Rattle.rules.specs.Refusals.{Step, Action, Read, Write, Acquire, Release, Arrive, Want, Unknown, actionOf, fits, lateRefusal, refusalInOrder, effect, nextInOrder}
+use Rattle.rules.specs.Refusals.{Step, Action, Read, Write, Acquire, Release, Arrive, Want, Unknown, actionOf, lateRefusal, refusalInOrder, effect, nextInOrder}
 use Rattle.rules.proofs.Facts.{InOrder}
-use Rattle.rules.proofs.Accepted.{accepted-says}
-use Rattle.rules.proofs.KeptParts.{presentAmong, Parts, parts-of, in-order-of}
-use Rattle.rules.proofs.KeptPages.{AtPage}
+use Rattle.rules.proofs.KeptParts.{Parts, parts-of, in-order-of}
+use Rattle.rules.proofs.Accepted.{Accepted, accepted-says, read-on-page, write-on-page, acquire-there, release-there}
 use Rattle.rules.proofs.KeptFetch.{fetched-parts, MayDirty, write-parts}
 use Rattle.rules.proofs.KeptLocks.{acquire-parts, release-parts, want-parts}
 use Rattle.rules.proofs.KeptBarrier.{arrive-parts}
-
--- a present word lies on a present page
-pub word-on-page : (w words pages : ℕ) → w < pages * words → w / words < pages
-word-on-page w zero pages h = absurd (omega (arith, h, mul-zero pages))
-word-on-page w (suc words) pages h = div-lt-iff-lt-mul {k = suc words} (omega arith) .1 h
-
-at-word : (lim : Limits) (s : State) (p w : ℕ) → Parts lim s → presentAmong (s .counts) p ≡ true → ltb w (s .counts .pages * lim .words) ≡ true
-    → AtPage lim (s .counts) p (pageOfWord lim w)
-at-word lim s p w f a e =
-    record {
-      counts = f .counts;
-      processor = a;
-      page = unfold pageOfWord in word-on-page w (lim .words) (s .counts .pages) (ltb-true w (s .counts .pages * lim .words) e);
-    }
 
 -- a write that is refused neither for intervals nor for room
 may-dirty : (lim : Limits) (s : State) (p w v : ℕ) → Parts lim s → lateRefusal lim s p (Write w v) ≡ 0 → MayDirty lim s p (pageOfWord lim w)
@@ -56,27 +41,23 @@ may-dirty lim s p w v f e = go (dirtyAt (s .pages) p (pageOfWord lim w)) (eqb (o
         lt-of-le-of-ne : {a b : ℕ} → a ≤ b → (a ≡ b → ⊥) → a < b
         lt-of-le-of-ne h k = omega (arith, h, k)
 
-effect-parts : (lim : Limits) (s : State) (t : Step) (p : ℕ) (a : Action) → Parts lim s → presentAmong (s .counts) p ≡ true → fits lim s t a ≡ true
-    → lateRefusal lim s p a ≡ 0 → Parts lim (effect lim s p a .after)
-unfolding effect fits read
-effect-parts lim s t p (Read w) f h e l =
-    fetched-parts lim s p (pageOfWord lim w) f (at-word lim s p w f h (and-eq-true-iff (ltb w (s .counts .pages * lim .words)) (eqb (t .value) 0) .0 e .0))
-effect-parts lim s t p (Write w v) f h e l = write-parts lim s p w v f (at-word lim s p w f h e) (may-dirty lim s p w v f l)
-effect-parts lim s t p (Acquire i) f h e l =
-    acquire-parts lim s p i f h (ltb-true i (s .counts .locks) (and-eq-true-iff (ltb i (s .counts .locks)) (eqb (t .value) 0) .0 e .0))
-effect-parts lim s t p (Release i) f h e l =
-    release-parts lim s p i f h (ltb-true i (s .counts .locks) (and-eq-true-iff (ltb i (s .counts .locks)) (eqb (t .value) 0) .0 e .0))
-effect-parts lim s t p Arrive f h e l = arrive-parts lim s p f h
-effect-parts lim s t p Want f h e l = want-parts lim s f
-effect-parts lim s t p Unknown f h e l = f
+effect-parts : (lim : Limits) (s : State) (t : Step) (a : Action) → actionOf t ≡ a → Parts lim s → Accepted lim s t → Parts lim (effect lim s (t .processor) a .after)
+unfolding effect read present
+effect-parts lim s t (Read w) e f acc =
+    fetched-parts lim s (t .processor) (pageOfWord lim w) f (record { counts = f .counts; processor = acc .processor-present; page = read-on-page lim s t w e acc })
+effect-parts lim s t (Write w v) e f acc =
+    write-parts lim s (t .processor) w v f (record { counts = f .counts; processor = acc .processor-present; page = write-on-page lim s t w v e acc })
+    (may-dirty lim s (t .processor) w v f (rw e at (acc .not-late)))
+effect-parts lim s t (Acquire i) e f acc = acquire-parts lim s (t .processor) i f (acc .processor-present) (acquire-there lim s t i e acc)
+effect-parts lim s t (Release i) e f acc = release-parts lim s (t .processor) i f (acc .processor-present) (release-there lim s t i e acc)
+effect-parts lim s t Arrive e f acc = arrive-parts lim s (t .processor) f (acc .processor-present)
+effect-parts lim s t Want e f acc = want-parts lim s f
+effect-parts lim s t Unknown e f acc = f
 
 -- what an accepted step does keeps order
 pub effect-keeps-order : (lim : Limits) (s : State) (t : Step) → InOrder lim s → refusalInOrder lim s t ≡ 0 → InOrder lim (effect lim s (t .processor) (actionOf t) .after)
-unfolding present
 effect-keeps-order lim s t f e =
-    let a = accepted-says lim s t e in
-    in-order-of lim (effect lim s (t .processor) (actionOf t) .after)
-    (effect-parts lim s t (t .processor) (actionOf t) (parts-of lim s f) (a .processor-present) (a .fields-fit) (a .not-late))
+    in-order-of lim (effect lim s (t .processor) (actionOf t) .after) (effect-parts lim s t (actionOf t) refl (parts-of lim s f) (accepted-says lim s t e))
 
 -- every step, accepted or refused, keeps order
 pub next-keeps-order : (lim : Limits) (s : State) (t : Step) → InOrder lim s → InOrder lim (nextInOrder lim s t)

@@ -1,35 +1,24 @@
 -- Arriving at the barrier keeps a state in order: when it completes no round, when it completes one, and when garbage is collected then.
--- Assumes nothing.
-use Prim.Native.Nat.{ℕ, zero, suc, _≤_, _<_}
+-- Rests on Fetches and KeptLocks. Assumes nothing.
+use Prim.Native.Nat.{ℕ, suc, _<_}
 use native.Mathlib.Omega.{arith}
 use mathlib.Core.Path.{_≡_, refl, sym, ap, _∙_}
-use mathlib.Core.Bool.{Bool, true, false, cond, not, _&&_, false≢true}
+use mathlib.Core.Bool.{Bool, true, false, cond, not, false≢true}
 use mathlib.Core.List.{List, map}
 use lib.ListN.{length, getD, length-map}
 use lib.Dec.{eqb}
-use Rattle.rules.specs.Tables.{put, every}
+use Rattle.rules.specs.Tables.{put}
 use Rattle.rules.specs.State.{Limits, Counts, Processor, Barrier, Clocks, withClock, cleared, Marks, State, hasArrived}
 use Rattle.rules.specs.Close.{closed}
 use Rattle.rules.specs.Fetch.{fetched}
-use Rattle.rules.specs.Steps.{learned, atBarrier, allArrived, allLearned, roundDone, pagesFetched, allFetched, emptied, collected, wantsCollection, arrive}
-use Rattle.rules.proofs.Tables.{get-put-other, length-put-within, get-map, Passes}
-use Rattle.rules.proofs.KeptParts.{presentAmong, arrivedIn, CountsInOrder, MarksInOrder, Parts}
-use Rattle.rules.proofs.KeptMoves.{among-says, among-when}
+use Rattle.rules.specs.Steps.{learned, atBarrier, allArrived, allLearned, roundDone, allFetched, emptied, collected, wantsCollection, arrive}
+use Rattle.rules.proofs.Tables.{get-put-other, length-put-within, get-map, Passes, every-fails}
+use Rattle.rules.proofs.Fetches.{all-fetched-keep}
+use Rattle.rules.proofs.KeptParts.{presentAmong, among-says, among-when, arrivedIn, CountsInOrder, MarksInOrder, Parts}
 use Rattle.rules.proofs.KeptRounds.{barrier-learned, round-clocks, entry-all-cleared, all-cleared-in-order}
 use Rattle.rules.proofs.KeptClose.{closed-parts}
 use Rattle.rules.proofs.KeptFetch.{withClocks, withMarks, clocks-moved, marks-changed, fetched-parts}
 use Rattle.rules.proofs.KeptLocks.{wish-set}
-
--- a test that fails for some number below a bound
-pub every-fails : (n : ℕ) (t : ℕ → Bool) → every n t ≡ false → Passes n (λ i. not (t i))
-unfolding every
-every-fails zero t e = let z : _≡_ {A = Bool} false true = sym e in absurd (false≢true z)
-every-fails (suc n) t e = go (every n t) (t n) refl refl e (every-fails n t)
-  where
-    go : (a b : Bool) → every n t ≡ a → t n ≡ b → (a && b) ≡ false → (every n t ≡ false → Passes n (λ i. not (t i))) → Passes (suc n) (λ i. not (t i))
-    go true true x y e r = let z : _≡_ {A = Bool} false true = sym e in absurd (false≢true z)
-    go true false x y e r = record { at = n; below = omega arith; passes = ap not y }
-    go false b x y e r = let q = r x in record { at = q .at; below = omega (arith, q .below); passes = q .passes }
 
 -- ---- marks
 
@@ -123,18 +112,10 @@ page-fetched-parts lim n s p g r a h =
       same-counts = unfold fetched in r .same-counts;
     }
 
-pages-fetched-parts : (lim : Limits) (n : Counts) (s : State) (p g : ℕ) → PartsWith lim n s → presentAmong n p ≡ true → g ≤ n .pages
-    → PartsWith lim n (pagesFetched lim s p g .after)
-unfolding pagesFetched
-pages-fetched-parts lim n s p zero f a h = f
-pages-fetched-parts lim n s p (suc g) f a h = page-fetched-parts lim n (pagesFetched lim s p g .after) p g (pages-fetched-parts lim n s p g f a (omega arith)) a h
-
-all-fetched-parts : (lim : Limits) (s : State) (i : ℕ) → Parts lim s → i ≤ s .counts .processors → PartsWith lim (s .counts) (allFetched lim s i .after)
-unfolding allFetched
-all-fetched-parts lim s zero f h = record { parts = f; same-counts = refl }
-all-fetched-parts lim s (suc i) f h =
-    let r = all-fetched-parts lim s i f (omega arith) in
-    pages-fetched-parts lim (s .counts) (allFetched lim s i .after) (suc i) (s .counts .pages) r (among-when (s .counts) (suc i) (omega arith) h) (omega arith)
+all-fetched-parts : (lim : Limits) (s : State) → Parts lim s → PartsWith lim (s .counts) (allFetched lim s (s .counts .processors) .after)
+all-fetched-parts lim s f =
+    all-fetched-keep lim s (PartsWith lim (s .counts)) (λ u p g h k l r. page-fetched-parts lim (s .counts) u p g r (among-when (s .counts) p h k) l)
+    (record { parts = f; same-counts = refl })
 
 -- no records, and all clocks zeros
 pub emptied-parts : (lim : Limits) (s : State) → Parts lim s → Parts lim (emptied s)
@@ -160,7 +141,7 @@ emptied-parts lim s f =
 -- every processor fetched every page, then all was emptied
 pub collected-parts : (lim : Limits) (s : State) → Parts lim s → Parts lim (collected lim s .after)
 unfolding collected
-collected-parts lim s f = emptied-parts lim (allFetched lim s (s .counts .processors) .after) (all-fetched-parts lim s (s .counts .processors) f (omega arith) .parts)
+collected-parts lim s f = emptied-parts lim (allFetched lim s (s .counts .processors) .after) (all-fetched-parts lim s f .parts)
 
 -- every arrival
 pub arrive-parts : (lim : Limits) (s : State) (p : ℕ) → Parts lim s → presentAmong (s .counts) p ≡ true → Parts lim (arrive lim s p .after)

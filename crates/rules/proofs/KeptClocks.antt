@@ -1,4 +1,4 @@
--- When the clocks stay in order: one clock replaced, a processor's own entry raised, all clocks cleared. Assumes nothing.
+-- The clocks stay in order when one of them is replaced, if the new one is in order. Rests on Holders and KeptParts. Assumes nothing.
 use Prim.Native.Nat.{ℕ, suc, _≤_, _<_}
 use native.Mathlib.Omega.{arith}
 use native.Mathlib.Nat.{le-trans}
@@ -9,16 +9,13 @@ use lib.ListN.{length}
 use lib.Dec.{eqb}
 use borrow.Author.Tests.{ne-eqb}
 use Rattle.clock.specs.Clocks.{entryOf}
-use Rattle.diff.specs.Reading.{applied}
 use Rattle.rules.specs.Tables.{cell}
 use Rattle.rules.specs.State.{Limits, Counts, Holder, Processor, Lock, Barrier, Applied, Interval, Clocks, clockOf, withClock}
-use Rattle.rules.specs.InOrder.{present, sized}
-use Rattle.rules.specs.Refusals.{known}
 use Rattle.rules.proofs.Tables.{get-put-other, length-put-within, cell-put}
 use Rattle.rules.proofs.Holders.{sameHolder, same-holder, clock-of-with}
 use Rattle.rules.proofs.Facts.{Within}
-use Rattle.rules.proofs.KeptParts.{presentAmong, holderAmong, ownIn, ClocksSized, ClocksInOrder}
 use Rattle.rules.proofs.Rows.{rows-put-cell}
+use Rattle.rules.proofs.KeptParts.{presentAmong, holderAmong, ownIn, ClocksSized, ClocksInOrder}
 
 -- a statement about the clock of one holder after another's was replaced
 pub by-replaced : (P : List ℕ → Type 0) (c : Clocks) (h : Holder) (v : List ℕ) (k : Holder) → (sameHolder h k ≡ true → P v) → P (clockOf c k)
@@ -44,11 +41,7 @@ sized-with lim c (Processor p) v w l f =
       nobody-clock = ap length (get-put-other [] (c .processors) p 0 v (λ e. omega (arith, e, w .0))) ∙ f .nobody-clock;
       locks = f .locks;
       applied = f .applied;
-      nobody-applied = f .nobody-applied;
-      applied-row = f .applied-row;
       intervals = f .intervals;
-      nobody-interval = f .nobody-interval;
-      interval-row = f .interval-row;
       no-interval = f .no-interval;
       clocks = clocks-with lim c (Processor p) v l f;
     }
@@ -58,11 +51,7 @@ sized-with lim c (Lock i) v w l f =
       nobody-clock = f .nobody-clock;
       locks = length-put-within [] (c .locks) i v (omega (arith, w, f .locks)) ∙ f .locks;
       applied = f .applied;
-      nobody-applied = f .nobody-applied;
-      applied-row = f .applied-row;
       intervals = f .intervals;
-      nobody-interval = f .nobody-interval;
-      interval-row = f .interval-row;
       no-interval = f .no-interval;
       clocks = clocks-with lim c (Lock i) v l f;
     }
@@ -72,41 +61,27 @@ sized-with lim c Barrier v w l f =
       nobody-clock = f .nobody-clock;
       locks = f .locks;
       applied = f .applied;
-      nobody-applied = f .nobody-applied;
-      applied-row = f .applied-row;
       intervals = f .intervals;
-      nobody-interval = f .nobody-interval;
-      interval-row = f .interval-row;
       no-interval = f .no-interval;
       clocks = clocks-with lim c Barrier v l f;
     }
 sized-with lim c (Applied p g) v w l f =
-    let r = rows-put-cell [] lim (lim .pages) (c .applied) p g v (record { table = f .applied; nobody = f .nobody-applied; row = f .applied-row }) (w .0) (w .1) (w .2) in
     record {
       processors = f .processors;
       nobody-clock = f .nobody-clock;
       locks = f .locks;
-      applied = r .table;
-      nobody-applied = r .nobody;
-      applied-row = r .row;
+      applied = rows-put-cell [] lim (lim .pages) (c .applied) p g v (f .applied) (w .0) (w .1) (w .2);
       intervals = f .intervals;
-      nobody-interval = f .nobody-interval;
-      interval-row = f .interval-row;
       no-interval = f .no-interval;
       clocks = clocks-with lim c (Applied p g) v l f;
     }
 sized-with lim c (Interval p i) v w l f =
-    let r = rows-put-cell [] lim (suc (lim .intervals)) (c .intervals) p i v (record { table = f .intervals; nobody = f .nobody-interval; row = f .interval-row }) (w .0) (w .1) (omega (arith, w .3)) in
     record {
       processors = f .processors;
       nobody-clock = f .nobody-clock;
       locks = f .locks;
       applied = f .applied;
-      nobody-applied = f .nobody-applied;
-      applied-row = f .applied-row;
-      intervals = r .table;
-      nobody-interval = r .nobody;
-      interval-row = r .row;
+      intervals = rows-put-cell [] lim (suc (lim .intervals)) (c .intervals) p i v (f .intervals) (w .0) (w .1) (omega (arith, w .3));
       no-interval = λ q a b. ap length (cell-put [] (c .intervals) p i q 0 v ∙ other q (w .2)) ∙ f .no-interval q a b;
       clocks = clocks-with lim c (Interval p i) v l f;
     }

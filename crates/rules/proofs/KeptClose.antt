@@ -1,19 +1,19 @@
--- Ending an interval keeps a state in order. Assumes nothing.
+-- Ending an interval keeps a state in order, and which pages are dirty then. Rests on KeptRounds, KeptNewRecords and KeptPages. Assumes
+-- nothing.
 use Prim.Native.Nat.{ℕ, _≤_, _<_}
 use native.Mathlib.Omega.{arith}
 use native.Mathlib.Decide.{ℕ-discrete}
 use mathlib.Core.Path.{_≡_, refl, ap}
 use mathlib.Core.Bool.{Bool, true, false, cond}
-use Rattle.rules.specs.State.{Limits, Records, State}
+use Rattle.rules.specs.State.{Limits, dirtyAt, Records, State}
 use Rattle.rules.specs.InOrder.{present}
 use Rattle.rules.specs.Close.{changed, anyChanged, ticked, recorded, cleaned, closed}
 use Rattle.rules.proofs.Tables.{any-at}
 use Rattle.rules.proofs.Facts.{InOrder}
-use Rattle.rules.proofs.KeptParts.{presentAmong, ownIn, PagesInOrder, Parts, parts-of, in-order-of}
-use Rattle.rules.proofs.KeptMoves.{among-says}
+use Rattle.rules.proofs.KeptParts.{presentAmong, among-says, ownIn, PagesInOrder, Parts, parts-of, in-order-of}
 use Rattle.rules.proofs.KeptRounds.{own-ticked-same, own-ticked-other, ticked-in-order}
-use Rattle.rules.proofs.KeptRecorded.{changed-is-dirty, Closing, recorded-below, recorded-unchanged}
-use Rattle.rules.proofs.KeptPages.{dirty-after-cleaning, cleaned-in-order, dirty-pages-cleaned, dirty-pages-part}
+use Rattle.rules.proofs.KeptNewRecords.{changed-is-dirty, Closing, recorded-below, recorded-unchanged}
+use Rattle.rules.proofs.KeptPages.{dirty-cleaned-same, dirty-cleaned-other, dirty-after-cleaning, cleaned-in-order, dirty-pages-cleaned, dirty-pages-part}
 
 -- a processor with a changed page has an interval left
 pub changed-has-interval : (lim : Limits) (s : State) (p : ℕ) → Parts lim s → anyChanged s p ≡ true → ownIn (s .clocks) p < lim .intervals
@@ -86,3 +86,15 @@ closed-parts lim s p f a = go (anyChanged s p) refl
 pub closed-keeps : (lim : Limits) (s : State) (p : ℕ) → present s p ≡ true → InOrder lim s → InOrder lim (closed s p)
 unfolding present
 closed-keeps lim s p a f = in-order-of lim (closed s p) (closed-parts lim s p (parts-of lim s f) a)
+
+-- ---- the dirty marks after closing
+
+-- every page of the processor that closed is clean
+pub closed-clean : (s : State) (p g : ℕ) → dirtyAt (closed s p .pages) p g ≡ false
+unfolding closed
+closed-clean s p g = dirty-cleaned-same (s .pages) p g
+
+-- the pages of other processors stay clean or dirty
+pub closed-dirty : (s : State) (p q g : ℕ) → (q ≡ p → ⊥) → dirtyAt (closed s p .pages) q g ≡ dirtyAt (s .pages) q g
+unfolding closed
+closed-dirty s p q g d = dirty-cleaned-other (s .pages) p q g d

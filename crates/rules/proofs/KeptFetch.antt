@@ -1,21 +1,21 @@
--- Fetching, reading and writing keep a state in order. Assumes nothing.
+-- A state in order stays so with one of its parts replaced, and after a fetch, a read or a write. Rests on CopyWords, KeptRounds,
+-- KeptRecords and KeptPages. Assumes nothing.
 use Prim.Native.Nat.{ℕ, _+_, _%_, _<_}
 use native.Mathlib.Omega.{arith}
 use native.Mathlib.Decide.{ℕ-discrete}
 use mathlib.Core.Path.{_≡_, refl, sym, _∙_}
 use mathlib.Core.Bool.{Bool, true, false}
-use mathlib.Core.List.{List, [], _∷_}
+use mathlib.Core.List.{List}
 use lib.ListN.{length, set, length-set}
-use Rattle.diff.specs.Reading.{settings, overlay, applied}
-use Rattle.diff.proofs.Overlay.{length-overlay}
-use Rattle.rules.specs.State.{Limits, Counts, Processor, Applied, Clocks, clockOf, withClock, Pages, copyOf, dirtyAt, Record, Marks, State, clock}
+use Rattle.rules.specs.State.{Limits, Counts, Processor, Applied, Clocks, clockOf, withClock, Pages, copyOf, dirtyAt, Marks, State, clock}
 use Rattle.rules.specs.Fetch.{due, appliedAll, withCopy, fetched}
 use Rattle.rules.specs.Steps.{pageOfWord, offsetOfWord, twinTaken, stored, write}
-use Rattle.rules.proofs.KeptParts.{ownIn, dirtyIn, PagesInOrder, MarksInOrder, Parts}
-use Rattle.rules.proofs.KeptMoves.{among-says, applied-set}
+use Rattle.rules.proofs.CopyWords.{length-applied-all}
+use Rattle.rules.proofs.KeptParts.{among-says, ownIn, dirtyIn, PagesInOrder, MarksInOrder, Parts}
+use Rattle.rules.proofs.KeptMoves.{applied-set}
 use Rattle.rules.proofs.KeptRounds.{OwnKept}
 use Rattle.rules.proofs.KeptRecords.{records-with-more-intervals}
-use Rattle.rules.proofs.KeptPages.{AtPage, copy-replaced, twin-there, newTwin, twin-new, dirty-new-processor, new-twin-in-order, dirty-pages-new-twin}
+use Rattle.rules.proofs.KeptPages.{AtPage, copy-replaced, twin-there, newTwin, twin-new, dirty-new-elsewhere, new-twin-in-order, dirty-pages-new-twin}
 
 -- ---- one part of a state replaced
 
@@ -76,12 +76,6 @@ copy-changed lim s p g page f a l =
 
 -- ---- fetch
 
--- applying records keeps the length of the page
-pub length-applied-all : (w : ℕ) (rs : List Record) (page : List ℕ) → length (appliedAll w rs page) ≡ length page
-unfolding appliedAll applied
-length-applied-all w [] page = refl
-length-applied-all w (r ∷ rs) page = length-applied-all w rs (overlay (settings w (r .diff)) page) ∙ length-overlay (settings w (r .diff)) page
-
 -- the length of a present processor's copy of a present page
 pub length-copy : (lim : Limits) (n : Counts) (m : Pages) (p g : ℕ) → AtPage lim n p g → PagesInOrder lim n m → length (copyOf m p g) ≡ lim .words
 length-copy lim n m p g a f =
@@ -130,7 +124,7 @@ twin-taken-parts lim s p g f a m = go (dirtyAt (s .pages) p g) refl
       where
         dirtied : (q h : ℕ) → dirtyAt (newTwin (s .pages) p g) q h ≡ true → Dec (q ≡ p) → ownIn (s .clocks) q < lim .intervals
         dirtied q h d (yes z) = rw z (m .interval-left e)
-        dirtied q h d (no z) = f .dirty-has-interval q h (sym (dirty-new-processor (s .pages) p g q h z) ∙ d)
+        dirtied q h d (no z) = f .dirty-has-interval q h (sym (dirty-new-elsewhere (s .pages) p g q h (λ a b. z a)) ∙ d)
 
 -- a write that is not refused
 pub write-parts : (lim : Limits) (s : State) (p w v : ℕ) → Parts lim s → AtPage lim (s .counts) p (pageOfWord lim w) → MayDirty lim s p (pageOfWord lim w)

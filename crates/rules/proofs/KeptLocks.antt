@@ -1,4 +1,4 @@
--- Acquiring and releasing a lock, and wanting collection, keep a state in order. Assumes nothing.
+-- Acquiring and releasing a lock, and wanting collection, keep a state in order. Rests on KeptClose and KeptFetch. Assumes nothing.
 use Prim.Native.Nat.{ℕ, _<_}
 use native.Mathlib.Omega.{arith}
 use native.Mathlib.Decide.{ℕ-discrete}
@@ -13,8 +13,8 @@ use Rattle.rules.specs.Close.{closed}
 use Rattle.rules.specs.Steps.{withHolder, learned, acquire, release, wantsCollection, want}
 use Rattle.rules.proofs.Tables.{get-put-same, get-put-other, length-put-within}
 use Rattle.rules.proofs.Facts.{Within}
-use Rattle.rules.proofs.KeptParts.{presentAmong, CountsInOrder, MarksInOrder, Parts}
-use Rattle.rules.proofs.KeptMoves.{among-says, lock-set}
+use Rattle.rules.proofs.KeptParts.{presentAmong, among-says, CountsInOrder, MarksInOrder, Parts}
+use Rattle.rules.proofs.KeptMoves.{lock-set}
 use Rattle.rules.proofs.KeptRounds.{OwnKept, processor-learned}
 use Rattle.rules.proofs.KeptClose.{closed-parts}
 use Rattle.rules.proofs.KeptFetch.{withClocks, withMarks, clocks-moved, marks-changed}

@@ -1,5 +1,5 @@
--- The moves of clocks that the steps make keep the clocks in order: a clock set, a clock that learns another, an interval's end, a barrier
--- round, and all clocks cleared. Assumes nothing.
+-- The clocks stay in order when one of them is set: a lock's, the barrier's, an applied clock, an interval's or a processor's. Rests on
+-- KeptClocks. Assumes nothing.
 use Prim.Native.Nat.{ℕ, _≤_, _<_}
 use native.Mathlib.Omega.{arith}
 use native.Mathlib.Decide.{ℕ-discrete}
@@ -8,27 +8,14 @@ use mathlib.Core.Path.{_≡_, refl, sym, ap, _∙_}
 use mathlib.Core.Bool.{Bool, true, false, and-eq-true-iff, false≢true}
 use mathlib.Core.List.{List}
 use lib.ListN.{length}
-use lib.Dec.{leb, ltb, eqb}
-use borrow.Author.Tests.{leb-true, eqb-true, lt-ltb, le-leb, ne-eqb}
+use lib.Dec.{ltb, eqb}
+use borrow.Author.Tests.{eqb-true, lt-ltb, ne-eqb}
 use Rattle.clock.specs.Clocks.{entryOf}
-use Rattle.diff.specs.Reading.{applied}
 use Rattle.rules.specs.State.{Limits, Counts, Processor, Lock, Barrier, Applied, Interval, Clocks, clockOf, withClock}
-use Rattle.rules.specs.InOrder.{present}
-use Rattle.rules.specs.Refusals.{known, fits}
 use Rattle.rules.proofs.Holders.{sameHolder, clock-of-with-same, clock-of-with-other}
 use Rattle.rules.proofs.Facts.{Within}
-use Rattle.rules.proofs.KeptParts.{presentAmong, holderAmong, ownIn, CountsInOrder, ClocksInOrder}
+use Rattle.rules.proofs.KeptParts.{presentAmong, among-says, holderAmong, ownIn, CountsInOrder, ClocksInOrder}
 use Rattle.rules.proofs.KeptClocks.{by-replaced, replaced-in-order}
-
--- a present processor is 1 to the number of processors
-pub among-says : (n : Counts) (p : ℕ) → presentAmong n p ≡ true → (1 ≤ p) × (p ≤ n .processors)
-among-says n p e =
-    let t = and-eq-true-iff (leb 1 p) (leb p (n .processors)) .0 e in
-    (leb-true 1 p (t .0), leb-true p (n .processors) (t .1))
-
--- and the other way round
-pub among-when : (n : Counts) (p : ℕ) → 1 ≤ p → p ≤ n .processors → presentAmong n p ≡ true
-among-when n p h k = and-eq-true-iff (leb 1 p) (leb p (n .processors)) .1 (le-leb 1 p h, le-leb p (n .processors) k)
 
 -- an entry that its processor knows is 0 where the processor is absent
 absent-known : (lim : Limits) (n : Counts) (c : Clocks) (q e : ℕ) → ClocksInOrder lim n c → e ≤ ownIn c q → presentAmong n q ≡ false → e ≡ 0

@@ -1,25 +1,23 @@
 -- The pages stay in order when a processor's pages become clean, when a copy is replaced and when a twin is taken; and how many pages are
--- dirty afterwards. Assumes nothing.
+-- dirty afterwards. Rests on KeptParts. Assumes nothing.
 use Prim.Native.Nat.{ℕ, zero, suc, _+_, _≤_, _<_}
 use native.Mathlib.Omega.{arith}
 use native.Mathlib.Decide.{ℕ-discrete}
 use native.Mathlib.Nat.{suc-inj}
-use mathlib.Core.Path.{_≡_, refl, sym, ap, ap₂, _∙_}
+use mathlib.Core.Path.{_≡_, sym, ap, ap₂, _∙_}
 use mathlib.Core.Bool.{Bool, true, false, cond, not, _&&_, and-eq-true-iff, false≢true}
-use mathlib.Core.Option.{none}
 use mathlib.Core.List.{List, [], map}
 use lib.ListN.{length, getD}
 use lib.Dec.{ltb, eqb}
-use borrow.Author.Tests.{eqb-true, lt-ltb}
-use Rattle.rules.specs.Tables.{put, cell, putCell}
+use borrow.Author.Tests.{lt-ltb}
+use Rattle.rules.specs.Tables.{put, putCell}
 use Rattle.rules.specs.State.{Limits, Counts, Applied, Pages, copyOf, twinOf, dirtyAt}
 use Rattle.rules.specs.Close.{cleaned}
 use Rattle.rules.specs.Fetch.{withCopy}
 use Rattle.rules.specs.Steps.{twinTaken}
-use Rattle.rules.proofs.Tables.{get-put-same, get-put-other, cell-put-same, cell-put-row, cell-put-place, cell-put, get-map, total-same, total-zero, total-change}
-use Rattle.rules.proofs.KeptParts.{presentAmong, holderAmong, dirtyBelow, dirtyIn, CountsInOrder, PagesInOrder}
+use Rattle.rules.proofs.Tables.{get-put-same, get-put-other, cell-put-same, by-put-cell, cell-put-elsewhere, get-map, total-same, total-zero, total-change}
 use Rattle.rules.proofs.Rows.{rows-put-cell, rows-map-row}
-use Rattle.rules.proofs.KeptMoves.{among-says}
+use Rattle.rules.proofs.KeptParts.{presentAmong, among-says, holderAmong, dirtyBelow, dirtyIn, CountsInOrder, PagesInOrder}
 
 -- ---- all pages of a processor clean
 
@@ -85,15 +83,6 @@ dirty-pages-part n m p e = omega (arith, dirty-pages-cleaned n m p e)
 
 -- ---- a copy replaced
 
--- a statement about a place of a table after one place was changed
-by-put-cell : {A : Type 0} (P : A → Type 0) (d : A) (t : List (List A)) (p g q h : ℕ) (v : A) → (q ≡ p → h ≡ g → P v) → P (cell d t q h) → P (cell d (putCell d t p g v) q h)
-by-put-cell {A} P d t p g q h v same other = rw (cell-put d t p g q h v) (go (eqb q p) (eqb h g) refl refl)
-  where
-    go : (a b : Bool) → eqb q p ≡ a → eqb h g ≡ b → P (cond (a && b) v (cell d t q h))
-    go true true x y = same (eqb-true q p x) (eqb-true h g y)
-    go true false x y = other
-    go false b x y = other
-
 -- a present processor and page
 pub record AtPage (lim : Limits) (n : Counts) (p g : ℕ) : Type 0 where
   pub counts : CountsInOrder lim n
@@ -147,15 +136,10 @@ pub dirty-new-same : (m : Pages) (p g : ℕ) → dirtyAt (newTwin m p g) p g ≡
 unfolding dirtyAt newTwin
 dirty-new-same m p g = ap (λ (x : ℕ). not (eqb x 0)) (cell-put-same 0 (m .dirty) p g 1)
 
--- the other pages of the processor are as they were
-pub dirty-new-page : (m : Pages) (p g h : ℕ) → (h ≡ g → ⊥) → dirtyAt (newTwin m p g) p h ≡ dirtyAt m p h
+-- every other page is as it was
+pub dirty-new-elsewhere : (m : Pages) (p g q h : ℕ) → (q ≡ p → h ≡ g → ⊥) → dirtyAt (newTwin m p g) q h ≡ dirtyAt m q h
 unfolding dirtyAt newTwin
-dirty-new-page m p g h d = ap (λ (x : ℕ). not (eqb x 0)) (cell-put-place 0 (m .dirty) p g h 1 d)
-
--- so are the pages of the others
-pub dirty-new-processor : (m : Pages) (p g q h : ℕ) → (q ≡ p → ⊥) → dirtyAt (newTwin m p g) q h ≡ dirtyAt m q h
-unfolding dirtyAt newTwin
-dirty-new-processor m p g q h d = ap (λ (x : ℕ). not (eqb x 0)) (cell-put-row 0 (m .dirty) p g q h 1 d)
+dirty-new-elsewhere m p g q h d = ap (λ (x : ℕ). not (eqb x 0)) (cell-put-elsewhere 0 (m .dirty) p g q h 1 d)
 
 -- the pages stay in order with a new twin
 pub new-twin-in-order : (lim : Limits) (n : Counts) (m : Pages) (p g : ℕ) → AtPage lim n p g → PagesInOrder lim n m → PagesInOrder lim n (newTwin m p g)
@@ -184,7 +168,7 @@ dirty-pages-new-twin n m (suc k) g e h c =
     let none : _≡_ {A = ℕ} (cond (dirtyAt m (suc k) g) 1 0) 0 = ap (λ (t : Bool). cond t 1 0) c in
     let row =
     total-change (n .pages) (λ i. cond (dirtyAt (newTwin m (suc k) g) (suc k) i) 1 0) (λ i. cond (dirtyAt m (suc k) i) 1 0) g h
-    (λ i d. ap (λ (t : Bool). cond t 1 0) (dirty-new-page m (suc k) g i d)) in
+    (λ i d. ap (λ (t : Bool). cond t 1 0) (dirty-new-elsewhere m (suc k) g (suc k) i (λ a. d))) in
     omega (
       arith,
       one,
@@ -192,5 +176,5 @@ dirty-pages-new-twin n m (suc k) g e h c =
       row,
       total-change (n .processors) (λ i. dirtyBelow (newTwin m (suc k) g) (suc i) (n .pages)) (λ i. dirtyBelow m (suc i) (n .pages)) k (b .1)
           (λ i d. total-same (n .pages) (λ j. cond (dirtyAt (newTwin m (suc k) g) (suc i) j) 1 0) (λ j. cond (dirtyAt m (suc i) j) 1 0)
-          (λ j l. ap (λ (t : Bool). cond t 1 0) (dirty-new-processor m (suc k) g (suc i) j (λ z. d (suc-inj z))))),
+          (λ j l. ap (λ (t : Bool). cond t 1 0) (dirty-new-elsewhere m (suc k) g (suc i) j (λ z y. d (suc-inj z))))),
     )

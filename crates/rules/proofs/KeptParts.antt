@@ -1,23 +1,36 @@
--- "In order" taken apart: what it says of the clocks, the pages, the records and the marks of a state, each by itself. Assumes nothing.
+-- "In order" taken apart: what it says of the counts, the clocks, the pages, the records and the marks of a state, each by itself. Rests on
+-- Outside. Assumes nothing.
 use Prim.Native.Nat.{ℕ, suc, _+_, _≤_, _<_}
 use mathlib.Core.Path.{_≡_, refl, sym, _∙_}
-use mathlib.Core.Bool.{Bool, true, false, cond, not, _&&_}
+use mathlib.Core.Bool.{Bool, true, false, cond, not, _&&_, and-eq-true-iff}
 use mathlib.Core.Logic.{_⊎_}
 use mathlib.Core.List.{List, []}
 use lib.ListN.{length, getD}
 use lib.Dec.{leb, ltb, eqb}
+use borrow.Author.Tests.{leb-true, le-leb}
 use Rattle.clock.specs.Clocks.{entryOf}
-use Rattle.diff.specs.Reading.{readRefusal, applied}
+use Rattle.diff.specs.Reading.{readRefusal}
 use Rattle.rules.specs.Tables.{total}
 use Rattle.rules.specs.State.{Limits, Counts, Holder, Processor, Lock, Barrier, Applied, Interval, Clocks, clockOf, Pages, copyOf, twinOf, dirtyAt, Records, recordIn, Marks, State, clock, own, holder, hasArrived}
-use Rattle.rules.specs.InOrder.{present, slotSize, sized, presentHolder, recordAt, sameNotice, dirtyPages}
-use Rattle.rules.specs.Refusals.{known, fits}
+use Rattle.rules.specs.InOrder.{present, slotSize, presentHolder, recordAt, sameNotice, dirtyPages}
 use Rattle.rules.proofs.Tables.{Passes}
 use Rattle.rules.proofs.Facts.{Within, InOrder}
+use Rattle.rules.proofs.Rows.{Rows}
+use Rattle.rules.proofs.Outside.{applied-rows, interval-rows, copies-rows, twins-rows, dirty-rows}
 
 -- a present processor, by the counts alone
 abbrev pub presentAmong : Counts → ℕ → Bool
 presentAmong n p = leb 1 p && leb p (n .processors)
+
+-- a present processor is 1 to the number of processors
+pub among-says : (n : Counts) (p : ℕ) → presentAmong n p ≡ true → (1 ≤ p) × (p ≤ n .processors)
+among-says n p e =
+    let t = and-eq-true-iff (leb 1 p) (leb p (n .processors)) .0 e in
+    (leb-true 1 p (t .0), leb-true p (n .processors) (t .1))
+
+-- and the other way round
+pub among-when : (n : Counts) (p : ℕ) → 1 ≤ p → p ≤ n .processors → presentAmong n p ≡ true
+among-when n p h k = and-eq-true-iff (leb 1 p) (leb p (n .processors)) .1 (le-leb 1 p h, le-leb p (n .processors) k)
 
 -- a present holder
 unfoldable pub holderAmong : Counts → Holder → Bool
@@ -57,12 +70,8 @@ pub record ClocksSized (lim : Limits) (c : Clocks) : Type 0 where
   pub processors : length (c .processors) ≡ suc (lim .processors)
   pub nobody-clock : length (getD (c .processors) 0 []) ≡ 0
   pub locks : length (c .locks) ≡ lim .locks
-  pub applied : length (c .applied) ≡ suc (lim .processors)
-  pub nobody-applied : length (getD (c .applied) 0 []) ≡ 0
-  pub applied-row : (p : ℕ) → 1 ≤ p → p ≤ lim .processors → length (getD (c .applied) p []) ≡ lim .pages
-  pub intervals : length (c .intervals) ≡ suc (lim .processors)
-  pub nobody-interval : length (getD (c .intervals) 0 []) ≡ 0
-  pub interval-row : (p : ℕ) → 1 ≤ p → p ≤ lim .processors → length (getD (c .intervals) p []) ≡ suc (lim .intervals)
+  pub applied : Rows lim (lim .pages) (c .applied)
+  pub intervals : Rows lim (suc (lim .intervals)) (c .intervals)
   pub no-interval : (p : ℕ) → 1 ≤ p → p ≤ lim .processors → length (clockOf c (Interval p 0)) ≡ 0
   pub clocks : (h : Holder) → Within lim h → length (clockOf c h) ≡ lim .processors
 
@@ -76,19 +85,13 @@ pub record ClocksInOrder (lim : Limits) (n : Counts) (c : Clocks) : Type 0 where
   pub own-fits : (p : ℕ) → ownIn c p ≤ lim .intervals
   pub applied-known : (p g q : ℕ) → entryOf (clockOf c (Applied p g)) q ≤ entryOf (clockOf c (Processor p)) q
 
--- a table with an empty row for nobody and a row of a given length for each processor
-pub record RowsSized {A : Type 0} (lim : Limits) (n : ℕ) (t : List (List A)) : Type 0 where
-  pub table : length t ≡ suc (lim .processors)
-  pub nobody : length (getD t 0 []) ≡ 0
-  pub row : (p : ℕ) → 1 ≤ p → p ≤ lim .processors → length (getD t p []) ≡ n
-
 -- the pages, with the counts
 pub record PagesInOrder (lim : Limits) (n : Counts) (m : Pages) : Type 0 where
-  pub copies : RowsSized lim (lim .pages) (m .copies)
+  pub copies : Rows lim (lim .pages) (m .copies)
   pub copy : (p g : ℕ) → 1 ≤ p → p ≤ lim .processors → g < lim .pages → length (copyOf m p g) ≡ lim .words
-  pub twins : RowsSized lim (lim .pages) (m .twins)
+  pub twins : Rows lim (lim .pages) (m .twins)
   pub twin : (p g : ℕ) → 1 ≤ p → p ≤ lim .processors → g < lim .pages → length (twinOf m p g) ≡ lim .words
-  pub dirty : RowsSized lim (lim .pages) (m .dirty)
+  pub dirty : Rows lim (lim .pages) (m .dirty)
   pub absent-copy : (p g o : ℕ) → holderAmong n (Applied p g) ≡ false → getD (copyOf m p g) o 0 ≡ 0
   pub absent-clean : (p g : ℕ) → holderAmong n (Applied p g) ≡ false → dirtyAt m p g ≡ false
 
@@ -158,12 +161,8 @@ parts-of lim s f =
                   processors = f .sized .processors;
                   nobody-clock = f .sized .nobody-clock;
                   locks = f .sized .locks;
-                  applied = f .sized .applied;
-                  nobody-applied = f .sized .nobody-applied;
-                  applied-row = f .sized .applied-row;
-                  intervals = f .sized .intervals;
-                  nobody-interval = f .sized .nobody-interval;
-                  interval-row = f .sized .interval-row;
+                  applied = applied-rows lim s (f .sized);
+                  intervals = interval-rows lim s (f .sized);
                   no-interval = f .sized .no-interval;
                   clocks = f .sized .clocks;
                 };
@@ -176,11 +175,11 @@ parts-of lim s f =
           };
       pages =
           record {
-            copies = record { table = f .sized .copies; nobody = f .sized .nobody-copy; row = f .sized .copies-row };
+            copies = copies-rows lim s (f .sized);
             copy = f .sized .copy;
-            twins = record { table = f .sized .twins; nobody = f .sized .nobody-twin; row = f .sized .twins-row };
+            twins = twins-rows lim s (f .sized);
             twin = f .sized .twin;
-            dirty = record { table = f .sized .dirty; nobody = f .sized .nobody-dirty; row = f .sized .dirty-row };
+            dirty = dirty-rows lim s (f .sized);
             absent-copy = f .absent-copy;
             absent-clean = f .absent-clean;
           };
@@ -224,23 +223,23 @@ in-order-of lim s f =
             processors = f .clocks .sized .processors;
             nobody-clock = f .clocks .sized .nobody-clock;
             locks = f .clocks .sized .locks;
-            applied = f .clocks .sized .applied;
-            nobody-applied = f .clocks .sized .nobody-applied;
-            applied-row = f .clocks .sized .applied-row;
-            intervals = f .clocks .sized .intervals;
-            nobody-interval = f .clocks .sized .nobody-interval;
-            interval-row = f .clocks .sized .interval-row;
+            applied = f .clocks .sized .applied .processors;
+            nobody-applied = f .clocks .sized .applied .nobody;
+            applied-row = f .clocks .sized .applied .row;
+            intervals = f .clocks .sized .intervals .processors;
+            nobody-interval = f .clocks .sized .intervals .nobody;
+            interval-row = f .clocks .sized .intervals .row;
             no-interval = f .clocks .sized .no-interval;
             clocks = f .clocks .sized .clocks;
-            copies = f .pages .copies .table;
+            copies = f .pages .copies .processors;
             nobody-copy = f .pages .copies .nobody;
             copies-row = f .pages .copies .row;
             copy = f .pages .copy;
-            twins = f .pages .twins .table;
+            twins = f .pages .twins .processors;
             nobody-twin = f .pages .twins .nobody;
             twins-row = f .pages .twins .row;
             twin = f .pages .twin;
-            dirty = f .pages .dirty .table;
+            dirty = f .pages .dirty .processors;
             nobody-dirty = f .pages .dirty .nobody;
             dirty-row = f .pages .dirty .row;
             slots = f .records .slots;

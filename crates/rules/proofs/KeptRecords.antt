@@ -1,4 +1,4 @@
--- The records stay in order when own entries rise, when a record is appended, and when a processor records its changed pages. Assumes nothing.
+-- The records stay in order when own entries rise and when a record is appended. Rests on Slots and KeptParts. Assumes nothing.
 use Prim.Native.Nat.{ℕ, _+_, _*_, _≤_, _<_}
 use native.Mathlib.Omega.{arith}
 use native.Mathlib.Decide.{ℕ-discrete}
@@ -10,7 +10,6 @@ use lib.ListN.{length, getD, drop, length-append, length-drop}
 use Rattle.diff.specs.Reading.{readRefusal}
 use Rattle.rules.specs.State.{Limits, Counts, Record, Records, slotBytes, recordIn, laidOver, appended}
 use Rattle.rules.specs.InOrder.{slotSize, sameNotice}
-use Rattle.rules.specs.Refusals.{fits}
 use Rattle.rules.proofs.Tables.{get-put-same, get-put-other, length-put-within}
 use Rattle.rules.proofs.Slots.{record-in-laid}
 use Rattle.rules.proofs.KeptParts.{presentAmong, SlotSound, RecordsInOrder}

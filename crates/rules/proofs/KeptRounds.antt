@@ -1,5 +1,5 @@
 -- The clocks stay in order when a processor ends an interval, when one clock learns another, when a barrier round completes, and when all
--- clocks are cleared. Assumes nothing.
+-- clocks are cleared. Rests on KeptMoves. Assumes nothing.
 use Prim.Native.Nat.{ℕ, zero, suc, _+_, _≤_, _<_, max}
 use native.Mathlib.Omega.{arith}
 use native.Mathlib.Decide.{ℕ-discrete}
@@ -10,17 +10,14 @@ use mathlib.Core.List.{List}
 use lib.ListN.{length, length-map}
 use Rattle.clock.specs.Clocks.{joined, entryOf}
 use Rattle.clock.proofs.Laws.{length-joined, entryOf-joined}
-use Rattle.diff.specs.Reading.{applied}
 use Rattle.rules.specs.State.{Limits, Counts, Holder, Processor, Barrier, Applied, Interval, Clocks, clockOf, withClock, cleared, State, clock, own}
-use Rattle.rules.specs.InOrder.{sized}
 use Rattle.rules.specs.Close.{raised, ticked}
 use Rattle.rules.specs.Steps.{learned, allLearned, allCleared}
-use Rattle.rules.specs.Refusals.{known}
 use Rattle.rules.proofs.Holders.{clock-of-with-same, entry-raised-own, entry-raised-other, length-raised, entry-cleared, length-cleared, clock-of-all-cleared}
 use Rattle.rules.proofs.Facts.{Within}
-use Rattle.rules.proofs.KeptParts.{presentAmong, ownIn, CountsInOrder, ClocksSized, ClocksInOrder}
 use Rattle.rules.proofs.Rows.{rows-map-all}
-use Rattle.rules.proofs.KeptMoves.{among-says, among-when, barrier-set, interval-set, own-same, own-other, processor-set}
+use Rattle.rules.proofs.KeptParts.{presentAmong, among-says, among-when, ownIn, CountsInOrder, ClocksSized, ClocksInOrder}
+use Rattle.rules.proofs.KeptMoves.{barrier-set, interval-set, own-same, own-other, processor-set}
 
 -- clocks in order that leave every processor's own entry as it was
 pub record OwnKept (lim : Limits) (n : Counts) (c after : Clocks) : Type 0 where
@@ -155,18 +152,12 @@ length-all-cleared c h = ap length (clock-of-all-cleared c h) ∙ length-cleared
 sized-cleared : (lim : Limits) (c : Clocks) → ClocksSized lim c → ClocksSized lim (allCleared c)
 unfolding allCleared clockOf
 sized-cleared lim c f =
-    let a = rows-map-all lim (lim .pages) (c .applied) cleared (record { table = f .applied; nobody = f .nobody-applied; row = f .applied-row }) in
-    let i = rows-map-all lim (suc (lim .intervals)) (c .intervals) cleared (record { table = f .intervals; nobody = f .nobody-interval; row = f .interval-row }) in
     record {
       processors = length-map (c .processors) cleared ∙ f .processors;
       nobody-clock = length-all-cleared c (Processor 0) ∙ f .nobody-clock;
       locks = length-map (c .locks) cleared ∙ f .locks;
-      applied = a .table;
-      nobody-applied = a .nobody;
-      applied-row = a .row;
-      intervals = i .table;
-      nobody-interval = i .nobody;
-      interval-row = i .row;
+      applied = rows-map-all lim (lim .pages) (c .applied) cleared (f .applied);
+      intervals = rows-map-all lim (suc (lim .intervals)) (c .intervals) cleared (f .intervals);
       no-interval = λ p h k. length-all-cleared c (Interval p 0) ∙ f .no-interval p h k;
       clocks = λ h w. length-all-cleared c h ∙ f .clocks h w;
     }

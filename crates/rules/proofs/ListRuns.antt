@@ -1,4 +1,5 @@
--- The run over a list of steps as states by time. Assumes nothing.
+-- The run over a list of steps as states by time, and what its reads answer. Rests on OpenedInOrder, InOrderRuns and Timeline. Assumes
+-- nothing.
 use Prim.Native.Nat.{ℕ, zero, suc, _<_}
 use mathlib.Core.Path.{_≡_, refl, sym, ap, ap₂, _∙_}
 use mathlib.Core.Bool.{Bool, true, false, cond, false≢true}
@@ -6,12 +7,11 @@ use mathlib.Core.List.{List, [], _∷_}
 use lib.ListN.{take}
 use lib.Dec.{eqb}
 use borrow.Author.Tests.{eqb-true}
-use Rattle.diff.proofs.Pairs.{words-there}
 use Rattle.rules.specs.State.{Limits, Counts, State}
 use Rattle.rules.specs.InOrder.{countsInRange}
 use Rattle.rules.specs.Opening.{opened}
 use Rattle.rules.specs.Steps.{read}
-use Rattle.rules.specs.Refusals.{Step, Action, Read, actionOf, known, refusalInOrder, effect, Answer, refusedAs, answerInOrder, nextInOrder, refusal}
+use Rattle.rules.specs.Refusals.{Step, Action, Read, actionOf, known, refusalInOrder, effect, Answer, refusedAs, answerInOrder, nextInOrder}
 use Rattle.rules.specs.Runs.{answersInOrder, stateInOrder}
 use Rattle.rules.specs.Order.{Event, events, noEvent, eventAt, Took}
 use Rattle.rules.specs.Demand.{valueAt}

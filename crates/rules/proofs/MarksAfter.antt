@@ -1,31 +1,20 @@
--- What each kind of step leaves of the marks: the holder of each lock, and who has arrived at the barrier. Assumes nothing.
-use Prim.Native.Nat.{ℕ, zero, suc}
+-- What each kind of step leaves of the marks: the holder of each lock, and who has arrived at the barrier. Rests on Ghosts. Assumes
+-- nothing.
+use Prim.Native.Nat.{ℕ}
 use mathlib.Core.Path.{_≡_, refl, ap, _∙_}
 use mathlib.Core.Bool.{Bool, true, false, cond, not}
 use mathlib.Core.List.{List, map}
-use lib.ListN.{getD, replicate}
+use lib.ListN.{getD}
 use lib.Dec.{eqb}
 use Rattle.rules.specs.Tables.{put}
-use Rattle.rules.specs.State.{Limits, Counts, Marks, State, holder, hasArrived}
-use Rattle.rules.specs.Opening.{opened}
+use Rattle.rules.specs.State.{Limits, Marks, State, holder, hasArrived}
 use Rattle.rules.specs.Close.{closed}
 use Rattle.rules.specs.Fetch.{fetched}
-use Rattle.rules.specs.Steps.{read, write, withHolder, acquire, release, atBarrier, allArrived, roundDone, pagesFetched, allFetched, emptied, collected, wantsCollection, arrive, want}
+use Rattle.rules.specs.Steps.{read, write, withHolder, acquire, release, atBarrier, allArrived, roundDone, emptied, collected, wantsCollection, arrive, want}
 use Rattle.rules.specs.Refusals.{Action, Read, Write, Acquire, Release, Arrive, Want, Unknown, effect}
 use Rattle.rules.proofs.Tables.{get-put, get-map}
+use Rattle.rules.proofs.Fetches.{all-fetched-marks}
 use Rattle.rules.proofs.Ghosts.{completes}
-
--- ---- fetches keep the marks
-
-pages-fetched-marks : (lim : Limits) (s : State) (p n : ℕ) → pagesFetched lim s p n .after .marks ≡ s .marks
-unfolding pagesFetched fetched
-pages-fetched-marks lim s p zero = refl
-pages-fetched-marks lim s p (suc g) = pages-fetched-marks lim s p g
-
-all-fetched-marks : (lim : Limits) (s : State) (n : ℕ) → allFetched lim s n .after .marks ≡ s .marks
-unfolding allFetched
-all-fetched-marks lim s zero = refl
-all-fetched-marks lim s (suc k) = pages-fetched-marks lim (allFetched lim s k .after) (suc k) (s .counts .pages) ∙ all-fetched-marks lim s k
 
 -- ---- an arrival
 
@@ -40,7 +29,7 @@ arrive-holders lim s p = go (allArrived (atBarrier s p)) (wantsCollection (atBar
     go : (a b : Bool)
         → cond a (cond b (collected lim (roundDone (atBarrier s p))) (record { after = roundDone (atBarrier s p); count = 0 })) (record { after = atBarrier s p; count = 0 }) .after .marks .holders
         ≡ s .marks .holders
-    go true true = ap (λ (m : Marks). m .holders) (all-fetched-marks lim (roundDone (atBarrier s p)) (s .counts .processors))
+    go true true = ap (λ (m : Marks). m .holders) (all-fetched-marks lim (roundDone (atBarrier s p)))
     go true false = refl
     go false b = refl
 
@@ -52,7 +41,7 @@ arrive-arrived lim s p = go (allArrived (atBarrier s p)) (wantsCollection (atBar
     go : (a b : Bool)
         → cond a (cond b (collected lim (roundDone (atBarrier s p))) (record { after = roundDone (atBarrier s p); count = 0 })) (record { after = atBarrier s p; count = 0 }) .after .marks .arrived
         ≡ cond a (map (λ (mark : ℕ). 0) (arrivedMarks s p)) (arrivedMarks s p)
-    go true true = ap (λ (m : Marks). m .arrived) (all-fetched-marks lim (roundDone (atBarrier s p)) (s .counts .processors))
+    go true true = ap (λ (m : Marks). m .arrived) (all-fetched-marks lim (roundDone (atBarrier s p)))
     go true false = refl
     go false b = refl
 
@@ -128,20 +117,3 @@ arrived-after lim s p (Release k) q = refl
 arrived-after lim s p Arrive q = arrived-after-arrive lim s p q
 arrived-after lim s p Want q = refl
 arrived-after lim s p Unknown q = refl
-
--- ---- the opening: no lock is held and nobody has arrived
-
-get-zeros : (n i : ℕ) → getD (replicate {A = ℕ} n 0) i 0 ≡ 0
-get-zeros zero i = refl
-get-zeros (suc n) zero = refl
-get-zeros (suc n) (suc i) = get-zeros n i
-
--- no lock is held
-pub opened-holder : (lim : Limits) (c : Counts) (l : ℕ) → holder (opened lim c) l ≡ 0
-unfolding holder opened
-opened-holder lim c l = get-zeros (lim .locks) l
-
--- nobody has arrived
-pub opened-arrived : (lim : Limits) (c : Counts) (q : ℕ) → hasArrived (opened lim c) q ≡ false
-unfolding hasArrived opened
-opened-arrived lim c q = rw (get-zeros (suc (lim .processors)) q)

@@ -1,4 +1,5 @@
--- The records that closing makes: one for each page that differs, in the order of the pages. Assumes nothing.
+-- The records that closing makes: one for each page that differs, in the order of the pages. Rests on Slots and SelectedRecords. Assumes
+-- nothing.
 use Prim.Native.Nat.{ℕ, zero, suc, _≤_, _<_}
 use native.Mathlib.Omega.{arith}
 use native.Mathlib.Decide.{decLe, ℕ-discrete}

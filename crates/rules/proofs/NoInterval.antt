@@ -16,7 +16,7 @@ use Rattle.rules.specs.Fetch.{withCopy, fetched}
 use Rattle.rules.specs.Steps.{pageOfWord, offsetOfWord, wordOf, write, release}
 use Rattle.rules.specs.Refusals.{actionOf, refusalInOrder, effect, nextInOrder}
 use Rattle.rules.specs.Runs.{stateInOrder}
-use Rattle.rules.proofs.InvWrite.{storedPages, stored-copy, OtherPage, stored-dirty, stored-dirty-elsewhere, stored-twin-clean}
+use Rattle.rules.proofs.InvStore.{storedPages, stored-copy, stored-dirty, stored-dirty-elsewhere, stored-twin-clean}
 use Rattle.rules.proofs.Listing.{writes, releases}
 
 -- no interval is made from one state to another: no processor's clock has risen, no clock of an interval is kept, no record is added
@@ -90,7 +90,7 @@ module _ (lim : Limits) (s : State) (p w v : ℕ) (clean : (g : ℕ) → dirtyAt
       go (yes e) =
           rw (e, stored-dirty lim m p w v, stored-twin-clean lim m p w v (still-clean (pageOfWord lim w)), kept)
           (differ-same (copyOf m p (pageOfWord lim w)))
-      go (no e) = rw (stored-dirty-elsewhere lim m p w v p g (OtherPage refl e), still-clean g)
+      go (no e) = rw (stored-dirty-elsewhere lim m p w v p g (λ same. e), still-clean g)
 
   store-makes-none : NoInterval s (write lim s p w v .after)
   unfolding write fetched withClock

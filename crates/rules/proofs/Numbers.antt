@@ -1,25 +1,23 @@
 -- The numbers of known writes (ghosts) along a run: what holds of them at every time, that none of a processor or a lock falls, and what a
--- round hands on. Assumes nothing.
+-- round hands on. Rests on StrictOrder, Rounds and NumbersAfter. Assumes nothing.
 use Prim.Native.Nat.{ℕ, zero, suc, _+_, _≤_, _<_}
 use native.Mathlib.Omega.{arith}
 use native.Mathlib.Decide.{decLt, ℕ-discrete}
-use mathlib.Core.Path.{_≡_, refl, sym, ap, _∙_}
+use mathlib.Core.Path.{_≡_, refl, ap}
 use mathlib.Core.Bool.{Bool, true, false, cond, _&&_}
 use mathlib.Core.List.{List}
 use lib.Dec.{eqb}
-use Rattle.rules.specs.State.{Limits, Counts, Holder, Processor, Lock, Barrier, State, holder, hasArrived}
-use Rattle.rules.specs.InOrder.{present}
+use Rattle.rules.specs.State.{Limits, Counts, Holder, Processor, Lock, Barrier, State}
 use Rattle.rules.specs.Refusals.{Action, Read, Write, Acquire, Release, Arrive, Want, Unknown}
 use Rattle.rules.specs.Order.{Event, Took, rounds}
 use Rattle.rules.proofs.Holders.{sameHolder}
-use Rattle.rules.proofs.Accepted.{present-when}
 use Rattle.rules.proofs.Timeline.{Timeline, Moment, Refused, Taken, moment, counts-stay}
 use Rattle.rules.proofs.Ghosts.{Ghost, withNumber, roundNumbers, completes, arrivedNumbers, ghostAfter, ghostAt, ghost-refused, ghost-taken}
 use Rattle.rules.proofs.StrictOrder.{never-falls, rounds-never-fall}
 use Rattle.rules.proofs.ActionKinds.{arrives, arrives-is}
 use Rattle.rules.proofs.Allowed.{allowed}
 use Rattle.rules.proofs.Rounds.{rounds-after-step, rounds-after-refusal}
-use Rattle.rules.proofs.NumbersAfter.{Knowing, writes-grow, processor-grows, lock-grows, knowing-after}
+use Rattle.rules.proofs.NumbersAfter.{Knowing, processor-grows, lock-grows, knowing-after}
 
 -- ---- what an arrival hands on
 
@@ -79,34 +77,6 @@ module _ (lim : Limits) (c : Counts) (es : List Event) (r : Timeline lim c es) (
   pub known-at-most-writes : (t : ℕ) (h : Holder) → ghostAt lim c es r w t .known h ≤ ghostAt lim c es r w t .writes
   known-at-most-writes t h = knowing t .at-most h
 
-  -- the holder of a lock knows what the lock knows
-  pub holder-knows-lock : (t p l : ℕ) → holder (r .state t) l ≡ p → (p ≡ 0 → ⊥)
-      → ghostAt lim c es r w t .known (Lock l) ≤ ghostAt lim c es r w t .known (Processor p)
-  holder-knows-lock t p l e h = rw e at (knowing t .holder-knows l (λ z. h (sym e ∙ z)))
-
-  -- the barrier knows what an arrived processor knows
-  pub barrier-knows-arrived : (t p : ℕ) → hasArrived (r .state t) p ≡ true
-      → ghostAt lim c es r w t .known (Processor p) ≤ ghostAt lim c es r w t .known Barrier
-  barrier-knows-arrived t p e = knowing t .arrived-knows p e
-
-  -- a processor that knows every write
-  pub record KnowsAll (t : ℕ) : Type 0 where
-    pub processor : ℕ
-    pub here : present (r .state t) processor ≡ true
-    pub knows : ghostAt lim c es r w t .known (Processor processor) ≡ ghostAt lim c es r w t .writes
-
-  -- there is one at every time
-  pub someone-knows : (t : ℕ) → KnowsAll t
-  someone-knows t =
-      let k : Knowing (c .processors) (r .state t) (ghostAt lim c es r w t) = knowing t in
-      record {
-        processor = k .knower;
-        here =
-            present-when (r .state t) (k .knower) (k .knower-from)
-            (rw (ap (λ (m : Counts). m .processors) (counts-stay lim c es r t)) (k .knower-to));
-        knows = k .knows-all;
-      }
-
   -- ---- what never falls
 
   processor-step : (q t : ℕ) → ghostAt lim c es r w t .known (Processor q) ≤ ghostAt lim c es r w (suc t) .known (Processor q)
@@ -127,14 +97,6 @@ module _ (lim : Limits) (c : Counts) (es : List Event) (r : Timeline lim c es) (
           rw (ghost-taken lim c es r w t p a took)
           (lock-grows (c .processors) w (r .state t) p (ghostAt lim c es r w t) (knowing t) a (allowed lim c es r t p a took acc) l)
 
-  writes-step : (t : ℕ) → ghostAt lim c es r w t .writes ≤ ghostAt lim c es r w (suc t) .writes
-  writes-step t = go (moment lim c es r t)
-    where
-      go : Moment lim es t (r .state t) (r .state (suc t)) → ghostAt lim c es r w t .writes ≤ ghostAt lim c es r w (suc t) .writes
-      go (Refused e k) = rw (ghost-refused lim c es r w t e) (omega arith)
-      go (Taken p a took acc k) =
-          rw (ghost-taken lim c es r w t p a took) (writes-grow (c .processors) w (r .state t) p (ghostAt lim c es r w t) a)
-
   -- the number of a processor
   pub processor-never-falls : (q i j : ℕ) → i ≤ j → ghostAt lim c es r w i .known (Processor q) ≤ ghostAt lim c es r w j .known (Processor q)
   processor-never-falls q = never-falls (λ t. ghostAt lim c es r w t .known (Processor q)) (processor-step q)
@@ -142,10 +104,6 @@ module _ (lim : Limits) (c : Counts) (es : List Event) (r : Timeline lim c es) (
   -- the number of a lock
   pub lock-never-falls : (l i j : ℕ) → i ≤ j → ghostAt lim c es r w i .known (Lock l) ≤ ghostAt lim c es r w j .known (Lock l)
   lock-never-falls l = never-falls (λ t. ghostAt lim c es r w t .known (Lock l)) (lock-step l)
-
-  -- the writes
-  pub writes-never-fall : (i j : ℕ) → i ≤ j → ghostAt lim c es r w i .writes ≤ ghostAt lim c es r w j .writes
-  writes-never-fall = never-falls (λ t. ghostAt lim c es r w t .writes) writes-step
 
   -- ---- an arrival at place i and a later time
 
@@ -224,11 +182,6 @@ module _ (lim : Limits) (c : Counts) (es : List Event) (r : Timeline lim c es) (
       go (no e) below =
           handed-on-step i t (ghostAt lim c es r w (suc i) .known (Processor p)) (rounds-never-fall (c .processors) es i t (omega (arith, l)))
           (below (omega (arith, l, e)))
-
-  -- while the round is the same the barrier knows what an arrived processor knew
-  pub barrier-knows : (i p : ℕ) → Took es i p Arrive → (t : ℕ) → i < t → rounds (c .processors) es t ≡ rounds (c .processors) es i
-      → ghostAt lim c es r w (suc i) .known (Processor p) ≤ ghostAt lim c es r w t .known Barrier
-  barrier-knows i p took t l e = handed-on i p took t l .same-round e
 
   -- after a completed round every processor knows it
   pub round-tells : (i p : ℕ) → Took es i p Arrive → (t : ℕ) → rounds (c .processors) es i < rounds (c .processors) es t

@@ -1,5 +1,5 @@
 -- What one accepted step does to the numbers of known writes (ghosts): none of a processor or a lock falls, and what holds of them between
--- processors, locks and the barrier stays. Assumes nothing.
+-- processors, locks and the barrier stays. Rests on ActionKinds, MarksAfter and Allowed. Assumes nothing.
 use Prim.Native.Nat.{ℕ, _+_, _≤_, max}
 use native.Mathlib.Omega.{arith}
 use mathlib.Core.Path.{_≡_, refl, sym, _∙_}
@@ -63,21 +63,6 @@ pub record Knowing (n : ℕ) (s : State) (γ : Ghost) : Type 0 where
   pub knows-all : γ .known (Processor knower) ≡ γ .writes
 
 module _ (n w : ℕ) (s : State) (p : ℕ) (γ : Ghost) where
-  -- the writes are never fewer
-  pub writes-grow : (a : Action) → γ .writes ≤ ghostAfter w s p a γ .writes
-  unfolding ghostAfter
-  writes-grow (Read x) = omega arith
-  writes-grow (Write x v) = go (eqb x w)
-    where
-      go : (b : Bool) → γ .writes ≤ cond b (γ .writes + 1) (γ .writes)
-      go true = omega arith
-      go false = omega arith
-  writes-grow (Acquire l) = omega arith
-  writes-grow (Release l) = omega arith
-  writes-grow Arrive = omega arith
-  writes-grow Want = omega arith
-  writes-grow Unknown = omega arith
-
   at-most-after : Knowing n s γ → (a : Action) (h : Holder) → ghostAfter w s p a γ .known h ≤ ghostAfter w s p a γ .writes
   unfolding ghostAfter arrivedNumbers
   at-most-after k (Read x) h = k .at-most h

@@ -1,5 +1,5 @@
 -- The numbers of known writes (ghosts) follow happens-before-1, so a processor whose step every earlier write to w is before knows all of
--- them. Assumes nothing.
+-- them. Rests on Numbers. Assumes nothing.
 use Prim.Native.Nat.{ℕ, zero, suc, _≤_, _<_, max}
 use native.Mathlib.Omega.{arith}
 use mathlib.Core.Path.{_≡_, refl, sym, ap, _∙_}
@@ -7,8 +7,6 @@ use mathlib.Core.Bool.{Bool, true, false, cond}
 use mathlib.Core.Logic.{_⊎_, inl, inr}
 use mathlib.Core.List.{List}
 use Rattle.rules.specs.State.{Limits, Counts, Processor, Lock, State}
-use Rattle.rules.specs.Fetch.{earlier}
-use Rattle.rules.specs.Steps.{write}
 use Rattle.rules.specs.Refusals.{Action, Read, Write, Acquire, Release, Arrive, Want, Unknown, actionOf}
 use Rattle.rules.specs.Order.{Event, eventAt, Took, rounds, Before, program, lock, round, chain}
 use Rattle.rules.specs.Demand.{valueField, lastWritten, EarlierWrite}

@@ -1,4 +1,4 @@
--- The state that an accepted opening leaves is in order. Assumes nothing.
+-- The state that an accepted opening leaves is in order. Rests on InOrderSays and InOrderWhen. Assumes nothing.
 use Prim.Native.Nat.{ℕ, zero, suc, _≤_, _<_}
 use native.Mathlib.Omega.{arith}
 use mathlib.Core.Path.{_≡_, refl, sym, ap, _∙_}
@@ -9,16 +9,14 @@ use lib.ListN.{length, getD, replicate, length-replicate, getD-replicate}
 use lib.Dec.{eqb}
 use Rattle.clock.specs.Clocks.{zeros, entryOf}
 use Rattle.clock.proofs.Laws.{entryOf-zeros}
-use Rattle.diff.specs.Reading.{applied}
 use Rattle.rules.specs.Tables.{cell}
 use Rattle.rules.specs.State.{Limits, Counts, Holder, Processor, Lock, Barrier, Applied, Interval, clockOf, copyOf, twinOf, dirtyAt, clock, own, holder, hasArrived}
-use Rattle.rules.specs.InOrder.{slotSize, sized, countsInRange, dirtyPages, inOrder}
+use Rattle.rules.specs.InOrder.{slotSize, countsInRange, dirtyPages, inOrder}
 use Rattle.rules.specs.Opening.{Opening, openingRefusal, rows, zeroClocks, zeroPages, opened}
-use Rattle.rules.specs.Refusals.{known}
 use Rattle.rules.proofs.Tables.{total-zero}
 use Rattle.rules.proofs.Facts.{Within, Sized, InOrder}
 use Rattle.rules.proofs.Everywhere.{conjoined-at, entry-none}
-use Rattle.rules.proofs.Outside.{Rows}
+use Rattle.rules.proofs.Rows.{Rows}
 use Rattle.rules.proofs.Conditions.{countsTests, counts-tests}
 use Rattle.rules.proofs.InOrderSays.{in-range-says}
 use Rattle.rules.proofs.InOrderWhen.{in-order-when}

@@ -1,83 +1,18 @@
--- What stands outside the tables of a state of the fixed size, and at nobody's places: nothing. Assumes nothing.
+-- What stands outside the tables of a state of the fixed size, and at nobody's places: nothing. Rests on Rows. Assumes nothing.
 use Prim.Native.Nat.{ℕ, zero, suc, _≤_, _<_}
 use native.Mathlib.Omega.{arith}
 use native.Mathlib.Decide.{decLe}
-use mathlib.Core.Path.{_≡_, refl, ap, _∙_}
-use mathlib.Core.Bool.{Bool, true, false, not}
-use mathlib.Core.List.{List, [], _∷_}
-use lib.ListN.{length, getD, List·getD-eq-default}
+use mathlib.Core.Path.{_≡_, ap, _∙_}
+use mathlib.Core.Bool.{false, not}
+use mathlib.Core.List.{List, []}
+use lib.ListN.{length, List·getD-eq-default}
 use lib.Dec.{eqb}
-use borrow.Author.Tests.{eqb-true, eq-eqb}
 use Rattle.clock.specs.Clocks.{entryOf}
 use Rattle.rules.specs.Tables.{cell}
-use Rattle.rules.specs.State.{Limits, Holder, Processor, Lock, Barrier, Applied, Interval, clockOf, copyOf, twinOf, dirtyAt, State, holder, hasArrived}
-use Rattle.rules.specs.InOrder.{everyProcessor, rowsSized}
+use Rattle.rules.specs.State.{Limits, Holder, Processor, Lock, Barrier, Applied, Interval, clockOf, copyOf, dirtyAt, State, holder, hasArrived}
 use Rattle.rules.proofs.Facts.{Within, Sized}
-use Rattle.rules.proofs.Everywhere.{conjoined, Given, conjoined-at, conjoined-holds, every-processor-at, every-processor-holds, has-place, entry-past, entry-none}
-
--- a list of length 0 is empty
-pub nothing : {A : Type 0} (l : List A) → length l ≡ 0 → l ≡ []
-nothing [] e = refl
-nothing (x ∷ l) e = absurd (omega (arith, e))
-
--- ---- a table with an empty row for nobody and a row of one length for each processor
-
-pub record Rows {A : Type 0} (lim : Limits) (n : ℕ) (t : List (List A)) : Type 0 where
-  pub processors : length t ≡ suc (lim .processors)
-  pub nobody : length (getD t 0 []) ≡ 0
-  pub row : (p : ℕ) → 1 ≤ p → p ≤ lim .processors → length (getD t p []) ≡ n
-
-module _ {A : Type 0} where
-  rowTests : Limits → ℕ → List (List A) → List Bool
-  rowTests lim n t =
-      eqb (length t) (suc (lim .processors)) ∷ eqb (length (getD t 0 [])) 0 ∷ everyProcessor lim (λ (p : ℕ). eqb (length (getD t p [])) n) ∷ []
-
-  -- what the test of a table says
-  pub rows-sized-says : (lim : Limits) (n : ℕ) (t : List (List A)) → rowsSized lim n t ≡ true → Rows lim n t
-  unfolding rowsSized conjoined rowTests
-  rows-sized-says lim n t e = go (λ i. conjoined-at (rowTests lim n t) i e)
-    where
-      go : ((i : ℕ) → getD (rowTests lim n t) i true ≡ true) → Rows lim n t
-      go part =
-          record {
-            processors = eqb-true _ _ (part 0);
-            nobody = eqb-true _ _ (part 1);
-            row = λ p h k. eqb-true _ _ (every-processor-at lim (λ (p : ℕ). eqb (length (getD t p [])) n) p (part 2) h k);
-          }
-
-  -- a table of such rows passes the test
-  pub rows-sized-when : (lim : Limits) (n : ℕ) (t : List (List A)) → Rows lim n t → rowsSized lim n t ≡ true
-  unfolding rowsSized conjoined rowTests Given
-  rows-sized-when lim n t r =
-      conjoined-holds (rowTests lim n t) (eq-eqb _ _ (r .processors)) (eq-eqb _ _ (r .nobody))
-      (every-processor-holds lim (λ (p : ℕ). eqb (length (getD t p [])) n) (λ p h k. eq-eqb _ _ (r .row p h k)))
-
-  -- a row outside the table is empty, and so is nobody's
-  pub row-outside : (lim : Limits) (n : ℕ) (t : List (List A)) → Rows lim n t → (p : ℕ) → ((1 ≤ p) × (p ≤ lim .processors) → ⊥) → getD t p [] ≡ []
-  row-outside lim n t r zero h = nothing (getD t 0 []) (r .nobody)
-  row-outside lim n t r (suc p) h = List·getD-eq-default t [] (go (decLe (suc p) (lim .processors)))
-    where
-      go : Dec (p < lim .processors) → length t ≤ suc p
-      go (yes k) = absurd (h (omega arith, k))
-      go (no k) = omega (arith, r .processors)
-
-  -- a place outside the table has the default
-  pub cell-outside : (d : A) (lim : Limits) (n : ℕ) (t : List (List A)) → Rows lim n t → (p g : ℕ) → ((1 ≤ p) × (p ≤ lim .processors) × (g < n) → ⊥) → cell d t p g ≡ d
-  cell-outside d lim n t r p g h = go (decLe 1 p) (decLe p (lim .processors))
-    where
-      no-row : getD t p [] ≡ [] → cell d t p g ≡ d
-      no-row e = ap (λ (row : List A). getD row g d) e
-
-      go : Dec (1 ≤ p) → Dec (p ≤ lim .processors) → cell d t p g ≡ d
-      go (yes a) (yes b) = List·getD-eq-default (getD t p []) d (past (decLe (suc g) n))
-        where
-          past : Dec (g < n) → length (getD t p []) ≤ g
-          past (yes k) = absurd (h (a, b, k))
-          past (no k) = omega (arith, r .row p a b)
-      go (yes a) (no b) = no-row (row-outside lim n t r p (λ w. b (w .1)))
-      go (no a) b = no-row (row-outside lim n t r p (λ w. a (w .0)))
-
--- ---- the tables of a state
+use Rattle.rules.proofs.Everywhere.{has-place, entry-past, entry-none}
+use Rattle.rules.proofs.Rows.{nothing, Rows, row-outside, cell-outside}
 
 module _ (lim : Limits) (s : State) (z : Sized lim s) where
   -- the rows of each table
@@ -139,11 +74,6 @@ module _ (lim : Limits) (s : State) (z : Sized lim s) where
   pub copy-outside : (p g : ℕ) → ((1 ≤ p) × (p ≤ lim .processors) × (g < lim .pages) → ⊥) → copyOf (s .pages) p g ≡ []
   unfolding copyOf
   copy-outside p g h = cell-outside [] lim (lim .pages) (s .pages .copies) copies-rows p g h
-
-  -- nor has its twin
-  pub twin-outside : (p g : ℕ) → ((1 ≤ p) × (p ≤ lim .processors) × (g < lim .pages) → ⊥) → twinOf (s .pages) p g ≡ []
-  unfolding twinOf
-  twin-outside p g h = cell-outside [] lim (lim .pages) (s .pages .twins) twins-rows p g h
 
   -- it is clean
   pub clean-outside : (p g : ℕ) → ((1 ≤ p) × (p ≤ lim .processors) × (g < lim .pages) → ⊥) → dirtyAt (s .pages) p g ≡ false

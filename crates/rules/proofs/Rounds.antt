@@ -1,4 +1,5 @@
--- The arrived marks are the open group of arrivals, so a round is completed in the state when it is completed in the count. Assumes nothing.
+-- The arrived marks are the open group of arrivals, so a round is completed in the state when it is completed in the count. Rests on
+-- OpenedInOrder, ActionKinds, MarksAfter and Allowed. Assumes nothing.
 use Prim.Native.Nat.{ℕ, zero, suc, _+_, _≤_}
 use native.Mathlib.Omega.{arith}
 use mathlib.Core.Path.{_≡_, refl, sym, ap, _∙_}
@@ -7,16 +8,17 @@ use mathlib.Core.List.{List}
 use lib.Dec.{eqb}
 use borrow.Author.Tests.{eqb-true, eqb-false, eq-eqb, ne-eqb}
 use Rattle.rules.specs.Tables.{every, total}
-use Rattle.rules.specs.State.{Limits, Counts, State, own, hasArrived}
+use Rattle.rules.specs.State.{Limits, Counts, State, hasArrived}
 use Rattle.rules.specs.Close.{closed}
 use Rattle.rules.specs.Steps.{atBarrier, allArrived}
 use Rattle.rules.specs.Refusals.{Action, Read, Write, Acquire, Release, Arrive, Want, Unknown, effect}
 use Rattle.rules.specs.Order.{Event, eventAt, Took, isArrival, Groups, countedOff, groupsBefore, rounds}
 use Rattle.rules.proofs.Tables.{total-same, total-zero, total-change}
+use Rattle.rules.proofs.OpenedInOrder.{opened-not-arrived}
 use Rattle.rules.proofs.Timeline.{Timeline, Moment, Refused, Taken, moment, counts-stay}
 use Rattle.rules.proofs.Ghosts.{completes}
 use Rattle.rules.proofs.ActionKinds.{arrives, took-arrival, refused-arrival}
-use Rattle.rules.proofs.MarksAfter.{arrived-at-barrier, arrivedAfter, arrived-after, opened-arrived}
+use Rattle.rules.proofs.MarksAfter.{arrived-at-barrier, arrivedAfter, arrived-after}
 use Rattle.rules.proofs.Allowed.{Allowed, allowed, took-allowed}
 
 -- ---- tests counted
@@ -145,7 +147,7 @@ module _ (lim : Limits) (c : Counts) (es : List Event) (r : Timeline lim c es) w
   -- the marks are the open group
   pub marks-are-waiting : (t : ℕ) → arrivals (c .processors) (r .state t) ≡ groupsBefore (c .processors) es t .waiting
   unfolding groupsBefore
-  marks-are-waiting zero = arrivals-none (c .processors) (r .state 0) (λ q. rw (r .starts) (opened-arrived lim c q))
+  marks-are-waiting zero = arrivals-none (c .processors) (r .state 0) (λ q. rw (r .starts) (opened-not-arrived lim c q))
   marks-are-waiting (suc t) = waiting (moment lim c es r t) (marks-are-waiting t) ∙ sym (waiting-after (c .processors) es t)
     where
       waiting : Moment lim es t (r .state t) (r .state (suc t)) → arrivals (c .processors) (r .state t) ≡ groupsBefore (c .processors) es t .waiting
@@ -158,11 +160,6 @@ module _ (lim : Limits) (c : Counts) (es : List Event) (r : Timeline lim c es) w
           let al : Allowed (c .processors) (r .state t) p a = allowed lim c es r t p a took acc in
           rw (k, took-arrival es t p a took, ← ih, ← completes-at t p a al) (arrivals-after (c .processors) lim (r .state t) p a al)
 
-  -- the same with the sum written out
-  pub marks-are-the-open-group : (t : ℕ) → total (c .processors) (λ k. cond (hasArrived (r .state t) (suc k)) 1 0) ≡ groupsBefore (c .processors) es t .waiting
-  unfolding arrivals
-  marks-are-the-open-group t = marks-are-waiting t
-
   -- an accepted arrival completes the round when it fills its group
   pub completes-when-full : (t p : ℕ) (a : Action) → Took es t p a
       → completes (r .state t) p ≡ eqb (groupsBefore (c .processors) es t .waiting + 1) (c .processors)
@@ -174,18 +171,6 @@ module _ (lim : Limits) (c : Counts) (es : List Event) (r : Timeline lim c es) w
       → rounds (c .processors) es (suc t)
       ≡ cond (arrives a) (cond (completes (r .state t) p) (rounds (c .processors) es t + 1) (rounds (c .processors) es t)) (rounds (c .processors) es t)
   rounds-after-step t p a took = rw (completes-when-full t p a took, ← took-arrival es t p a took) (rounds-after (c .processors) es t)
-
-  -- an arrival that completes the round adds one
-  pub round-completed : (t p : ℕ) → Took es t p Arrive → completes (r .state t) p ≡ true → rounds (c .processors) es (suc t) ≡ rounds (c .processors) es t + 1
-  unfolding arrives
-  round-completed t p took e =
-      rounds-after-step t p Arrive took ∙ ap (λ (b : Bool). cond b (rounds (c .processors) es t + 1) (rounds (c .processors) es t)) e
-
-  -- one that does not adds none
-  pub round-left-open : (t p : ℕ) → Took es t p Arrive → completes (r .state t) p ≡ false → rounds (c .processors) es (suc t) ≡ rounds (c .processors) es t
-  unfolding arrives
-  round-left-open t p took e =
-      rounds-after-step t p Arrive took ∙ ap (λ (b : Bool). cond b (rounds (c .processors) es t + 1) (rounds (c .processors) es t)) e
 
   -- nor does a refused step
   pub rounds-after-refusal : (t : ℕ) → eventAt es t .accepted ≡ false → rounds (c .processors) es (suc t) ≡ rounds (c .processors) es t

@@ -1,9 +1,10 @@
--- Laws of the elements that pass a test and of sorted elements: what holds of each, how many there are, which comes first. Assumes nothing.
+-- Laws of lists: what holds of every element, the elements that pass a test, and sorted elements: how many there are and which comes first.
+-- Rests on the definitions alone. Assumes nothing.
 use Prim.Native.Nat.{ℕ, zero, suc, _<_}
 use native.Mathlib.Omega.{arith}
 use mathlib.Core.Path.{_≡_, refl, ap, _∙_}
 use mathlib.Core.Bool.{Bool, true, false, cond}
-use mathlib.Core.List.{List, [], _∷_}
+use mathlib.Core.List.{List, [], _∷_, _++_}
 use lib.ListN.{length, getD}
 use Rattle.rules.specs.Tables.{select, insertBy, sortBy}
 
@@ -32,25 +33,20 @@ module _ {A : Type 0} where
   each-map P Q [] f e = tt
   each-map P Q (x ∷ l) f e = (f x (e .0), each-map P Q l f (e .1))
 
-  -- a selection has no others
-  pub each-select : (P : A → Type 0) (t : A → Bool) (l : List A) → Each P l → Each P (select t l)
-  unfolding select
-  each-select P t [] e = tt
-  each-select P t (x ∷ l) e = go (t x) (each-select P t l (e .1))
-    where
-      go : (b : Bool) → Each P (select t l) → Each P (cond b (x ∷ select t l) (select t l))
-      go true k = (e .0, k)
-      go false k = k
+  -- two lists one after the other
+  pub each-append : (P : A → Type 0) (l k : List A) → Each P l → Each P k → Each P (l ++ k)
+  each-append P [] k a b = b
+  each-append P (x ∷ l) k a b = (a .0, each-append P l k (a .1) b)
 
-  -- and all of them pass
-  pub selected-pass : (t : A → Bool) (l : List A) → Each (λ x. t x ≡ true) (select t l)
+  -- a selection has no others, and all of them pass
+  pub each-select : (P Q : A → Type 0) (t : A → Bool) (l : List A) → ((x : A) → t x ≡ true → P x → Q x) → Each P l → Each Q (select t l)
   unfolding select
-  selected-pass t [] = tt
-  selected-pass t (x ∷ l) = go (t x) refl (selected-pass t l)
+  each-select P Q t [] f e = tt
+  each-select P Q t (x ∷ l) f e = go (t x) refl (each-select P Q t l f (e .1))
     where
-      go : (b : Bool) → t x ≡ b → Each (λ y. t y ≡ true) (select t l) → Each (λ y. t y ≡ true) (cond b (x ∷ select t l) (select t l))
-      go true e k = (e, k)
-      go false e k = k
+      go : (b : Bool) → t x ≡ b → Each Q (select t l) → Each Q (cond b (x ∷ select t l) (select t l))
+      go true h k = (f x h (e .0), k)
+      go false h k = k
 
   -- a sorted list has the elements of the list
   pub each-insert : (P : A → Type 0) (sooner : A → A → Bool) (x : A) (l : List A) → P x → Each P l → Each P (insertBy sooner x l)
@@ -66,6 +62,23 @@ module _ {A : Type 0} where
   unfolding sortBy
   each-sort P sooner [] e = tt
   each-sort P sooner (x ∷ l) e = each-insert P sooner x (sortBy sooner l) (e .0) (each-sort P sooner l (e .1))
+
+  -- ---- what is selected
+
+  pub select-append : (t : A → Bool) (l k : List A) → select t (l ++ k) ≡ select t l ++ select t k
+  unfolding select
+  select-append t [] k = refl
+  select-append t (x ∷ l) k = go (t x) (select-append t l k)
+    where
+      go : (b : Bool) → select t (l ++ k) ≡ select t l ++ select t k
+          → cond b (x ∷ select t (l ++ k)) (select t (l ++ k)) ≡ cond b (x ∷ select t l) (select t l) ++ select t k
+      go true e = ap (λ (m : List A). x ∷ m) e
+      go false e = e
+
+  pub select-all : (l : List A) → select (λ (x : A). true) l ≡ l
+  unfolding select
+  select-all [] = refl
+  select-all (x ∷ l) = ap (λ (m : List A). x ∷ m) (select-all l)
 
   -- ---- how many
 

@@ -1,30 +1,16 @@
--- What a selection of records does to one word, by what the test says of the records that set it. Assumes nothing.
+-- What a selection of records does to one word, by what the test says of the records that set it. Rests on SortedRecords. Assumes nothing.
 use Prim.Native.Nat.{ℕ, _+_, _-_, _≤_, _<_}
 use native.Mathlib.Omega.{arith}
 use mathlib.Core.Path.{_≡_, refl, sym, ap, _∙_}
-use mathlib.Core.Bool.{Bool, true, false, cond}
-use mathlib.Core.List.{List, [], _∷_, _++_}
+use mathlib.Core.Bool.{Bool, true}
+use mathlib.Core.List.{List, _++_}
 use lib.ListN.{length, List·getD-append}
 use lib.Seq.{getD-append-add}
 use Rattle.rules.specs.Tables.{select}
 use Rattle.rules.specs.State.{Record}
+use Rattle.rules.proofs.Selected.{select-all}
 use Rattle.rules.proofs.WordOfRecords.{noRecord, nth, wordAfter, HitAt}
 use Rattle.rules.proofs.SortedRecords.{word-after-select-same, word-after-select-none}
-
-pub select-append : (t : Record → Bool) (l k : List Record) → select t (l ++ k) ≡ select t l ++ select t k
-unfolding select
-select-append t [] k = refl
-select-append t (r ∷ l) k = go (t r) (select-append t l k)
-  where
-    go : (b : Bool) → select t (l ++ k) ≡ select t l ++ select t k
-        → cond b (r ∷ select t (l ++ k)) (select t (l ++ k)) ≡ cond b (r ∷ select t l) (select t l) ++ select t k
-    go true e = ap (λ (m : List Record). r ∷ m) e
-    go false e = e
-
-select-all : (l : List Record) → select (λ (r : Record). true) l ≡ l
-unfolding select
-select-all [] = refl
-select-all (r ∷ l) = ap (λ (m : List Record). r ∷ m) (select-all l)
 
 -- the record at a place of two lists, one after the other
 pub nth-first : (l k : List Record) (i : ℕ) → i < length l → nth (l ++ k) i ≡ nth l i

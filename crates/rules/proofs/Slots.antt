@@ -1,4 +1,5 @@
--- Laws of the records in their slots: what stands after one record is appended and after a processor closed its interval. Assumes nothing.
+-- Laws of the records in their slots: what stands after one record is appended and after a processor closed its interval, and what holds of
+-- every standing record. Rests on Tables and Selected. Assumes nothing.
 use Prim.Native.Nat.{ℕ, zero, suc, _≤_, _<_}
 use native.Mathlib.Numerals.{add-one}
 use native.Mathlib.Omega.{arith}
@@ -11,6 +12,7 @@ use Rattle.rules.specs.Tables.{put}
 use Rattle.rules.specs.State.{Record, Records, slotBytes, recordIn, recordsOf, laidOver, appended, State}
 use Rattle.rules.specs.Close.{changed, newRecord, recorded}
 use Rattle.rules.proofs.Tables.{length-put, take-put-next, get-map-within}
+use Rattle.rules.proofs.Selected.{Each, each-at, each-when}
 
 pub record-in-laid : (r : Record) (slot : List ℕ) → recordIn (laidOver (slotBytes r) slot) ≡ r
 unfolding recordIn laidOver slotBytes
@@ -70,3 +72,14 @@ standing-at r i d h k =
 pub length-standing : (r : Records) → r .standing ≤ length (r .slots) → length (recordsOf r) ≡ r .standing
 unfolding recordsOf
 length-standing r k = length-map (take (r .standing) (r .slots)) recordIn ∙ length-take-le (r .standing) (r .slots) k
+
+module _ (P : Record → Type 0) where
+  -- what holds of every slot in use holds of every standing record
+  pub each-standing : (r : Records) → r .standing ≤ length (r .slots) → ((i : ℕ) → i < r .standing → P (recordIn (getD (r .slots) i []))) → Each P (recordsOf r)
+  each-standing r k h =
+      each-when P (recordIn []) (recordsOf r)
+      (λ i l. let m : i < r .standing = omega (arith, l, length-standing r k) in rw (standing-at r i (recordIn []) m k) (h i m))
+
+  -- and the other way round
+  pub standing-each : (r : Records) → r .standing ≤ length (r .slots) → Each P (recordsOf r) → (i : ℕ) → i < r .standing → P (recordIn (getD (r .slots) i []))
+  standing-each r k h i l = rw (standing-at r i (recordIn []) l k) at (each-at P (recordIn []) (recordsOf r) h i (omega (arith, l, length-standing r k)))

@@ -1,4 +1,5 @@
--- One word after records that were selected by a test or sorted: only the records that set the word matter. Assumes nothing.
+-- One word after records that were selected by a test or sorted: only the records that set the word matter. Rests on Selected and
+-- WordOfRecords. Assumes nothing.
 use Prim.Native.Nat.{ℕ, zero, suc, _<_}
 use native.Mathlib.Omega.{arith}
 use mathlib.Core.Path.{_≡_, refl, sym, ap, _∙_}
@@ -61,7 +62,7 @@ module _ (words g o : ℕ) where
   rising-on-select key t (r ∷ l) h = go (t r) (rising-on-select key t l (h .1))
     where
       go : (b : Bool) → RisingOn key (select t l) → RisingOn key (cond b (r ∷ select t l) (select t l))
-      go true k = (λ e. each-select (λ q. isHit words g o q ≡ true → key r < key q) t l (h .0 e), k)
+      go true k = (λ e. each-select (λ q. isHit words g o q ≡ true → key r < key q) (λ q. isHit words g o q ≡ true → key r < key q) t l (λ q u v. v) (h .0 e), k)
       go false k = k
 
   -- a selection keeps rising keys

@@ -1,5 +1,5 @@
 -- Space (document 01, demand 1: no "9 or 10 while space remains"): exactly when a write is refused for want of an interval or of room, that
--- every closing finds room, and that collection frees all of it. Assumes nothing.
+-- every closing finds room, and that collection frees all of it. Rests on KeptClose. Assumes nothing.
 use Prim.Native.Nat.{ℕ, _+_, _*_, _≤_, _<_}
 use native.Mathlib.Omega.{arith}
 use mathlib.Core.Path.{_≡_, refl, sym}
@@ -15,7 +15,7 @@ use Rattle.rules.specs.Refusals.{Step, Write, actionOf, known, fits, lat
 use Rattle.rules.proofs.Facts.{InOrder}
 use Rattle.rules.proofs.KeptParts.{ownIn, parts-of}
 use Rattle.rules.proofs.KeptRounds.{entry-all-cleared}
-use Rattle.rules.proofs.KeptRecorded.{recorded-below}
+use Rattle.rules.proofs.KeptNewRecords.{recorded-below}
 use Rattle.rules.proofs.KeptClose.{changed-has-interval, closing-ready}
 
 -- a write of v to word w that no row above 9 refuses

@@ -1,4 +1,5 @@
--- Happens-before-1 is a strict order that goes forward in the list of steps, between accepted steps. Assumes nothing.
+-- Happens-before-1 is a strict order that goes forward in the list of steps, between accepted steps. Rests on the definitions alone.
+-- Assumes nothing.
 use Prim.Native.Nat.{ℕ, zero, suc, _+_, _≤_, _<_}
 use native.Mathlib.Omega.{arith}
 use native.Mathlib.Decide.{decLt, ℕ-discrete}

@@ -1,4 +1,5 @@
--- The strong half of demand 3 at one read: who knows every write reads the last value. Assumes nothing.
+-- The strong half of demand 3 at one read: who knows every write reads the last value. Rests on SelectedRecords and InvFetch. Assumes
+-- nothing.
 use Prim.Native.Nat.{ℕ, _≤_, _<_}
 use native.Mathlib.Omega.{arith}
 use native.Mathlib.Decide.{ℕ-discrete}
@@ -8,17 +9,17 @@ use mathlib.Core.List.{List}
 use lib.ListN.{getD}
 use borrow.Author.Tests.{ne-eqb}
 use Rattle.clock.specs.Clocks.{entryOf}
-use Rattle.rules.specs.State.{Limits, Processor, Applied, clockOf, copyOf, dirtyAt, State, clock, standing}
+use Rattle.rules.specs.State.{Limits, Processor, Applied, clockOf, copyOf, dirtyAt, State, standing}
 use Rattle.rules.specs.Fetch.{fetched}
 use Rattle.rules.proofs.Holders.{sameHolder}
 use Rattle.rules.proofs.Facts.{InOrder}
 use Rattle.rules.proofs.Ghosts.{Ghost}
 use Rattle.rules.proofs.WordOfRecords.{nth, wordAfter, HitAt}
 use Rattle.rules.proofs.SelectedRecords.{all-selected}
-use Rattle.rules.proofs.FetchedWord.{above}
+use Rattle.rules.proofs.FetchedWord.{above, fetched-current}
 use Rattle.rules.proofs.Invariant.{Knows, Informed, seen, PageInv, Inv}
-use Rattle.rules.proofs.InvFetch.{above-says}
-use Rattle.rules.proofs.InvFetched.{fetched-applied, fetched-knower, fetch-keeps}
+use Rattle.rules.proofs.InvSame.{above-says}
+use Rattle.rules.proofs.InvFetch.{fetch-keeps}
 
 module _ (lim : Limits) (g o : ℕ) (s : State) (γ : Ghost) (p : ℕ) (ord : InOrder lim s) (in-page : o < lim .words) (h : 1 ≤ p) (k : p ≤ s .counts .processors)
     (l : g < s .counts .pages) (inv : Inv (lim .words) g o s γ) (all : γ .known (Processor p) ≡ γ .writes) where
@@ -35,10 +36,6 @@ module _ (lim : Limits) (g o : ℕ) (s : State) (γ : Ghost) (p : ℕ) (ord : In
   informed-here : Informed (lim .words) g o (s′ .clocks) (standing s′) (γ .writes) (clockOf (s′ .clocks) (Processor p)) (γ .known (Processor p))
   unfolding fetched Knows
   informed-here = after .clocks .informed (Processor p) (h, k)
-
-  same-clock : clockOf (s′ .clocks) (Applied p g) ≡ clockOf (s′ .clocks) (Processor p)
-  unfolding Knows clock
-  same-clock = fetched-applied lim s p g ∙ sym (fetched-knower lim s p g (s .counts) (Processor p) (h, k))
 
   -- another processor with stores that no interval has would know more
   behind : (γ .writer ≡ p → ⊥) → (γ .writer ≡ 0 → ⊥) → γ .known (Processor p) < γ .writes
@@ -57,7 +54,7 @@ module _ (lim : Limits) (g o : ℕ) (s : State) (γ : Ghost) (p : ℕ) (ord : In
       not-above i hi true e =
           let q : ℕ = nth (standing s′) i .processor in
           let known-one = informed-here .covers-hits all i hi in
-          let current : entryOf (clockOf (s′ .clocks) (Applied p g)) q ≡ entryOf (clockOf (s′ .clocks) (Processor p)) q = ap (λ (v : List ℕ). entryOf v q) same-clock in
+          let current : entryOf (clockOf (s′ .clocks) (Applied p g)) q ≡ entryOf (clockOf (s′ .clocks) (Processor p)) q = ap (λ (v : List ℕ). entryOf v q) (fetched-current lim s p g) in
           absurd (omega (arith, above-says p (clockOf (s′ .clocks) (Applied p g)) (nth (standing s′) i) e .1, known-one, current))
 
   -- what it then reads is the last value

@@ -1,14 +1,15 @@
--- Laws of tables: what stands at a place after one place was changed, and tests and sums over the numbers below a bound. Assumes nothing.
+-- Laws of tables: what stands at a place after one place was changed, and tests and sums over the numbers below a bound. Rests on the
+-- definitions alone. Assumes nothing.
 use Prim.Native.Nat.{ℕ, zero, suc, _+_, _≤_, _<_, max}
 use native.Mathlib.Omega.{arith}
 use native.Mathlib.Decide.{ℕ-discrete}
 use mathlib.Core.Path.{_≡_, refl, sym, ap, ap₂, _∙_}
-use mathlib.Core.Bool.{Bool, true, false, cond, _&&_, _||_, and-eq-true-iff, or-eq-true-iff, false≢true}
+use mathlib.Core.Bool.{Bool, true, false, cond, not, _&&_, _||_, and-eq-true-iff, or-eq-true-iff, false≢true}
 use mathlib.Core.Logic.{Or·inl, Or·inr}
 use mathlib.Core.List.{List, [], _∷_, _++_, map}
-use lib.ListN.{length, getD, take, set}
+use lib.ListN.{length, getD, take}
 use lib.Dec.{eqb}
-use borrow.Author.Tests.{eq-eqb, ne-eqb}
+use borrow.Author.Tests.{eqb-true, eq-eqb, ne-eqb}
 use Rattle.rules.specs.Tables.{put, cell, putCell, every, any, total}
 
 -- ---- one list
@@ -50,20 +51,6 @@ module _ {A : Type 0} (d : A) where
   -- a list that has the place keeps its length
   pub length-put-within : (l : List A) (i : ℕ) (v : A) → i < length l → length (put d l i v) ≡ length l
   length-put-within l i v h = omega (arith, length-put l i v)
-
-  -- there it is the library's `set`
-  pub put-within : (l : List A) (i : ℕ) (v : A) → i < length l → put d l i v ≡ set l i v
-  unfolding put
-  put-within [] i v h = absurd (omega arith)
-  put-within (x ∷ l) zero v h = refl
-  put-within (x ∷ l) (suc i) v h = ap (λ (k : List A). x ∷ k) (put-within l i v (omega arith))
-
-  pub take-put : (l : List A) (n i : ℕ) (v : A) → n ≤ i → n ≤ length l → take n (put d l i v) ≡ take n l
-  unfolding put
-  take-put l zero i v h k = refl
-  take-put [] (suc n) i v h k = absurd (omega arith)
-  take-put (x ∷ l) (suc n) zero v h k = absurd (omega arith)
-  take-put (x ∷ l) (suc n) (suc i) v h k = ap (λ (m : List A). x ∷ m) (take-put l n i v (omega arith) (omega arith))
 
   -- the first places and the next one
   pub take-put-next : (l : List A) (n : ℕ) (v : A) → n ≤ length l → take (suc n) (put d l n v) ≡ take n l ++ v ∷ []
@@ -108,6 +95,19 @@ module _ {A : Type 0} (d : A) where
       go : Dec (q ≡ p) → length (getD (put [] t p (put d (getD t p []) g v)) q []) ≡ length (getD t q [])
       go (yes e) = rw e (ap length (get-put-same [] t p (put d (getD t p []) g v)) ∙ length-put-within d (getD t p []) g v h)
       go (no e) = ap length (get-put-other [] t p q (put d (getD t p []) g v) e)
+
+-- a statement about a place of a table after one place was changed
+pub by-put-cell : {A : Type 0} (P : A → Type 0) (d : A) (t : List (List A)) (p g q h : ℕ) (v : A) → (q ≡ p → h ≡ g → P v) → P (cell d t q h) → P (cell d (putCell d t p g v) q h)
+by-put-cell {A} P d t p g q h v same other = rw (cell-put d t p g q h v) (go (eqb q p) (eqb h g) refl refl)
+  where
+    go : (a b : Bool) → eqb q p ≡ a → eqb h g ≡ b → P (cond (a && b) v (cell d t q h))
+    go true true x y = same (eqb-true q p x) (eqb-true h g y)
+    go true false x y = other
+    go false b x y = other
+
+-- every other place is as it was
+pub cell-put-elsewhere : {A : Type 0} (d : A) (t : List (List A)) (p g q h : ℕ) (v : A) → (q ≡ p → h ≡ g → ⊥) → cell d (putCell d t p g v) q h ≡ cell d t q h
+cell-put-elsewhere d t p g q h v e = by-put-cell (λ x. x ≡ cell d t q h) d t p g q h v (λ a b. absurd (e a b)) refl
 
 -- ---- every element changed alike
 
@@ -163,12 +163,16 @@ any-holds (suc n) t i h e = go (ℕ-discrete i n) (any-holds n t i)
     go (yes k) r = or-eq-true-iff (any n t) (t n) .1 (Or·inr (rw (← k) e))
     go (no k) r = or-eq-true-iff (any n t) (t n) .1 (Or·inl (r (omega arith) e))
 
-pub any-none : (n : ℕ) (t : ℕ → Bool) (i : ℕ) → any n t ≡ false → i < n → t i ≡ false
-any-none n t i e h = go (t i) refl
+-- a test that fails for some number below a bound
+pub every-fails : (n : ℕ) (t : ℕ → Bool) → every n t ≡ false → Passes n (λ i. not (t i))
+unfolding every
+every-fails zero t e = let z : _≡_ {A = Bool} false true = sym e in absurd (false≢true z)
+every-fails (suc n) t e = go (every n t) (t n) refl refl e (every-fails n t)
   where
-    go : (b : Bool) → t i ≡ b → t i ≡ false
-    go true p = let z : _≡_ {A = Bool} false true = sym e ∙ any-holds n t i h p in absurd (false≢true z)
-    go false p = p
+    go : (a b : Bool) → every n t ≡ a → t n ≡ b → (a && b) ≡ false → (every n t ≡ false → Passes n (λ i. not (t i))) → Passes (suc n) (λ i. not (t i))
+    go true true x y e r = let z : _≡_ {A = Bool} false true = sym e in absurd (false≢true z)
+    go true false x y e r = record { at = n; below = omega arith; passes = ap not y }
+    go false b x y e r = let q = r x in record { at = q .at; below = omega (arith, q .below); passes = q .passes }
 
 -- ---- sums over the numbers below a bound
 
@@ -182,21 +186,6 @@ unfolding total
 total-zero zero f e = refl
 total-zero (suc n) f e = omega (arith, total-zero n f (λ i k. e i (omega arith)), e n (omega arith))
 
-pub total-at-most : (n : ℕ) (f h : ℕ → ℕ) → ((i : ℕ) → i < n → f i ≤ h i) → total n f ≤ total n h
-unfolding total
-total-at-most zero f h e = omega arith
-total-at-most (suc n) f h e = omega (arith, total-at-most n f h (λ i k. e i (omega arith)), e n (omega arith))
-
--- a summand is at most the sum
-pub total-part : (n : ℕ) (f : ℕ → ℕ) (i : ℕ) → i < n → f i ≤ total n f
-unfolding total
-total-part zero f i h = absurd (omega arith)
-total-part (suc n) f i h = go (ℕ-discrete i n) (total-part n f i)
-  where
-    go : Dec (i ≡ n) → (i < n → f i ≤ total n f) → f i ≤ total n f + f n
-    go (yes e) r = rw e (omega arith)
-    go (no e) r = omega (arith, r (omega arith))
-
 -- where two sums differ in one summand alone
 pub total-change : (n : ℕ) (f h : ℕ → ℕ) (i : ℕ) → i < n → ((k : ℕ) → (k ≡ i → ⊥) → f k ≡ h k) → total n f + h i ≡ total n h + f i
 unfolding total
@@ -206,3 +195,16 @@ total-change (suc n) f h i l e = go (ℕ-discrete i n) (total-change n f h i)
     go : Dec (i ≡ n) → (i < n → ((k : ℕ) → (k ≡ i → ⊥) → f k ≡ h k) → total n f + h i ≡ total n h + f i) → total n f + f n + h i ≡ total n h + h n + f i
     go (yes k) r = rw k (omega (arith, total-same n f h (λ j m. e j (λ z. omega (arith, z, k)))))
     go (no k) r = omega (arith, r (omega arith) e, e n (λ z. k (sym z)))
+
+-- a sum over more numbers is no smaller
+pub total-of-more : (n m : ℕ) (f : ℕ → ℕ) → n ≤ m → total n f ≤ total m f
+unfolding total
+total-of-more n zero f h = rw (le-zero n h) (omega arith)
+  where
+    le-zero : (n : ℕ) → n ≤ 0 → n ≡ 0
+    le-zero n h = omega arith
+total-of-more n (suc m) f h = go (ℕ-discrete n (suc m)) (total-of-more n m f)
+  where
+    go : Dec (n ≡ suc m) → (n ≤ m → total n f ≤ total m f) → total n f ≤ total m f + f m
+    go (yes e) r = rw e (omega arith)
+    go (no e) r = omega (arith, r (omega arith))

@@ -1,18 +1,19 @@
--- A run of the rules as states by time: the state before each step of a list, all of them in order. Assumes nothing.
+-- A run of the rules as states by time: the state before each step of a list, all of them in order, with the counts of the opening. Rests
+-- on Fetches and Accepted. Assumes nothing.
 use Prim.Native.Nat.{ℕ, zero, suc, _<_}
-use mathlib.Core.Path.{_≡_, refl, ap, _∙_}
+use mathlib.Core.Path.{_≡_, refl, sym, ap, _∙_}
 use mathlib.Core.Bool.{Bool, true, false, cond}
 use mathlib.Core.List.{List}
 use lib.Dec.{eqb}
 use borrow.Author.Tests.{eqb-true}
-use Rattle.diff.proofs.Pairs.{words-there}
 use Rattle.rules.specs.State.{Limits, Counts, State}
 use Rattle.rules.specs.Opening.{opened}
 use Rattle.rules.specs.Close.{closed}
 use Rattle.rules.specs.Fetch.{fetched}
-use Rattle.rules.specs.Steps.{read, write, acquire, release, atBarrier, allArrived, roundDone, pagesFetched, allFetched, emptied, collected, wantsCollection, arrive, want}
+use Rattle.rules.specs.Steps.{read, write, acquire, release, atBarrier, allArrived, roundDone, emptied, collected, wantsCollection, arrive, want}
 use Rattle.rules.specs.Refusals.{Action, Read, Write, Acquire, Release, Arrive, Want, Unknown, actionOf, refusalInOrder, effect, nextInOrder}
 use Rattle.rules.specs.Order.{Event, eventAt, Took}
+use Rattle.rules.proofs.Fetches.{all-fetched-counts}
 use Rattle.rules.proofs.Facts.{InOrder}
 use Rattle.rules.proofs.Accepted.{Accepted, accepted-says}
 
@@ -43,24 +44,19 @@ module _ (lim : Limits) (c : Counts) (es : List Event) (r : Timeline lim c es) w
           (accepted-says lim (r .state t) (eventAt es t .step) (eqb-true (refusalInOrder lim (r .state t) (eventAt es t .step)) 0 e)) k
       go false e k = Refused (r .judged t ∙ e) k
 
--- no step changes the counts of the opening
+  -- a step that was taken was accepted
+  pub took-accepted : (t p : ℕ) (a : Action) → Took es t p a → Accepted lim (r .state t) (eventAt es t .step)
+  took-accepted t p a took =
+      accepted-says lim (r .state t) (eventAt es t .step) (eqb-true (refusalInOrder lim (r .state t) (eventAt es t .step)) 0 (sym (r .judged t) ∙ took .accepted))
 
-pages-fetched-counts : (lim : Limits) (s : State) (p n : ℕ) → pagesFetched lim s p n .after .counts ≡ s .counts
-unfolding pagesFetched fetched
-pages-fetched-counts lim s p zero = refl
-pages-fetched-counts lim s p (suc g) = pages-fetched-counts lim s p g
-
-all-fetched-counts : (lim : Limits) (s : State) (n : ℕ) → allFetched lim s n .after .counts ≡ s .counts
-unfolding allFetched
-all-fetched-counts lim s zero = refl
-all-fetched-counts lim s (suc k) = pages-fetched-counts lim (allFetched lim s k .after) (suc k) (s .counts .pages) ∙ all-fetched-counts lim s k
+-- ---- no step changes the counts of the opening
 
 arrive-counts : (lim : Limits) (s : State) (p : ℕ) → arrive lim s p .after .counts ≡ s .counts
 unfolding arrive collected emptied roundDone atBarrier closed
 arrive-counts lim s p = go (allArrived (atBarrier s p)) (wantsCollection (atBarrier s p))
   where
     go : (a b : Bool) → cond a (cond b (collected lim (roundDone (atBarrier s p))) (record { after = roundDone (atBarrier s p); count = 0 })) (record { after = atBarrier s p; count = 0 }) .after .counts ≡ s .counts
-    go true true = all-fetched-counts lim (roundDone (atBarrier s p)) (s .counts .processors)
+    go true true = all-fetched-counts lim (roundDone (atBarrier s p))
     go true false = refl
     go false b = refl
 

@@ -1,5 +1,5 @@
 -- The values that words can have: a property of the words of every copy and of every record, by page and offset, that each accepted step
--- keeps. Assumes nothing.
+-- keeps. Rests on Slots, Fetches, Accepted and FetchedWord. Assumes nothing.
 use Prim.Native.Nat.{ℕ, zero, suc, _%_, _≤_, _<_}
 use native.Mathlib.Omega.{arith}
 use mathlib.Core.Path.{_≡_, refl, sym, _∙_, subst}
@@ -16,13 +16,15 @@ use Rattle.rules.specs.State.{Limits, Clocks, Pages, copyOf, twinOf, Rec
 use Rattle.rules.specs.InOrder.{recordAt}
 use Rattle.rules.specs.Close.{changed, newRecord, cleaned, closed}
 use Rattle.rules.specs.Fetch.{isPending, earlier, due, appliedAll, fetched}
-use Rattle.rules.specs.Steps.{pageOfWord, offsetOfWord, read, twinTaken, stored, write, acquire, release, atBarrier, allArrived, roundDone, pagesFetched, allFetched, emptied, collected, wantsCollection, arrive, want}
+use Rattle.rules.specs.Steps.{pageOfWord, offsetOfWord, read, twinTaken, stored, write, acquire, release, atBarrier, allArrived, roundDone, emptied, collected, wantsCollection, arrive, want}
 use Rattle.rules.specs.Refusals.{Step, Action, Read, Write, Acquire, Release, Arrive, Want, Unknown, actionOf, effect}
-use Rattle.rules.proofs.Slots.{newRecords, slots-recorded, records-recorded}
-use Rattle.rules.proofs.Facts.{InOrder}
+use Rattle.rules.proofs.Selected.{Each, each-append, each-select, each-sort}
+use Rattle.rules.proofs.Slots.{newRecords, slots-recorded, records-recorded, each-standing, standing-each}
+use Rattle.rules.proofs.CopyWords.{length-applied-all, word-applied-all, setting-new, with-copy, word-set, words-below}
+use Rattle.rules.proofs.Fetches.{all-fetched-keep}
+use Rattle.rules.proofs.Facts.{InOrder, slots-enough, whole-copy, whole-twin}
 use Rattle.rules.proofs.Accepted.{Accepted, present-says}
-use Rattle.rules.proofs.AllOf.{AllOf, all-append, all-select, all-sort, all-standing, standing-of-all}
-use Rattle.rules.proofs.CopyWords.{length-applied-all, word-applied-all, pending-page, setting-new, with-copy, word-set, words-below}
+use Rattle.rules.proofs.FetchedWord.{pending-page}
 
 -- Good g o x: x may be a value of the word at offset o of page g. The copies hold such values, and the records set words to such values.
 -- Twins need none: a record takes its values from the copy
@@ -40,17 +42,16 @@ module _ (lim : Limits) (Good : ℕ → ℕ → ℕ → Type 0) where
     whole : (p g : ℕ) → 1 ≤ p → p ≤ s .counts .processors → g < s .counts .pages → length (copyOf (s .pages) p g) ≡ lim .words
     copies : (p g o : ℕ) → 1 ≤ p → p ≤ s .counts .processors → g < s .counts .pages → o < lim .words → Good g o (getD (copyOf (s .pages) p g) o 0)
     slots : s .records .standing ≤ length (s .records .slots)
-    records : AllOf RecordGood (standing s)
+    records : Each RecordGood (standing s)
 
   holding : (s : State) → InOrder lim s → ValuesGood lim Good s → Holding s
   unfolding standing RecordGood recordAt
   holding s ord h =
-      let k : s .records .standing ≤ length (s .records .slots) = omega (arith, ord .sized .few-standing, ord .sized .slots) in
       record {
-        whole = λ p g a b l. ord .sized .copy p g a (omega (arith, b, ord .processors-fit)) (omega (arith, l, ord .pages-fit));
+        whole = whole-copy lim s ord;
         copies = h .copies;
-        slots = k;
-        records = all-standing RecordGood (s .records) k (λ i l o v m e. h .records i o v l m e);
+        slots = slots-enough lim s ord;
+        records = each-standing RecordGood (s .records) (slots-enough lim s ord) (λ i l o v m e. h .records i o v l m e);
       }
 
   held : (s : State) → Holding s → ValuesGood lim Good s
@@ -58,16 +59,16 @@ module _ (lim : Limits) (Good : ℕ → ℕ → ℕ → Type 0) where
   held s h =
       record {
         copies = h .copies;
-        records = λ i o v l m e. standing-of-all RecordGood (s .records) (h .slots) (h .records) i l o v m e;
+        records = λ i o v l m e. standing-each RecordGood (s .records) (h .slots) (h .records) i l o v m e;
       }
 
   -- ---- fetching
 
-  due-good : (s : State) (p g o : ℕ) → o < lim .words → AllOf RecordGood (standing s) → AllOf (λ r. (v : ℕ) → settingAt (lim .words) (r .diff) o ≡ some v → Good g o v) (due s p g)
+  due-good : (s : State) (p g o : ℕ) → o < lim .words → Each RecordGood (standing s) → Each (λ r. (v : ℕ) → settingAt (lim .words) (r .diff) o ≡ some v → Good g o v) (due s p g)
   unfolding due RecordGood
   due-good s p g o l h =
-      all-sort (λ (r : Record). (v : ℕ) → settingAt (lim .words) (r .diff) o ≡ some v → Good g o v) (earlier (s .clocks)) (select (isPending (s .clocks) p g) (standing s))
-      (all-select RecordGood (λ (r : Record). (v : ℕ) → settingAt (lim .words) (r .diff) o ≡ some v → Good g o v) (isPending (s .clocks) p g) pick (standing s) h)
+      each-sort (λ (r : Record). (v : ℕ) → settingAt (lim .words) (r .diff) o ≡ some v → Good g o v) (earlier (s .clocks)) (select (isPending (s .clocks) p g) (standing s))
+      (each-select RecordGood (λ (r : Record). (v : ℕ) → settingAt (lim .words) (r .diff) o ≡ some v → Good g o v) (isPending (s .clocks) p g) (standing s) pick h)
     where
       pick : (r : Record) → isPending (s .clocks) p g r ≡ true → RecordGood r → (v : ℕ) → settingAt (lim .words) (r .diff) o ≡ some v → Good g o v
       pick r e a v k = rw (pending-page (s .clocks) p g r e) at (a o v l k)
@@ -91,20 +92,10 @@ module _ (lim : Limits) (Good : ℕ → ℕ → ℕ → Type 0) where
         records = h .records;
       }
 
-  pages-fetched-holding : (s : State) (p n : ℕ) → Holding s → Holding (pagesFetched lim s p n .after)
-  unfolding pagesFetched
-  pages-fetched-holding s p zero h = h
-  pages-fetched-holding s p (suc g) h = fetched-holding (pagesFetched lim s p g .after) p g (pages-fetched-holding s p g h)
-
-  all-fetched-holding : (s : State) (n : ℕ) → Holding s → Holding (allFetched lim s n .after)
-  unfolding allFetched
-  all-fetched-holding s zero h = h
-  all-fetched-holding s (suc k) h = pages-fetched-holding (allFetched lim s k .after) (suc k) (s .counts .pages) (all-fetched-holding s k h)
-
   collected-holding : (s : State) → Holding s → Holding (collected lim s .after)
   unfolding collected emptied standing recordsOf
   collected-holding s h =
-      let f = all-fetched-holding s (s .counts .processors) h in
+      let f = all-fetched-keep lim s Holding (λ u p g a b l. fetched-holding u p g) h in
       record { whole = f .whole; copies = f .copies; slots = omega arith; records = tt }
 
   -- ---- storing
@@ -151,13 +142,13 @@ module _ (lim : Limits) (Good : ℕ → ℕ → ℕ → Type 0) where
         (sym (exactly-the-differing-words (lim .words) old new (twin g l) (h .whole p g some-p present-p l) (copy-below g l) o m) ∙ e))
         (h .copies p g o some-p present-p l m)
 
-    new-records-good : (n : ℕ) → n ≤ s .counts .pages → AllOf RecordGood (newRecords s p n)
+    new-records-good : (n : ℕ) → n ≤ s .counts .pages → Each RecordGood (newRecords s p n)
     unfolding newRecords
     new-records-good zero l = tt
     new-records-good (suc g) l = go (changed s p g) (new-records-good g (omega arith))
       where
-        go : (b : Bool) → AllOf RecordGood (newRecords s p g) → AllOf RecordGood (cond b (newRecords s p g ++ newRecord s p g ∷ []) (newRecords s p g))
-        go true r = all-append RecordGood (newRecords s p g) (newRecord s p g ∷ []) r (new-record-good g l, tt)
+        go : (b : Bool) → Each RecordGood (newRecords s p g) → Each RecordGood (cond b (newRecords s p g ++ newRecord s p g ∷ []) (newRecords s p g))
+        go true r = each-append RecordGood (newRecords s p g) (newRecord s p g ∷ []) r (new-record-good g l, tt)
         go false r = r
 
     closed-holding : Holding (closed s p)
@@ -169,7 +160,7 @@ module _ (lim : Limits) (Good : ℕ → ℕ → ℕ → Type 0) where
           slots = slots-recorded s p (s .counts .pages) (h .slots);
           records =
               rw (records-recorded s p (s .counts .pages) (h .slots))
-              (all-append RecordGood (standing s) (newRecords s p (s .counts .pages)) (h .records) (new-records-good (s .counts .pages) (omega arith)));
+              (each-append RecordGood (standing s) (newRecords s p (s .counts .pages)) (h .records) (new-records-good (s .counts .pages) (omega arith)));
         }
 
   -- ---- the steps
@@ -216,7 +207,7 @@ effect-keeps-values lim Good s t bounded new ord acc h =
     shut : Holding lim Good (closed s p)
     shut =
         closed-holding lim Good bounded s p (there .0) (there .1)
-        (λ g l. ord .sized .twin p g (there .0) (omega (arith, there .1, ord .processors-fit)) (omega (arith, l, ord .pages-fit))) start
+        (λ g. whole-twin lim s ord p g (there .0) (there .1)) start
 
     go : (a : Action) → actionOf t ≡ a → Holding lim Good (effect lim s p a .after)
     go (Read w) e = fetched-holding lim Good s p (pageOfWord lim w) start

@@ -1,4 +1,5 @@
--- The values that words can have over a whole run: what may be a value at a time holds of all copies and records at that time. Assumes nothing.
+-- The values that words can have over a whole run: what may be a value at a time holds of all copies and records at that time. Rests on
+-- OpenedInOrder, Timeline and Values. Assumes nothing.
 use Prim.Native.Nat.{ℕ, zero, suc, _%_, _<_}
 use native.Mathlib.Omega.{arith}
 use mathlib.Core.Path.{_≡_, sym, ap₂, _∙_, subst}

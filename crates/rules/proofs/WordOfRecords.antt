@@ -1,4 +1,4 @@
--- What a list of records does to one word of a page, the word at offset o of page g. Assumes nothing.
+-- What a list of records does to one word of a page, the word at offset o of page g. Rests on the definitions alone. Assumes nothing.
 use Prim.Native.Nat.{ℕ, _<_}
 use mathlib.Core.Path.{_≡_, refl}
 use mathlib.Core.Bool.{Bool, true, false, cond, false≢true}

@@ -1,4 +1,4 @@
--- Closing keeps the whole invariant. Assumes nothing.
+-- Closing keeps the invariant: what it is of the pages then, and the whole of it. Rests on KeptClose and InvCloseClocks. Assumes nothing.
 use Prim.Native.Nat.{ℕ, suc, _+_, _≤_, _<_}
 use native.Mathlib.Omega.{arith}
 use native.Mathlib.Decide.{decLe, ℕ-discrete}
@@ -15,44 +15,26 @@ use Rattle.rules.specs.Tables.{select}
 use Rattle.rules.specs.State.{Limits, Holder, Processor, Applied, Clocks, clockOf, copyOf, twinOf, dirtyAt, Record, State, clock, own, standing, hasArrived}
 use Rattle.rules.specs.Close.{newRecord, cleaned, closed}
 use Rattle.rules.specs.Fetch.{sumAt}
+use Rattle.rules.proofs.Selected.{select-append}
 use Rattle.rules.proofs.Holders.{sameHolder}
 use Rattle.rules.proofs.Slots.{newRecords, records-recorded}
-use Rattle.rules.proofs.Facts.{InOrder}
-use Rattle.rules.proofs.KeptPages.{dirty-cleaned-other}
-use Rattle.rules.proofs.Ghosts.{Ghost, writerClosed, closedGhost}
+use Rattle.rules.proofs.Facts.{InOrder, slots-enough}
+use Rattle.rules.proofs.KeptClose.{closed-clean, closed-dirty}
+use Rattle.rules.proofs.Ghosts.{Ghost, writerClosed, closedGhost, writer-was, writer-stays}
 use Rattle.rules.proofs.WordOfRecords.{noRecord, nth, wordAfter, HitAt, word-after-append}
 use Rattle.rules.proofs.SortedRecords.{word-after-select-none}
-use Rattle.rules.proofs.SelectedRecords.{select-append, nth-first, all-selected, nothing-set}
+use Rattle.rules.proofs.SelectedRecords.{nth-first, all-selected, nothing-set}
 use Rattle.rules.proofs.FetchedWord.{above}
-use Rattle.rules.proofs.Invariant.{Knows, Covered, seen, PageInv, Inv}
-use Rattle.rules.proofs.InvFetch.{slots-enough, above-says, above-when}
-use Rattle.rules.proofs.InvTicks.{Ticks, old-hit, some-writer, covers-old, old-sum, new-above-old, ticks-keep-clocks}
-use Rattle.rules.proofs.InvMoved.{closed-clean}
 use Rattle.rules.proofs.NewRecords.{new-hit}
-use Rattle.rules.proofs.InvClosed.{new-word, new-is, closing-ticks}
+use Rattle.rules.proofs.Invariant.{Knows, Covered, seen, PageInv, Inv}
+use Rattle.rules.proofs.InvSame.{above-says, above-when}
+use Rattle.rules.proofs.InvTicks.{Ticks, old-hit, covers-old, old-sum, new-above-old, ticks-keep-clocks}
+use Rattle.rules.proofs.InvCloseClocks.{new-word, new-is, closing-ticks}
 
 -- the records after closing are the old ones and the new ones behind them
 pub closed-standing : (lim : Limits) (s : State) (p : ℕ) → InOrder lim s → standing (closed s p) ≡ standing s ++ newRecords s p (s .counts .pages)
 unfolding standing closed
 closed-standing lim s p ord = records-recorded s p (s .counts .pages) (slots-enough lim s ord)
-
--- the pages of other processors stay clean or dirty
-pub closed-dirty : (s : State) (p q g : ℕ) → (q ≡ p → ⊥) → dirtyAt (closed s p .pages) q g ≡ dirtyAt (s .pages) q g
-unfolding closed
-closed-dirty s p q g d = dirty-cleaned-other (s .pages) p q g d
-
--- the writer after closing is who it was, unless that is the processor that closed
-pub writer-was : (γ : Ghost) (p q : ℕ) → 1 ≤ q → writerClosed γ p ≡ q → (γ .writer ≡ q) × (q ≡ p → ⊥)
-unfolding writerClosed
-writer-was γ p q h e = go (eqb (γ .writer) p) refl e
-  where
-    go : (b : Bool) → eqb (γ .writer) p ≡ b → cond b 0 (γ .writer) ≡ q → (γ .writer ≡ q) × (q ≡ p → ⊥)
-    go true d e = absurd (omega (arith, e, h))
-    go false d e = (e, λ z. eqb-false (γ .writer) p d (e ∙ z))
-
-pub writer-stays : (γ : Ghost) (p q : ℕ) → (q ≡ p → ⊥) → γ .writer ≡ q → writerClosed γ p ≡ q
-unfolding writerClosed
-writer-stays γ p q d e = rw (ne-eqb (γ .writer) p (λ z. d (sym e ∙ z))) e
 
 module _ (lim : Limits) (g o : ℕ) (s : State) (γ : Ghost) (p : ℕ) (ord : InOrder lim s) (in-page : o < lim .words) (opened-page : g < s .counts .pages) (h : 1 ≤ p)
     (k : p ≤ s .counts .processors) (fit : Below 4294967296 (copyOf (s .pages) p g)) (inv : Inv (lim .words) g o s γ) where

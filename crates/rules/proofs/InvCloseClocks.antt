@@ -1,4 +1,5 @@
--- Closing keeps the invariant: only a processor with stores to w makes a record that sets w, and that record has the last value. Assumes nothing.
+-- Closing, for the clocks and the new records: only a processor with stores to w makes a record that sets w, and that record has the last
+-- value. Rests on KeptNewRecords, NewRecords, InvSame and InvTicks. Assumes nothing.
 use Prim.Native.Nat.{ℕ, _+_, _-_, _≤_, _<_}
 use native.Mathlib.Omega.{arith}
 use native.Mathlib.Decide.{ℕ-discrete}
@@ -11,7 +12,7 @@ use lib.Dec.{eqb}
 use borrow.Author.Tests.{eqb-true, eq-eqb, ne-eqb}
 use Rattle.clock.specs.Clocks.{sumOf}
 use Rattle.diff.specs.Format.{Below, setting, written}
-use Rattle.diff.specs.Reading.{settingAt, applied}
+use Rattle.diff.specs.Reading.{settingAt}
 use Rattle.diff.proofs.Theorems.{exactly-the-differing-words}
 use Rattle.rules.specs.State.{Limits, Counts, Holder, Processor, Lock, Barrier, Applied, Interval, Clocks, clockOf, withClock, copyOf, twinOf, dirtyAt, Record, State, clock, own, standing}
 use Rattle.rules.specs.Close.{differ, changed, anyChanged, raised, ticked, newRecord, closed}
@@ -19,15 +20,15 @@ use Rattle.rules.specs.Fetch.{sumAt}
 use Rattle.rules.proofs.Tables.{any-holds}
 use Rattle.rules.proofs.Holders.{sameHolder, clock-of-with-same, clock-of-with-other, entry-raised-own, entry-raised-other, sum-raised}
 use Rattle.rules.proofs.Slots.{newRecords}
-use Rattle.rules.proofs.Facts.{InOrder}
-use Rattle.rules.proofs.KeptRecorded.{changed-is-dirty}
+use Rattle.rules.proofs.Facts.{InOrder, whole-copy, whole-twin}
+use Rattle.rules.proofs.KeptNewRecords.{changed-is-dirty}
 use Rattle.rules.proofs.Ghosts.{Ghost}
 use Rattle.rules.proofs.WordOfRecords.{nth, isSet, isHit, wordAfter, HitAt}
 use Rattle.rules.proofs.SelectedRecords.{nth-first, nth-second}
-use Rattle.rules.proofs.Invariant.{Knows, Covered, PageInv, Inv}
-use Rattle.rules.proofs.InvFetch.{interval-known}
-use Rattle.rules.proofs.InvTicks.{Ticks}
 use Rattle.rules.proofs.NewRecords.{differ-not, new-hit, one-new-hit, new-records-leave, page-record, new-records-set}
+use Rattle.rules.proofs.Invariant.{Knows, Covered, PageInv, Inv}
+use Rattle.rules.proofs.InvSame.{interval-known}
+use Rattle.rules.proofs.InvTicks.{Ticks}
 
 -- ---- the clocks after closing
 
@@ -121,8 +122,8 @@ module _ (lim : Limits) (g o : ℕ) (s : State) (γ : Ghost) (p : ℕ) (ord : In
   -- what the diff of page g does to the word
   page-setting : settingAt (lim .words) (written (twinOf (s .pages) p g) (copyOf (s .pages) p g)) o ≡ setting (getD (twinOf (s .pages) p g) o 0) (getD (copyOf (s .pages) p g) o 0)
   page-setting =
-      exactly-the-differing-words (lim .words) (twinOf (s .pages) p g) (copyOf (s .pages) p g) (ord .sized .twin p g h (omega (arith, k, ord .processors-fit)) (omega (arith, opened-page, ord .pages-fit)))
-      (ord .sized .copy p g h (omega (arith, k, ord .processors-fit)) (omega (arith, opened-page, ord .pages-fit))) fit o in-page
+      exactly-the-differing-words (lim .words) (twinOf (s .pages) p g) (copyOf (s .pages) p g) (whole-twin lim s ord p g h k opened-page)
+      (whole-copy lim s ord p g h k opened-page) fit o in-page
 
   -- the new records leave the copy's word, once the twin's is there
   pub new-word : (x : ℕ) → (dirtyAt (s .pages) p g ≡ true → x ≡ getD (twinOf (s .pages) p g) o 0) → (dirtyAt (s .pages) p g ≡ false → x ≡ getD (copyOf (s .pages) p g) o 0)

@@ -1,4 +1,5 @@
--- The records stay in order when a processor that ends an interval records its changed pages, and there is room for them. Assumes nothing.
+-- The records stay in order when a processor that ends an interval records its changed pages, and there is room for them. Rests on
+-- KeptRecords. Assumes nothing.
 use Prim.Native.Nat.{ℕ, zero, suc, _+_, _≤_, _<_}
 use native.Mathlib.Omega.{arith}
 use native.Mathlib.Decide.{ℕ-discrete}
@@ -14,11 +15,10 @@ use Rattle.diff.proofs.Legal.{read-when-legal, legal-when-written}
 use Rattle.diff.proofs.Theorems.{length-difference, at-most-bytes}
 use Rattle.rules.specs.Tables.{any, total}
 use Rattle.rules.specs.State.{Limits, copyOf, twinOf, dirtyAt, Record, Records, recordIn, appended, State, clock, own}
-use Rattle.rules.specs.InOrder.{present, sameNotice}
+use Rattle.rules.specs.InOrder.{sameNotice}
 use Rattle.rules.specs.Close.{differ, changed, newRecord, recorded}
-use Rattle.rules.specs.Fetch.{earlier}
-use Rattle.rules.proofs.KeptParts.{presentAmong, ownIn, dirtyBelow, CountsInOrder, PagesInOrder, RecordsInOrder}
-use Rattle.rules.proofs.KeptMoves.{among-says}
+use Rattle.rules.proofs.Tables.{total-of-more}
+use Rattle.rules.proofs.KeptParts.{presentAmong, among-says, ownIn, dirtyBelow, CountsInOrder, PagesInOrder, RecordsInOrder}
 use Rattle.rules.proofs.KeptRecords.{records-with-more-intervals, Appendable, new-slot-at, old-slot-at, record-in-new-slot, appended-in-order}
 
 -- two records that are not of the same processor, interval and page
@@ -31,19 +31,6 @@ notice-differs r q h = go (eqb (r .processor) (q .processor)) (eqb (r .interval)
     go true false c x y z = refl
     go true true false x y z = refl
     go true true true x y z = absurd (h (eqb-true (r .processor) (q .processor) x) (eqb-true (r .interval) (q .interval) y) (eqb-true (r .page) (q .page) z))
-
--- a sum over more numbers is no smaller
-pub total-of-more : (n m : ℕ) (f : ℕ → ℕ) → n ≤ m → total n f ≤ total m f
-unfolding total
-total-of-more n zero f h = rw (le-zero n h) (omega arith)
-  where
-    le-zero : (n : ℕ) → n ≤ 0 → n ≡ 0
-    le-zero n h = omega arith
-total-of-more n (suc m) f h = go (ℕ-discrete n (suc m)) (total-of-more n m f)
-  where
-    go : Dec (n ≡ suc m) → (n ≤ m → total n f ≤ total m f) → total n f ≤ total m f + f m
-    go (yes e) r = rw e (omega arith)
-    go (no e) r = omega (arith, r (omega arith))
 
 -- a changed page is a dirty one
 pub changed-is-dirty : (s : State) (p g : ℕ) → changed s p g ≡ true → dirtyAt (s .pages) p g ≡ true
