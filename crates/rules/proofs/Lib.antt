@@ -75,8 +75,11 @@ pub mod ListRuns
 pub mod DemandThree
 -- computed runs
 pub mod Listing
+pub mod BenchFaults
+pub mod FromStart
 pub mod ClosingFirst
 pub mod NoInterval
 pub mod StoredCases
 pub mod Cases
 pub mod Race
+pub mod PremisesMet

@@ -51,8 +51,8 @@ listing =
     ∷ []
 
 -- the lines 1 to 12 of the listing: refusal, value and count of each step
-pub listing-a : answersInOrder mainframe (start 2 1 1) listing
+pub computed-listing : answersInOrder mainframe (start 2 1 1) listing
     ≡ answering 0 0 0 ∷ answering 0 0 0 ∷ answering 0 0 0 ∷ answering 7 0 0 ∷ answering 0 0 0 ∷ answering 0 0 0 ∷ answering 0 700 1 ∷ answering 0 700 0 ∷ answering 0 0 0
     ∷ answering 6 0 0 ∷ answering 0 0 0 ∷ answering 0 0 0 ∷ []
 unfolding listing start
-listing-a = refl
+computed-listing = refl
