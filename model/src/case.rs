@@ -1,0 +1,97 @@
+//! A named step file with the lines it should print, written by hand.
+
+use crate::model::{Answer, Step, ACQUIRE, ARRIVE, READ, RELEASE, WANT, WRITE};
+use crate::stepfile::Line;
+
+pub struct Case {
+    pub name: String,
+    /// One line for the README.
+    pub shows: String,
+    pub file: Vec<u8>,
+    pub lines: Vec<Line>,
+}
+
+fn step(kind: u8, card: u8, object: u16, value: u32) -> Step {
+    Step {
+        kind,
+        card,
+        object,
+        value,
+    }
+}
+
+pub fn read(card: u8, word: u16) -> Step {
+    step(READ, card, word, 0)
+}
+
+pub fn write(card: u8, word: u16, value: u32) -> Step {
+    step(WRITE, card, word, value)
+}
+
+pub fn acquire(card: u8, lock: u16) -> Step {
+    step(ACQUIRE, card, lock, 0)
+}
+
+pub fn release(card: u8, lock: u16) -> Step {
+    step(RELEASE, card, lock, 0)
+}
+
+pub fn arrive(card: u8) -> Step {
+    step(ARRIVE, card, 0, 0)
+}
+
+pub fn want(card: u8) -> Step {
+    step(WANT, card, 0, 0)
+}
+
+pub fn any(kind: u8, card: u8, object: u16, value: u32) -> Step {
+    step(kind, card, object, value)
+}
+
+impl Case {
+    /// A file that opens with these counts, accepted.
+    pub fn open(name: &str, counts: [u8; 3], shows: &str) -> Case {
+        let [cards, pages, locks] = counts;
+        let opening = [0, cards, pages, locks, 0, 0, 0, 0];
+        Case::raw(name, &opening, 0, shows)
+    }
+
+    /// A file of these bytes, with one line for record 0.
+    pub fn raw(name: &str, bytes: &[u8], refusal: u32, shows: &str) -> Case {
+        Case {
+            name: name.to_string(),
+            shows: shows.to_string(),
+            file: bytes.to_vec(),
+            lines: vec![Line::refused(0, refusal)],
+        }
+    }
+
+    fn put(&mut self, step: Step, answer: Answer) {
+        let number = self.lines.len();
+        self.file.extend(step.to_bytes());
+        self.lines.push(Line { number, answer });
+    }
+
+    /// Steps accepted with value 0 and count 0.
+    pub fn ok(&mut self, steps: &[Step]) {
+        for step in steps {
+            self.put(*step, Answer::accepted(0, 0));
+        }
+    }
+
+    /// A step accepted with this value and count.
+    pub fn gives(&mut self, step: Step, value: u32, count: u32) {
+        self.put(step, Answer::accepted(value, count));
+    }
+
+    pub fn refused(&mut self, step: Step, refusal: u32) {
+        self.put(step, Answer::refused(refusal));
+    }
+
+    /// Bytes that are no whole record, and the line 15 they give.
+    pub fn cut(&mut self, bytes: &[u8]) {
+        let number = self.lines.len();
+        self.file.extend(bytes);
+        self.lines.push(Line::refused(number, 15));
+    }
+}

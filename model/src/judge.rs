@@ -1,0 +1,364 @@
+//! Demand 3 over a whole list of steps, straight from happens-before-1.
+//!
+//! "Happens-before-1 is made from the number of cards, the fields of the
+//! steps and whether each step was refused, and from nothing else in answers
+//! or state." So the judge sees a file and its printed lines only; the lines
+//! may come from the model or from any other program.
+//!
+//! Two judges of the same claim: `by_relation` builds the order as the
+//! document defines it (bit sets, short lists only), `by_clocks` counts steps
+//! with vectors of its own (any length). Short lists go through both.
+
+use crate::model::{Step, ACQUIRE, ARRIVE, READ, RELEASE, WRITE};
+use crate::stepfile::{record_at, Line};
+use std::collections::{BTreeMap, BTreeSet};
+
+/// Lists up to this many accepted steps are judged both ways.
+const SHORT: usize = 2500;
+
+/// An accepted step: "A step is accepted exactly when its refusal is 0; a
+/// refused one has no place in the order."
+#[derive(Clone, Copy)]
+struct Accepted {
+    number: usize,
+    step: Step,
+    /// The value answered.
+    answered: u32,
+}
+
+/// What was found.
+#[derive(Clone, Debug, Default, PartialEq, Eq)]
+pub struct Verdict {
+    pub accepted: usize,
+    pub reads: usize,
+    /// Reads of which the strong half names the value.
+    pub strong: usize,
+    /// Of those, the reads with at least one earlier write.
+    pub strong_written: usize,
+    pub broken: Vec<Broken>,
+}
+
+/// A read that breaks demand 3.
+#[derive(Clone, Debug, PartialEq, Eq)]
+pub struct Broken {
+    pub number: usize,
+    pub word: u16,
+    pub answered: u32,
+    /// The value due by the strong half; nothing if the weak half is broken.
+    pub due: Option<u32>,
+}
+
+impl Broken {
+    pub fn text(&self) -> String {
+        let rule = match self.due {
+            Some(due) => format!("strong half: {due} is due"),
+            None => "weak half: neither 0 nor a value written before".to_string(),
+        };
+        let Broken {
+            number,
+            word,
+            answered,
+            ..
+        } = self;
+        format!("record {number}: read of word {word} answered {answered}; {rule}")
+    }
+}
+
+/// What one judge makes of one read, before the value is looked at.
+struct Finding {
+    /// "every two of them by different cards are ordered, and each of them is
+    /// before the read"
+    premise: bool,
+    last: Option<u32>,
+    /// Whether the value answered is 0 or one of the values written.
+    weak: bool,
+}
+
+impl Verdict {
+    fn take(&mut self, read: &Accepted, finding: Finding) {
+        let due = finding.last.unwrap_or(0);
+        self.reads += 1;
+        self.strong += usize::from(finding.premise);
+        self.strong_written += usize::from(finding.premise && finding.last.is_some());
+        let strong_broken = finding.premise && due != read.answered;
+        if strong_broken || !finding.weak {
+            self.broken.push(Broken {
+                number: read.number,
+                word: read.step.object,
+                answered: read.answered,
+                due: strong_broken.then_some(due),
+            });
+        }
+    }
+}
+
+/// Judges a file by its lines; an error if the lines do not fit the file.
+pub fn judge(file: &[u8], lines: &[Line]) -> Result<Verdict, String> {
+    let (cards, list) = accepted_steps(file, lines)?;
+    let verdict = by_clocks(cards, &list);
+    if list.len() <= SHORT && by_relation(cards, &list) != verdict {
+        return Err("the two judges differ".to_string());
+    }
+    Ok(verdict)
+}
+
+/// The number of cards and the accepted steps in their order.
+fn accepted_steps(file: &[u8], lines: &[Line]) -> Result<(usize, Vec<Accepted>), String> {
+    let Some(opening) = lines.first() else {
+        return Err("no lines".to_string());
+    };
+    if opening.answer.refusal != 0 {
+        return one_line_only(lines);
+    }
+    let cards = record_at(file, 0).ok_or("a line for an opening that is not there")?[1];
+    if cards == 0 {
+        return Err("an opening without cards was accepted".to_string());
+    }
+    let mut list = Vec::new();
+    let mut stopped = false;
+    for (number, line) in lines.iter().enumerate().skip(1) {
+        if line.number != number || stopped {
+            return Err(format!("line {number} does not fit: {}", line.text()));
+        }
+        stopped = line.answer.refusal >= 15;
+        list.extend(accepted_step(file, line)?);
+    }
+    let whole = stopped || 8 * lines.len() == file.len();
+    let short = || format!("{} lines do not end the file", lines.len());
+    whole.then_some((cards.into(), list)).ok_or_else(short)
+}
+
+/// After a refused opening nothing follows and the list is empty.
+fn one_line_only(lines: &[Line]) -> Result<(usize, Vec<Accepted>), String> {
+    if lines.len() == 1 && lines[0].number == 0 {
+        return Ok((1, Vec::new()));
+    }
+    Err("lines follow a refused opening".to_string())
+}
+
+fn accepted_step(file: &[u8], line: &Line) -> Result<Option<Accepted>, String> {
+    if line.answer.refusal != 0 {
+        return Ok(None);
+    }
+    let absent = || format!("line {} has no record", line.number);
+    let record = record_at(file, line.number).ok_or_else(absent)?;
+    Ok(Some(Accepted {
+        number: line.number,
+        step: Step::from_bytes(record),
+        answered: line.answer.value,
+    }))
+}
+
+// The order as the document defines it.
+
+/// A set of places in the list.
+#[derive(Clone)]
+struct Set(Vec<u64>);
+
+impl Set {
+    fn has(&self, place: usize) -> bool {
+        self.0[place / 64] >> (place % 64) & 1 == 1
+    }
+
+    fn put(&mut self, place: usize) {
+        self.0[place / 64] |= 1 << (place % 64);
+    }
+
+    fn unite(&mut self, other: &Set) {
+        for (mine, theirs) in self.0.iter_mut().zip(&other.0) {
+            *mine |= theirs;
+        }
+    }
+}
+
+/// "Accepted arrivals are counted off from the opening in groups of as many
+/// as there are cards; each full group is a completed round." For each place
+/// in the list: if it is an arrival of a completed round, the place of that
+/// round's last arrival.
+fn round_ends(cards: usize, list: &[Accepted]) -> Vec<Option<usize>> {
+    let is_arrival = |place: &usize| list[*place].step.kind == ARRIVE;
+    let arrivals: Vec<usize> = (0..list.len()).filter(is_arrival).collect();
+    let mut ends = vec![None; list.len()];
+    for round in arrivals.chunks_exact(cards) {
+        for arrival in round {
+            ends[*arrival] = round.last().copied();
+        }
+    }
+    ends
+}
+
+/// Whether the step at `s` is before the later one at `t` without chaining:
+/// "a card's steps in their order; each release before every later acquire of
+/// that lock; every arrival of a completed round before every step any card
+/// takes after that round's last arrival".
+fn directly_before(list: &[Accepted], ends: &[Option<usize>], s: usize, t: usize) -> bool {
+    let (first, second) = (list[s].step, list[t].step);
+    let same_card = first.card == second.card;
+    let by_lock = first.kind == RELEASE && second.kind == ACQUIRE && first.object == second.object;
+    let by_round = ends[s].is_some_and(|end| end < t);
+    same_card || by_lock || by_round
+}
+
+/// "and what follows by chaining": for each step the set of those before it.
+fn happens_before(cards: usize, list: &[Accepted]) -> Vec<Set> {
+    let ends = round_ends(cards, list);
+    let mut before: Vec<Set> = Vec::new();
+    for t in 0..list.len() {
+        let mut set = Set(vec![0; list.len().div_ceil(64)]);
+        for s in (0..t).rev() {
+            if directly_before(list, &ends, s, t) && !set.has(s) {
+                set.put(s);
+                set.unite(&before[s]);
+            }
+        }
+        before.push(set);
+    }
+    before
+}
+
+fn by_relation(cards: usize, list: &[Accepted]) -> Verdict {
+    let before = happens_before(cards, list);
+    let mut verdict = Verdict {
+        accepted: list.len(),
+        ..Verdict::default()
+    };
+    for (place, read) in list.iter().enumerate() {
+        if read.step.kind == READ {
+            verdict.take(read, finding_by_relation(list, &before, place));
+        }
+    }
+    verdict
+}
+
+fn finding_by_relation(list: &[Accepted], before: &[Set], read: usize) -> Finding {
+    // "take the accepted writes to w that stand earlier in the list"
+    let word = list[read].step.object;
+    let to_word = |place: &usize| {
+        let step = list[*place].step;
+        step.kind == WRITE && step.object == word
+    };
+    let writes: Vec<usize> = (0..read).filter(to_word).collect();
+    let values: Vec<u32> = writes.iter().map(|w| list[*w].step.value).collect();
+    let answered = list[read].answered;
+    Finding {
+        premise: all_ordered(list, before, &writes)
+            && writes.iter().all(|write| before[read].has(*write)),
+        last: values.last().copied(),
+        weak: answered == 0 || values.contains(&answered),
+    }
+}
+
+/// "every two of them by different cards are ordered"; "Two steps are ordered
+/// when either is before the other." None is before an earlier one.
+fn all_ordered(list: &[Accepted], before: &[Set], writes: &[usize]) -> bool {
+    let ordered = |s: usize, t: usize| {
+        list[s].step.card == list[t].step.card || before[t].has(s) || before[s].has(t)
+    };
+    let with_earlier = |n: usize| (0..n).all(|m| ordered(writes[m], writes[n]));
+    (0..writes.len()).all(with_earlier)
+}
+
+// The same with vectors that count steps.
+
+/// For each card how many of its accepted steps are known.
+type Known = BTreeMap<u8, usize>;
+
+fn learn(mine: &mut Known, news: &Known) {
+    for (card, steps) in news {
+        let entry = mine.entry(*card).or_insert(0);
+        *entry = (*entry).max(*steps);
+    }
+}
+
+/// What the judge remembers of the writes to one word.
+#[derive(Default)]
+struct WordHistory {
+    /// For each card the last of its writes, as a count of its steps.
+    last_by_card: Known,
+    disordered: bool,
+    values: BTreeSet<u32>,
+    last: Option<u32>,
+}
+
+impl WordHistory {
+    /// Whether all the writes so far, but for the card's own, are known to
+    /// it. A card's last write is known only after its earlier ones.
+    fn known_to(&self, card: u8, known: &Known) -> bool {
+        let of = |other: &u8| known.get(other).copied().unwrap_or(0);
+        let mut writes = self.last_by_card.iter();
+        writes.all(|(other, at)| *other == card || of(other) >= *at)
+    }
+
+    fn write(&mut self, step: &Step, known: &Known) {
+        self.disordered |= !self.known_to(step.card, known);
+        self.last_by_card.insert(step.card, known[&step.card]);
+        self.values.insert(step.value);
+        self.last = Some(step.value);
+    }
+
+    fn read(&self, read: &Accepted, known: &Known) -> Finding {
+        Finding {
+            premise: !self.disordered && self.known_to(read.step.card, known),
+            last: self.last,
+            weak: read.answered == 0 || self.values.contains(&read.answered),
+        }
+    }
+}
+
+/// The judge's own vectors: of each card, of each lock, of each round.
+#[derive(Default)]
+struct Clocks {
+    card: BTreeMap<u8, Known>,
+    lock: BTreeMap<u16, Known>,
+    round: Known,
+    arrivals: usize,
+    /// What the arrivals of all completed rounds give to each later step.
+    completed: Known,
+}
+
+impl Clocks {
+    /// Counts the step in and gives what is before it, itself included.
+    fn enter(&mut self, step: &Step) -> Known {
+        let known = self.card.entry(step.card).or_default();
+        learn(known, &self.completed);
+        if let (ACQUIRE, Some(released)) = (step.kind, self.lock.get(&step.object)) {
+            learn(known, released);
+        }
+        *known.entry(step.card).or_insert(0) += 1;
+        known.clone()
+    }
+
+    /// What the step hands on.
+    fn leave(&mut self, step: &Step, known: &Known, cards: usize) {
+        if step.kind == RELEASE {
+            learn(self.lock.entry(step.object).or_default(), known);
+        }
+        if step.kind == ARRIVE {
+            learn(&mut self.round, known);
+            self.arrivals += 1;
+            if self.arrivals.is_multiple_of(cards) {
+                learn(&mut self.completed, &self.round);
+            }
+        }
+    }
+}
+
+fn by_clocks(cards: usize, list: &[Accepted]) -> Verdict {
+    let mut clocks = Clocks::default();
+    let mut words: BTreeMap<u16, WordHistory> = BTreeMap::new();
+    let mut verdict = Verdict {
+        accepted: list.len(),
+        ..Verdict::default()
+    };
+    for taken in list {
+        let known = clocks.enter(&taken.step);
+        let word = words.entry(taken.step.object);
+        match taken.step.kind {
+            READ => verdict.take(taken, word.or_default().read(taken, &known)),
+            WRITE => word.or_default().write(&taken.step, &known),
+            _ => {}
+        }
+        clocks.leave(&taken.step, &known, cards);
+    }
+    verdict
+}

@@ -1,0 +1,189 @@
+//! A second model of document 01. `model` alone prints what it can do.
+
+#![forbid(unsafe_code)]
+
+mod case;
+mod cases;
+mod clock;
+mod diff;
+mod fault;
+mod files;
+mod generate;
+mod in_order;
+mod judge;
+mod model;
+mod rng;
+mod script;
+mod stepfile;
+mod sweep;
+#[cfg(test)]
+mod tests;
+
+use std::env;
+use std::fs;
+use std::io::{self, Read, Write};
+use std::path::Path;
+use std::process::ExitCode;
+
+const USAGE: &str = "model run < FILE                      the lines of a step file
+model judge < FILE                    demand 3 on the model's own lines
+model judge FILE LINES                demand 3 on the lines given
+model gen PROFILE SEED STEPS > FILE   a step file
+model gen --list                      the profiles
+model make-files DIR                  the named files with their lines
+model check-files DIR                 runs and compares them
+model faults DIR                      the named files under each fault
+model sweep SEEDS STEPS               all profiles, run and judged
+model sweep-faults SEEDS STEPS        all profiles under each fault
+model change check HEX                0 or the refusal
+model change write TWIN COPY ROOM     two pages in hex; the change in hex
+model change apply PAGE HEX           a page in hex; the page after
+";
+
+fn main() -> ExitCode {
+    let args: Vec<String> = env::args().skip(1).collect();
+    let args: Vec<&str> = args.iter().map(String::as_str).collect();
+    match command(&args) {
+        Ok(output) => print_out(&output),
+        Err(wrong) => {
+            eprintln!("{wrong}");
+            ExitCode::FAILURE
+        }
+    }
+}
+
+fn print_out(output: &[u8]) -> ExitCode {
+    match io::stdout().write_all(output) {
+        Ok(()) => ExitCode::SUCCESS,
+        Err(_) => ExitCode::FAILURE,
+    }
+}
+
+fn command(args: &[&str]) -> Result<Vec<u8>, String> {
+    let text = match args {
+        ["run"] => stepfile::print_lines(&stepfile::run(&input()?, None)),
+        ["run", "--fault", name] => run_faulty(name)?,
+        ["judge"] => judge_own(&input()?)?,
+        ["judge", file, lines] => judge_given(file, lines)?,
+        ["gen", "--list"] => profile_list(),
+        ["gen", profile, seed, steps] => return generate_file(profile, seed, steps),
+        ["make-files", dir] => files::make_files(Path::new(dir))?,
+        ["check-files", dir] => files::check_files(Path::new(dir))?,
+        ["faults", dir] => files::fault_table(Path::new(dir))?,
+        ["sweep", seeds, steps] => sweep::sweep(number(seeds)?, number(steps)? as usize)?,
+        ["sweep-faults", seeds, steps] => {
+            sweep::sweep_faults(number(seeds)?, number(steps)? as usize)
+        }
+        ["change", "check", bytes] => change_line(diff::check(&from_hex(bytes)?), ""),
+        ["change", "write", twin, copy, room] => change_write(twin, copy, room)?,
+        ["change", "apply", page, bytes] => change_apply(page, bytes)?,
+        _ => return Err(USAGE.to_string()),
+    };
+    Ok(text.into_bytes())
+}
+
+fn input() -> Result<Vec<u8>, String> {
+    let mut bytes = Vec::new();
+    let read = io::stdin().lock().read_to_end(&mut bytes);
+    read.map_err(|e| e.to_string())?;
+    Ok(bytes)
+}
+
+fn number(text: &str) -> Result<u64, String> {
+    text.parse().map_err(|_| format!("{text} is no number"))
+}
+
+fn run_faulty(name: &str) -> Result<String, String> {
+    let fault = fault::by_name(name).ok_or(format!("no fault {name}"))?;
+    Ok(stepfile::print_lines(&stepfile::run(
+        &input()?,
+        Some(fault),
+    )))
+}
+
+fn judge_own(file: &[u8]) -> Result<String, String> {
+    report(file, &stepfile::run(file, None))
+}
+
+fn judge_given(file: &str, lines: &str) -> Result<String, String> {
+    let file = fs::read(file).map_err(|e| format!("{file}: {e}"))?;
+    let text = fs::read_to_string(lines).map_err(|e| format!("{lines}: {e}"))?;
+    let lines = stepfile::parse_lines(&text).ok_or("the lines cannot be read")?;
+    report(&file, &lines)
+}
+
+/// Good news on standard output; broken reads as an error.
+fn report(file: &[u8], lines: &[stepfile::Line]) -> Result<String, String> {
+    let found = judge::judge(file, lines)?;
+    let mut text = format!(
+        "{} accepted steps, {} reads, {} under the strong half ({} written before), {} broken\n",
+        found.accepted,
+        found.reads,
+        found.strong,
+        found.strong_written,
+        found.broken.len()
+    );
+    for broken in &found.broken {
+        text.push_str(&broken.text());
+        text.push('\n');
+    }
+    if found.broken.is_empty() {
+        Ok(text)
+    } else {
+        Err(text)
+    }
+}
+
+fn profile_list() -> String {
+    let lines = generate::PROFILES.iter().map(|name| format!("{name}\n"));
+    lines.collect()
+}
+
+fn generate_file(profile: &str, seed: &str, steps: &str) -> Result<Vec<u8>, String> {
+    let file = generate::generate(profile, number(seed)?, number(steps)? as usize);
+    file.ok_or(format!("no profile {profile}"))
+}
+
+// Changes as bytes, for comparisons from outside.
+
+/// The refusal or 0, then the result.
+fn change_line(done: Result<(), u32>, result: &str) -> String {
+    match done {
+        Ok(()) => format!("0 {result}").trim_end().to_string() + "\n",
+        Err(refusal) => format!("{refusal}\n"),
+    }
+}
+
+fn change_write(twin: &str, copy: &str, room: &str) -> Result<String, String> {
+    let (twin, copy) = (page_from_hex(twin)?, page_from_hex(copy)?);
+    let mut dest = vec![0; number(room)? as usize];
+    let written = diff::write(&twin, &copy, &mut dest);
+    dest.truncate(written.unwrap_or(0));
+    Ok(change_line(written.map(|_| ()), &to_hex(&dest)))
+}
+
+fn change_apply(page: &str, bytes: &str) -> Result<String, String> {
+    let mut page = page_from_hex(page)?;
+    let done = diff::apply(&mut page, &from_hex(bytes)?);
+    let after: Vec<u8> = page.iter().flat_map(|word| word.to_le_bytes()).collect();
+    Ok(change_line(done, &to_hex(&after)))
+}
+
+fn from_hex(text: &str) -> Result<Vec<u8>, String> {
+    let wrong = |_| format!("{text} is no hex");
+    let pairs = text.as_bytes().chunks(2);
+    let byte = |two: &[u8]| u8::from_str_radix(&String::from_utf8_lossy(two), 16);
+    pairs.map(|two| byte(two).map_err(wrong)).collect()
+}
+
+fn to_hex(bytes: &[u8]) -> String {
+    bytes.iter().map(|byte| format!("{byte:02x}")).collect()
+}
+
+/// A page as its words, four bytes each, low byte first.
+fn page_from_hex(text: &str) -> Result<Vec<u32>, String> {
+    let bytes = from_hex(text)?;
+    let word = |four: &[u8]| Some(u32::from_le_bytes(four.try_into().ok()?));
+    let words: Option<Vec<u32>> = bytes.chunks(4).map(word).collect();
+    words.ok_or("a page is whole words".to_string())
+}

@@ -1,0 +1,556 @@
+//! The rules of document 01: opening, the six kinds of step, their refusals.
+//!
+//! Written from the document alone, as plainly as it states them. Quoted
+//! text is the document's. A card is a processor here; nothing is encoded.
+
+use crate::clock::{IntervalId, LockId, PageId, ProcId, VectorClock};
+use crate::diff::{Diff, PAGE_WORDS};
+use crate::fault::Fault;
+use std::collections::BTreeMap;
+
+pub const READ: u8 = 1;
+pub const WRITE: u8 = 2;
+pub const ACQUIRE: u8 = 3;
+pub const RELEASE: u8 = 4;
+pub const ARRIVE: u8 = 5;
+pub const WANT: u8 = 6;
+
+/// "an interval number 1 to 63"
+pub const MOST_INTERVALS: u32 = 63;
+/// "At most 128 stand."
+pub const MOST_RECORDS: usize = 128;
+
+/// A step with any fields: "kind, card, object, value".
+#[derive(Clone, Copy, Debug, PartialEq, Eq)]
+pub struct Step {
+    pub kind: u8,
+    pub card: u8,
+    pub object: u16,
+    pub value: u32,
+}
+
+/// "refusal or 0, value, count"
+#[derive(Clone, Copy, Debug, PartialEq, Eq)]
+pub struct Answer {
+    pub refusal: u32,
+    pub value: u32,
+    pub count: u32,
+}
+
+impl Answer {
+    /// A refusal: "Value 0, count 0".
+    pub fn refused(refusal: u32) -> Answer {
+        Answer {
+            refusal,
+            value: 0,
+            count: 0,
+        }
+    }
+
+    pub fn accepted(value: u32, count: u32) -> Answer {
+        Answer {
+            refusal: 0,
+            value,
+            count,
+        }
+    }
+}
+
+/// One card's copy of one page.
+#[derive(Clone)]
+pub struct PageCopy {
+    pub words: Vec<u32>,
+    /// "a dirty one has a twin, its 32 words before the first store"
+    pub twin: Option<Vec<u32>>,
+    /// "for each page an applied clock"
+    pub applied: VectorClock,
+}
+
+/// One card.
+#[derive(Clone)]
+pub struct Processor {
+    pub clock: VectorClock,
+    pub pages: BTreeMap<PageId, PageCopy>,
+}
+
+/// "A change record has a card, an interval number 1 to 63, a page and a
+/// change."
+#[derive(Clone)]
+pub struct Record {
+    pub card: ProcId,
+    pub interval: IntervalId,
+    pub page: PageId,
+    pub diff: Diff,
+}
+
+/// "A lock has a holder and a clock."
+#[derive(Clone)]
+pub struct Lock {
+    pub holder: Option<ProcId>,
+    pub clock: VectorClock,
+}
+
+/// "The barrier has an arrived mark for each card, a clock and a mark that
+/// collection is wanted."
+#[derive(Clone)]
+pub struct Barrier {
+    pub arrived: BTreeMap<ProcId, bool>,
+    pub clock: VectorClock,
+    pub wanted: bool,
+}
+
+/// The mainframe.
+#[derive(Clone)]
+pub struct Model {
+    pub processors: BTreeMap<ProcId, Processor>,
+    pub records: Vec<Record>,
+    /// "Each interval keeps the clock of its card just after closing"
+    pub intervals: BTreeMap<(ProcId, IntervalId), VectorClock>,
+    pub locks: BTreeMap<LockId, Lock>,
+    pub barrier: Barrier,
+    fault: Option<Fault>,
+}
+
+/// Word w lies on page w / 32, at offset w % 32.
+fn place(word: u16) -> (PageId, usize) {
+    let word = usize::from(word);
+    (PageId((word / PAGE_WORDS) as u16), word % PAGE_WORDS)
+}
+
+fn fresh_page() -> PageCopy {
+    PageCopy {
+        words: vec![0; PAGE_WORDS],
+        twin: None,
+        applied: VectorClock::zeros(),
+    }
+}
+
+fn fresh_processor(pages: u8) -> Processor {
+    let page = |number| (PageId(number), fresh_page());
+    Processor {
+        clock: VectorClock::zeros(),
+        pages: (0..u16::from(pages)).map(page).collect(),
+    }
+}
+
+fn fresh_lock() -> Lock {
+    Lock {
+        holder: None,
+        clock: VectorClock::zeros(),
+    }
+}
+
+// Opening.
+impl Model {
+    /// "The opening record holds 0, cards, pages, locks, four zeros."
+    /// Otherwise refusal 2: "first byte not 0, a count out of range, or
+    /// bytes 4 to 7 not all 0".
+    pub fn open(record: [u8; 8], fault: Option<Fault>) -> Result<Model, Answer> {
+        let [first, cards, pages, locks, rest @ ..] = record;
+        let counts = (1..=8).contains(&cards) && (1..=8).contains(&pages);
+        let counts = counts && (1..=16).contains(&locks);
+        if first != 0 || !counts || rest != [0; 4] {
+            return Err(Answer::refused(2));
+        }
+        Ok(Model::fresh(cards, pages, locks, fault))
+    }
+
+    fn fresh(cards: u8, pages: u8, locks: u8, fault: Option<Fault>) -> Model {
+        let cards = (1..=cards).map(ProcId);
+        let locks = (0..u16::from(locks)).map(LockId);
+        Model {
+            processors: cards.clone().map(|p| (p, fresh_processor(pages))).collect(),
+            records: Vec::new(),
+            intervals: BTreeMap::new(),
+            locks: locks.map(|l| (l, fresh_lock())).collect(),
+            barrier: Barrier {
+                arrived: cards.map(|p| (p, false)).collect(),
+                clock: VectorClock::zeros(),
+                wanted: false,
+            },
+            fault,
+        }
+    }
+}
+
+// Questions about the state.
+impl Model {
+    fn cards(&self) -> Vec<ProcId> {
+        self.processors.keys().copied().collect()
+    }
+
+    /// Pages are the same for each card.
+    fn pages(&self) -> Vec<PageId> {
+        let first = &self.processors[&ProcId(1)];
+        first.pages.keys().copied().collect()
+    }
+
+    fn page_present(&self, page: PageId) -> bool {
+        self.processors[&ProcId(1)].pages.contains_key(&page)
+    }
+
+    pub fn own_entry(&self, card: ProcId) -> u32 {
+        self.processors[&card].clock.entry(card)
+    }
+
+    fn page(&self, card: ProcId, page: PageId) -> &PageCopy {
+        &self.processors[&card].pages[&page]
+    }
+
+    fn page_mut(&mut self, card: ProcId, page: PageId) -> &mut PageCopy {
+        let processor = self.processors.get_mut(&card).expect("present card");
+        processor.pages.get_mut(&page).expect("present page")
+    }
+
+    fn processor_mut(&mut self, card: ProcId) -> &mut Processor {
+        self.processors.get_mut(&card).expect("present card")
+    }
+
+    fn lock_mut(&mut self, lock: LockId) -> &mut Lock {
+        self.locks.get_mut(&lock).expect("present lock")
+    }
+
+    fn is_dirty(&self, card: ProcId, page: PageId) -> bool {
+        self.page(card, page).twin.is_some()
+    }
+
+    /// "records plus dirty pages, counted over all cards"
+    pub fn records_and_dirty(&self) -> usize {
+        let pages = self.processors.values().flat_map(|p| p.pages.values());
+        self.records.len() + pages.filter(|page| page.twin.is_some()).count()
+    }
+
+    /// "for intervals not made that clock is zeros"
+    fn interval_clock(&self, card: ProcId, interval: IntervalId) -> VectorClock {
+        let kept = self.intervals.get(&(card, interval));
+        kept.cloned().unwrap_or(VectorClock::zeros())
+    }
+
+    pub fn has_arrived(&self, card: ProcId) -> bool {
+        self.barrier.arrived[&card]
+    }
+}
+
+// Refusals, "top to bottom ... the first that applies is given, and only
+// then."
+impl Model {
+    fn refusal(&self, step: &Step) -> Option<u32> {
+        // "3: kind not 1 to 6"
+        if !(READ..=WANT).contains(&step.kind) {
+            return Some(3);
+        }
+        // "4: card absent"
+        let card = ProcId(step.card);
+        if !self.processors.contains_key(&card) {
+            return Some(4);
+        }
+        // "5: word or lock absent, or an unused field not 0"
+        if !self.fields_fit(step) {
+            return Some(5);
+        }
+        // "6: card has arrived, round not complete"
+        if self.has_arrived(card) {
+            return Some(6);
+        }
+        self.refusal_by_kind(step, card)
+    }
+
+    /// "Object is the word (kinds 1, 2) or lock (3, 4), else 0; value is used
+    /// by kind 2 alone."
+    fn fields_fit(&self, step: &Step) -> bool {
+        let object_fits = match step.kind {
+            READ | WRITE => self.page_present(place(step.object).0),
+            ACQUIRE | RELEASE => self.locks.contains_key(&LockId(step.object)),
+            _ => step.object == 0,
+        };
+        object_fits && (step.kind == WRITE || step.value == 0)
+    }
+
+    fn refusal_by_kind(&self, step: &Step, card: ProcId) -> Option<u32> {
+        match step.kind {
+            // "Acquire 7: lock held, by this card too"
+            ACQUIRE if self.locks[&LockId(step.object)].holder.is_some() => Some(7),
+            // "Release 8: this card is not the holder"
+            RELEASE if self.locks[&LockId(step.object)].holder != Some(card) => Some(8),
+            WRITE if !self.is_dirty(card, place(step.object).0) => self.refusal_on_clean(card),
+            _ => None,
+        }
+    }
+
+    fn refusal_on_clean(&self, card: ProcId) -> Option<u32> {
+        // "Write, clean page 9: own entry is 63"
+        if self.own_entry(card) == MOST_INTERVALS {
+            return Some(9);
+        }
+        // "Write, clean page 10: records plus dirty pages are 128"
+        if self.records_and_dirty() == MOST_RECORDS {
+            return Some(10);
+        }
+        None
+    }
+}
+
+// The six kinds of step.
+impl Model {
+    /// Takes or refuses one step. A refused step changes nothing.
+    pub fn step(&mut self, step: &Step) -> Answer {
+        match self.refusal(step) {
+            Some(number) => Answer::refused(number),
+            None => self.take(step),
+        }
+    }
+
+    fn take(&mut self, step: &Step) -> Answer {
+        let card = ProcId(step.card);
+        match step.kind {
+            READ => self.read(card, step.object),
+            WRITE => self.write(card, step.object, step.value),
+            ACQUIRE => self.acquire(card, LockId(step.object)),
+            RELEASE => self.release(card, LockId(step.object)),
+            ARRIVE => self.arrive(card),
+            _ => self.want_collection(),
+        }
+    }
+
+    /// "Read: fetch, then answer the word."
+    fn read(&mut self, card: ProcId, word: u16) -> Answer {
+        let (page, offset) = place(word);
+        let count = self.fetch(card, page);
+        Answer::accepted(self.page(card, page).words[offset], count)
+    }
+
+    /// "Write: fetch; if the page is clean, take the twin; store."
+    fn write(&mut self, card: ProcId, word: u16, value: u32) -> Answer {
+        let (page, offset) = place(word);
+        let count = self.fetch(card, page);
+        let copy = self.page_mut(card, page);
+        if copy.twin.is_none() {
+            copy.twin = Some(copy.words.clone());
+        }
+        copy.words[offset] = value;
+        Answer::accepted(0, count)
+    }
+
+    /// "Acquire: close; the card becomes holder; its clock joins the lock's."
+    fn acquire(&mut self, card: ProcId, lock: LockId) -> Answer {
+        let news = self.locks[&lock].clock.clone();
+        if self.fault == Some(Fault::LearnFirst) {
+            self.processor_mut(card).clock.join(&news);
+        }
+        self.close(card);
+        self.lock_mut(lock).holder = Some(card);
+        self.processor_mut(card).clock.join(&news);
+        Answer::accepted(0, 0)
+    }
+
+    /// "Release: close; holder becomes 0; the lock's clock becomes the
+    /// card's."
+    fn release(&mut self, card: ProcId, lock: LockId) -> Answer {
+        self.close(card);
+        let mut clock = self.processors[&card].clock.clone();
+        if self.fault == Some(Fault::LockOwn) {
+            clock = clock.with_entry_alone(card);
+        }
+        self.lock_mut(lock).holder = None;
+        self.lock_mut(lock).clock = clock;
+        Answer::accepted(0, 0)
+    }
+
+    /// "Arrive: close; the barrier's clock joins the card's; mark the card."
+    fn arrive(&mut self, card: ProcId) -> Answer {
+        self.close(card);
+        self.barrier.clock.join(&self.processors[&card].clock);
+        self.barrier.arrived.insert(card, true);
+        let complete = self.barrier.arrived.values().all(|mark| *mark);
+        let count = if complete { self.complete_round() } else { 0 };
+        Answer::accepted(0, count)
+    }
+
+    /// "When the last card arrives, each card's clock joins the barrier's,
+    /// which returns to zeros, and marks clear."
+    fn complete_round(&mut self) -> u32 {
+        for processor in self.processors.values_mut() {
+            processor.clock.join(&self.barrier.clock);
+        }
+        self.barrier.clock = VectorClock::zeros();
+        for mark in self.barrier.arrived.values_mut() {
+            *mark = false;
+        }
+        if self.barrier.wanted {
+            self.collect()
+        } else {
+            0
+        }
+    }
+
+    /// "If collection is wanted, each card upwards fetches each page upwards;
+    /// then records go, all clocks (of cards, applied, of locks, of
+    /// intervals) become zeros, and the wish clears. The count is the sum of
+    /// these fetches."
+    fn collect(&mut self) -> u32 {
+        let mut count = 0;
+        for card in self.cards() {
+            for page in self.pages() {
+                count += self.fetch(card, page);
+            }
+        }
+        self.records.clear();
+        self.zero_clocks();
+        self.barrier.wanted = false;
+        count
+    }
+
+    fn zero_clocks(&mut self) {
+        for processor in self.processors.values_mut() {
+            processor.clock = VectorClock::zeros();
+            for copy in processor.pages.values_mut() {
+                copy.applied = VectorClock::zeros();
+            }
+        }
+        for lock in self.locks.values_mut() {
+            lock.clock = VectorClock::zeros();
+        }
+        self.intervals.clear();
+    }
+
+    /// "Want collection: set the wish; setting it again changes nothing."
+    fn want_collection(&mut self) -> Answer {
+        self.barrier.wanted = true;
+        Answer::accepted(0, 0)
+    }
+}
+
+// Close, pending and fetch.
+impl Model {
+    /// "for each dirty page, upwards, compare twin and copy; the page becomes
+    /// clean. If any word differs on any page, the card's own entry rises by
+    /// 1, the interval keeps the card's clock, and each page that differs
+    /// gets one record. Otherwise no interval is made."
+    fn close(&mut self, card: ProcId) {
+        let diffs = self.take_diffs(card);
+        if diffs.is_empty() {
+            return;
+        }
+        let clock = &mut self.processor_mut(card).clock;
+        clock.raise(card);
+        let kept = clock.clone();
+        let interval = IntervalId(kept.entry(card));
+        self.intervals.insert((card, interval), kept);
+        for (page, diff) in diffs {
+            self.records.push(Record {
+                card,
+                interval,
+                page,
+                diff,
+            });
+        }
+    }
+
+    /// Makes each page of the card clean; gives the diffs that are not empty.
+    fn take_diffs(&mut self, card: ProcId) -> Vec<(PageId, Diff)> {
+        let mut diffs = Vec::new();
+        for (page, copy) in &mut self.processor_mut(card).pages {
+            if let Some(twin) = copy.twin.take() {
+                diffs.push((*page, Diff::between(&twin, &copy.words)));
+            }
+        }
+        diffs.retain(|(_, diff)| !diff.is_empty());
+        diffs
+    }
+
+    /// "Pending for card p and page g: records of g by another card q, with
+    /// interval above q's entry in the applied clock and not above q's entry
+    /// in p's clock."
+    pub fn pending(&self, card: ProcId, page: PageId) -> Vec<Record> {
+        let known = &self.processors[&card].clock;
+        let applied = &self.page(card, page).applied;
+        let is_pending = |record: &&Record| {
+            let IntervalId(interval) = record.interval;
+            record.page == page
+                && record.card != card
+                && interval > applied.entry(record.card)
+                && interval <= known.entry(record.card)
+        };
+        self.records.iter().filter(is_pending).cloned().collect()
+    }
+
+    /// "the smallest sum of its interval's clock (then smaller card, then
+    /// smaller interval)"
+    fn rank(&self, record: &Record) -> (u32, ProcId, IntervalId) {
+        let clock = self.interval_clock(record.card, record.interval);
+        (clock.sum(), record.card, record.interval)
+    }
+
+    /// "Fetch: the pending record with the smallest sum ... is applied to the
+    /// copy alone, until no record is pending, each once; then the applied
+    /// clock becomes p's clock. The count is the records applied."
+    fn fetch(&mut self, card: ProcId, page: PageId) -> u32 {
+        let mut pending = self.pending(card, page);
+        let count = pending.len() as u32;
+        pending.sort_by_key(|record| self.rank(record));
+        match self.fault {
+            None => self.apply_all(card, page, &pending),
+            Some(fault) => self.apply_faulty(fault, card, page, pending),
+        }
+        let known = self.processors[&card].clock.clone();
+        self.page_mut(card, page).applied = known;
+        count
+    }
+
+    fn apply_all(&mut self, card: ProcId, page: PageId, records: &[Record]) {
+        let copy = self.page_mut(card, page);
+        for record in records {
+            record.diff.apply(&mut copy.words);
+        }
+    }
+}
+
+// The faulty ways to apply, for `model run --fault NAME` alone.
+impl Model {
+    fn apply_faulty(&mut self, fault: Fault, card: ProcId, page: PageId, mut right: Vec<Record>) {
+        match fault {
+            Fault::ByCard => right.sort_by_key(|record| (record.card, record.interval)),
+            Fault::Join => right = Model::joined(&right),
+            Fault::JoinAll => right = self.joined_with_applied(card, &right),
+            Fault::WholePage => return self.copy_whole_page(card, page, &right),
+            Fault::LockOwn | Fault::LearnFirst => {}
+        }
+        self.apply_all(card, page, &right);
+    }
+
+    /// Puts all the changes of a card into the place of its last one. Later
+    /// words go last in the list, so they win.
+    fn joined(right: &[Record]) -> Vec<Record> {
+        let mut joined: Vec<Record> = Vec::new();
+        for record in right {
+            let mut whole = record.clone();
+            if let Some(at) = joined.iter().position(|r| r.card == record.card) {
+                let mut words = joined.remove(at).diff.0;
+                words.append(&mut whole.diff.0);
+                whole.diff = Diff(words);
+            }
+            joined.push(whole);
+        }
+        joined
+    }
+
+    /// As figure 2.16: the writer joins all its changes of the page, also
+    /// those that this card has applied before.
+    fn joined_with_applied(&self, card: ProcId, right: &[Record]) -> Vec<Record> {
+        let known = &self.processors[&card].clock;
+        let is_known = |r: &&Record| r.interval.0 <= known.entry(r.card);
+        let in_play = |r: &&Record| right.iter().any(|x| x.card == r.card && x.page == r.page);
+        let all = self.records.iter().filter(is_known).filter(in_play);
+        let mut all: Vec<Record> = all.cloned().collect();
+        all.sort_by_key(|record| self.rank(record));
+        Model::joined(&all)
+    }
+
+    /// Takes the last writer's whole page.
+    fn copy_whole_page(&mut self, card: ProcId, page: PageId, right: &[Record]) {
+        if let Some(last) = right.last() {
+            let whole = self.page(last.card, page).words.clone();
+            self.page_mut(card, page).words = whole;
+        }
+    }
+}

@@ -1,0 +1,123 @@
+//! `model sweep SEEDS STEPS`: all profiles and many seeds through the model
+//! and the judge, with each state asked whether it is in order.
+
+use crate::fault::FAULTS;
+use crate::files::effect;
+use crate::generate::{generate, PROFILES};
+use crate::in_order::broken_clause;
+use crate::judge::{judge, Verdict};
+use crate::stepfile::{run, run_watched, Line};
+
+/// What the files of one profile came to.
+struct Tally {
+    lines: usize,
+    /// How often each refusal 0 to 16 was printed.
+    refusals: [usize; 17],
+    verdict: Verdict,
+}
+
+pub fn sweep(seeds: u64, steps: usize) -> Result<String, String> {
+    let mut text = head();
+    let mut total = [0; 17];
+    for profile in PROFILES {
+        let tally = sweep_profile(profile, seeds, steps)?;
+        for (sum, n) in total.iter_mut().zip(tally.refusals) {
+            *sum += n;
+        }
+        text.push_str(&row(profile, &tally));
+    }
+    text.push_str(&format!("total by refusal: {}\n", by_refusal(&total)));
+    Ok(text)
+}
+
+fn head() -> String {
+    "profile: lines, accepted reads, reads under the strong half (written before), broken\n"
+        .to_string()
+}
+
+fn row(profile: &str, tally: &Tally) -> String {
+    let v = &tally.verdict;
+    let found = format!(
+        "{profile}: {} lines, {} reads, {} strong ({} written), {} broken",
+        tally.lines,
+        v.reads,
+        v.strong,
+        v.strong_written,
+        v.broken.len()
+    );
+    format!("{found}\n    {}\n", by_refusal(&tally.refusals))
+}
+
+fn by_refusal(counts: &[usize; 17]) -> String {
+    let seen = counts.iter().enumerate().filter(|(_, n)| **n > 0);
+    let words: Vec<String> = seen.map(|(refusal, n)| format!("{refusal}:{n}")).collect();
+    words.join(" ")
+}
+
+fn sweep_profile(profile: &str, seeds: u64, steps: usize) -> Result<Tally, String> {
+    let mut tally = Tally {
+        lines: 0,
+        refusals: [0; 17],
+        verdict: Verdict::default(),
+    };
+    for seed in 0..seeds {
+        let file = generate(profile, seed, steps).ok_or("no such profile")?;
+        let name = |wrong: String| format!("{profile} {seed} {steps}: {wrong}");
+        let lines = run_in_order(&file).map_err(name)?;
+        let verdict = judge(&file, &lines).map_err(name)?;
+        tally.add(&lines, verdict);
+    }
+    Ok(tally)
+}
+
+/// Runs a file; an error if a state on the way is not in order.
+fn run_in_order(file: &[u8]) -> Result<Vec<Line>, String> {
+    let mut wrong = None;
+    let lines = run_watched(file, None, &mut |model, number| {
+        if let (None, Some(clause)) = (&wrong, broken_clause(model)) {
+            wrong = Some(format!("after record {number} not in order: {clause}"));
+        }
+    });
+    match wrong {
+        Some(wrong) => Err(wrong),
+        None => Ok(lines),
+    }
+}
+
+impl Tally {
+    fn add(&mut self, lines: &[Line], verdict: Verdict) {
+        self.lines += lines.len();
+        for line in lines {
+            self.refusals[line.answer.refusal as usize] += 1;
+        }
+        self.verdict.reads += verdict.reads;
+        self.verdict.strong += verdict.strong;
+        self.verdict.strong_written += verdict.strong_written;
+        self.verdict.broken.extend(verdict.broken);
+    }
+}
+
+/// `model sweep-faults SEEDS STEPS`: of the files of each profile, how many
+/// have other lines under a fault, and how many break demand 3.
+pub fn sweep_faults(seeds: u64, steps: usize) -> String {
+    let mut text = format!(
+        "lines differ / demand 3 broken, of {seeds} files\n{:<9}",
+        ""
+    );
+    for (fault, _) in FAULTS {
+        text.push_str(&format!(" {fault:>12}"));
+    }
+    for profile in PROFILES {
+        text.push_str(&format!("\n{profile:<9}"));
+        for (_, fault) in FAULTS {
+            let effects: Vec<_> = (0..seeds)
+                .filter_map(|seed| generate(profile, seed, steps))
+                .map(|file| effect(&file, &run(&file, None), fault))
+                .collect();
+            let differ = effects.iter().filter(|e| **e != ".").count();
+            let broken = effects.iter().filter(|e| **e == "judge").count();
+            text.push_str(&format!(" {:>12}", format!("{differ}/{broken}")));
+        }
+    }
+    text + "\n"
+}
