@@ -1,0 +1,4 @@
+pub mod Marked
+pub mod Counting
+pub mod ByKind
+pub mod Refusing
