@@ -7,7 +7,7 @@ use mathlib.Core.Path.{_≡_, refl, sym, ap, ap₂, _∙_}
 use mathlib.Core.Bool.{Bool, true, false, cond, not, _&&_, _||_, and-eq-true-iff, or-eq-true-iff, false≢true}
 use mathlib.Core.Logic.{Or·inl, Or·inr}
 use mathlib.Core.List.{List, [], _∷_, _++_, map}
-use lib.ListN.{length, getD, take}
+use lib.ListN.{length, getD, take, set}
 use lib.Dec.{eqb}
 use borrow.Author.Tests.{eqb-true, eq-eqb, ne-eqb}
 use Rattle.rules.specs.Tables.{put, cell, putCell, every, any, total}
@@ -51,6 +51,13 @@ module _ {A : Type 0} (d : A) where
   -- a list that has the place keeps its length
   pub length-put-within : (l : List A) (i : ℕ) (v : A) → i < length l → length (put d l i v) ≡ length l
   length-put-within l i v h = omega (arith, length-put l i v)
+
+  -- there it is the library's `set`
+  pub put-within : (l : List A) (i : ℕ) (v : A) → i < length l → put d l i v ≡ set l i v
+  unfolding put
+  put-within [] i v h = absurd (omega arith)
+  put-within (x ∷ l) zero v h = refl
+  put-within (x ∷ l) (suc i) v h = ap (λ (k : List A). x ∷ k) (put-within l i v (omega arith))
 
   -- the first places and the next one
   pub take-put-next : (l : List A) (n : ℕ) (v : A) → n ≤ length l → take (suc n) (put d l n v) ≡ take n l ++ v ∷ []

@@ -1,0 +1,7 @@
+pub mod PageWords
+pub mod SlotBytes
+pub mod PageRecords
+pub mod Recording
+pub mod AllPages
+pub mod Ticks
+pub mod Closing

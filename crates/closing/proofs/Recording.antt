@@ -1,0 +1,103 @@
+-- The records of the pages that changed: one page, then all pages. One law for each way of the code, and `recording-laws`. Assumes nothing.
+use Prim.Native.Nat.{ℕ, _<_}
+use native.Mathlib.Omega.{arith}
+use mathlib.Core.Path.{_≡_, sym, ap, _∙_}
+use mathlib.Core.Bool.{Bool, true, false, not, _&&_}
+use mathlib.Core.List.{List}
+use lib.ListN.{length, getD}
+use lib.Dec.{eqb}
+use borrow.Author.Tests.{eq-eqb, ne-eqb}
+use borrow.Author.Needs.{needs}
+use Rattle.diff.specs.Needed.{PagesWhole}
+use Rattle.rules.specs.Close.{differ, changed}
+use Rattle.rules.specs.State.{mainframe, dirtyAt}
+use Rattle.memory.specs.Areas.{copyRow, twinRow, dirtyPlace, stateIn}
+use Rattle.memory.specs.Layout.{rowOf}
+use Rattle.memory.specs.Needed.{OnPage}
+use Rattle.memory.proofs.PageLaws.{copy-read, twin-read, dirty-read}
+use Rattle.memory.proofs.RowLaws.{length-row}
+use Rattle.closing.specs.Parts.{withRecords, oneMore, pageRecorded, Holds, PageChanged}
+use Rattle.closing.specs.Needed.{Recordable, Appendable, PageThere}
+use Rattle.closing.proofs.PageRecords.{words-row}
+
+-- ---- whether a page changed
+
+module _ (w m : List ℕ) (p g : ℕ) (there : PageThere w m p g) where
+  -- the page has its rows and its mark
+  pub changed-on-page : OnPage p g
+  changed-on-page = record { from = there .from; to = there .to; page = there .page }
+
+  -- the mark lies within the area
+  pub changed-mark : (at : ℕ) → at < 93 → at < length m
+  changed-mark at h = omega (arith, there .marks)
+
+  -- twin and copy are whole pages
+  pub changed-whole : (old new : List ℕ) (twin copy : ℕ) → old ≡ rowOf 32 w twin → new ≡ rowOf 32 w copy → twin < 128 → copy < 128 → PagesWhole old new
+  changed-whole old new twin copy eo en ht hc =
+      record {
+        old-whole = ap length eo ∙ length-row 32 w twin (omega (arith, there .words));
+        new-whole = ap length en ∙ length-row 32 w copy (omega (arith, there .words));
+      }
+
+  changed-reads : (c r : List ℕ) → changed (stateIn mainframe c w r m) p g
+      ≡ (not (eqb (getD m (dirtyPlace mainframe p g) 0) 0) && differ (rowOf 32 w (twinRow mainframe p g)) (rowOf 32 w (copyRow mainframe p g)))
+  unfolding changed dirtyAt stateIn
+  changed-reads c r =
+      rw (
+        dirty-read w m p g (there .from) (there .to) (there .page),
+        twin-read w m p g (there .from) (there .to) (there .page),
+        copy-read w m p g (there .from) (there .to) (there .page),
+      )
+
+  -- a page that is not dirty did not change
+  pub page-is-clean : (at : ℕ) → getD m at 0 ≡ 0 → at ≡ dirtyPlace mainframe p g → PageChanged w m p g false
+  page-is-clean at z e =
+      record { is = λ c r. sym (changed-reads c r ∙ rw (eq-eqb (getD m (dirtyPlace mainframe p g) 0) 0 (ap (λ (k : ℕ). getD m k 0) (sym e) ∙ z))) }
+
+  -- a dirty page changed if it differs from its twin
+  pub page-is-dirty : (b : Bool) (at twin copy : ℕ) (old new : List ℕ) → b ≡ differ old new → old ≡ rowOf 32 w twin → new ≡ rowOf 32 w copy
+      → twin ≡ twinRow mainframe p g → copy ≡ copyRow mainframe p g → (getD m at 0 ≡ 0 → ⊥) → at ≡ dirtyPlace mainframe p g → PageChanged w m p g b
+  page-is-dirty b at twin copy old new d eo en et ec z e =
+      let set-mark : not (eqb (getD m (dirtyPlace mainframe p g) 0) 0) ≡ true =
+      rw (ne-eqb (getD m (dirtyPlace mainframe p g) 0) 0 (λ k. z (ap (λ (j : ℕ). getD m j 0) e ∙ k))) in
+      record { is = λ c r. sym (changed-reads c r ∙ rw (set-mark, ← et, ← ec, ← eo, ← en, ← d)) }
+
+-- ---- the record of one page
+
+module _ (c w r m : List ℕ) (p g : ℕ) (ready : Recordable c w r m p g) where
+  -- the page is there
+  pub record-there : PageThere w m p g
+  record-there = record { words = ready .lent .words; marks = ready .lent .marks; from = ready .from; to = ready .to; page = ready .page }
+
+  module _ (b : Bool) (said : PageChanged w m p g b) where
+    -- a page that changed can be appended
+    pub append-ready : b ≡ true → Appendable c w r m p g
+    append-ready e =
+        record {
+          lent = ready .lent;
+          from = ready .from;
+          to = ready .to;
+          page = ready .page;
+          own-fits = ready .own-fits;
+          room = ready .room (sym (said .is c r) ∙ e);
+        }
+
+    -- a page that changed is recorded by one record more
+    pub page-recorded : (r′ m′ : List ℕ) → b ≡ true → Holds c w r′ m′ (oneMore (stateIn mainframe c w r m) p g) → Holds c w r′ m′ (pageRecorded (stateIn mainframe c w r m) p g)
+    unfolding oneMore pageRecorded
+    page-recorded r′ m′ e h = record { lent = h .lent; is = h .is ∙ rw (← said .is c r, e) }
+
+    -- a page that did not change is recorded by none
+    pub page-left : b ≡ false → Holds c w r m (pageRecorded (stateIn mainframe c w r m) p g)
+    unfolding pageRecorded withRecords
+    page-left e = record { lent = ready .lent; is = rw (← said .is c r, e) }
+
+-- the answer where it changed
+pub says-changed : (w m : List ℕ) (p g : ℕ) (b : Bool) → PageChanged w m p g b → b ≡ true → PageChanged w m p g true
+says-changed w m p g b said e = record { is = λ c r. sym e ∙ said .is c r }
+
+-- the answer where it did not
+pub says-kept : (w m : List ℕ) (p g : ℕ) (b : Bool) → PageChanged w m p g b → b ≡ false → PageChanged w m p g false
+says-kept w m p g b said e = record { is = λ c r. sym e ∙ said .is c r }
+
+pub ruleset page-record-laws = (words-row, changed-on-page, changed-mark, changed-whole, page-is-clean, page-is-dirty, record-there, append-ready, page-recorded, page-left, says-changed, says-kept, needs)

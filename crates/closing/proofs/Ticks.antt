@@ -1,0 +1,126 @@
+-- The clock of an interval that ends: the own entry rises and the interval's row keeps the clock. One law for each way of the code, and
+-- `tick-laws`. Assumes nothing.
+use Prim.Native.Nat.{ℕ, zero, suc, _+_, _-_, _*_, _≤_, _<_}
+use native.Mathlib.Omega.{arith}
+use mathlib.Core.Path.{_≡_, refl, sym, ap, _∙_}
+use mathlib.Core.List.{List, []}
+use lib.ListN.{length, getD, set}
+use lib.Seq.{sets, length-sets}
+use mir.Syntax.{w8}
+use mir.Val.{Fits}
+use borrow.Author.Needs.{needs}
+use Rattle.clock.specs.Clocks.{entryOf}
+use Rattle.rules.specs.Close.{raised, ticked}
+use Rattle.rules.specs.State.{mainframe, Processor, Interval, Clocks, withClock, clock, own}
+use Rattle.rules.proofs.Facts.{Within}
+use Rattle.rules.proofs.Tables.{length-put-within, put-within}
+use Rattle.memory.specs.Areas.{intervalRow, clockRow, clocksIn, stateIn}
+use Rattle.memory.specs.Layout.{rowOf}
+use Rattle.memory.specs.Needed.{RowThere, MadeInterval, ClocksOf}
+use Rattle.memory.proofs.ClockLaws.{clock-read, clock-written}
+use Rattle.memory.proofs.RowLaws.{length-row}
+use Rattle.closing.specs.Parts.{withClocks, OwnEntry, Ticked}
+use Rattle.closing.specs.Needed.{Raisable, Tickable}
+use Rattle.closing.proofs.PageRecords.{processor-within}
+
+-- ---- a clock with one entry higher
+
+module _ (v : List ℕ) (p : ℕ) (ready : Raisable v p) where
+  -- the entry has its place
+  pub raise-place : p - 1 < 8
+  raise-place = omega (arith, ready .from, ready .to)
+
+  -- the entry, one higher, fits its byte
+  pub raise-fits : Fits w8 (getD v (p - 1) 0 + 1)
+  raise-fits = go p (ready .from) (ready .left)
+    where
+      go : (p : ℕ) → 1 ≤ p → entryOf v p < 63 → Fits w8 (getD v (p - 1) 0 + 1)
+      go zero h k = absurd (omega arith)
+      go (suc q) h k = let e : suc q - 1 ≡ q = omega arith in rw e (unfold entryOf in omega (arith, k))
+
+  -- the entry stored anew is the clock raised
+  pub raise-done : length v ≡ 8 → set v (p - 1) (getD v (p - 1) 0 + 1) ≡ raised v p
+  raise-done long = go p (ready .from) (ready .to)
+    where
+      go : (p : ℕ) → 1 ≤ p → p ≤ 8 → set v (p - 1) (getD v (p - 1) 0 + 1) ≡ raised v p
+      go zero h k = absurd (omega arith)
+      go (suc q) h k = let e : suc q - 1 ≡ q = omega arith in rw e (unfold raised in sym (put-within 0 v q (getD v q 0 + 1) (omega arith)))
+
+length-raised : (v : List ℕ) (p : ℕ) → p ≤ length v → length (raised v p) ≡ length v
+unfolding raised
+length-raised v zero h = refl
+length-raised v (suc q) h = length-put-within 0 v q (getD v q 0 + 1) h
+
+-- ---- the clock of the processor and of its interval
+
+module _ (c : List ℕ) (p : ℕ) (ready : Tickable c p) where
+  -- the processor has a clock
+  pub tick-clocks : ClocksOf c p
+  tick-clocks = record { clocks = ready .clocks; from = ready .from; to = ready .to }
+
+  -- it has a row
+  pub tick-row : RowThere 8 c p
+  tick-row = record { within = omega (arith, ready .clocks, ready .to) }
+
+  -- so has the interval, also after the first store
+  pub tick-kept-row : (c₁ v : List ℕ) (row : ℕ) → c₁ ≡ sets c (8 * p) v → row < 593 → RowThere 8 c₁ row
+  tick-kept-row c₁ v row e h = record { within = omega (arith, ap length e ∙ length-sets c (8 * p) v, ready .clocks) }
+
+  -- both stores keep the length
+  pub tick-same-length : (c₁ c₂ v u : List ℕ) (row : ℕ) → c₂ ≡ sets c₁ (8 * row) u → c₁ ≡ sets c (8 * p) v → length c₂ ≡ length c
+  tick-same-length c₁ c₂ v u row f e = ap length f ∙ length-sets c₁ (8 * row) u ∙ ap length e ∙ length-sets c (8 * p) v
+
+  row-long : length (rowOf 8 c p) ≡ 8
+  row-long = length-row 8 c p (omega (arith, ready .clocks, ready .to))
+
+  raised-long : length (raised (rowOf 8 c p) p) ≡ 8
+  raised-long = length-raised (rowOf 8 c p) p (omega (arith, row-long, ready .to)) ∙ row-long
+
+  clock-is : (w r m : List ℕ) → clock (stateIn mainframe c w r m) p ≡ rowOf 8 c p
+  unfolding clock stateIn clockRow
+  clock-is w r m = clock-read c (Processor p) (processor-within p (ready .from) (ready .to))
+
+  -- its own entry can rise
+  pub tick-raisable : (v : List ℕ) → v ≡ rowOf 8 c p → Raisable v p
+  tick-raisable v e =
+      let is : entryOf v p ≡ own (stateIn mainframe c [] [] []) p = unfold own in ap (λ (l : List ℕ). entryOf l p) (e ∙ sym (clock-is [] [] [])) in
+      record { from = ready .from; to = ready .to; left = omega (arith, is, ready .left [] [] []) }
+
+  module _ (e : ℕ) (entry : OwnEntry c p e) where
+    -- the next interval is there
+    pub tick-interval : (x : ℕ) → x ≡ e → MadeInterval p (x + 1)
+    tick-interval x k = record { from = ready .from; to = ready .to; first = omega arith; last = omega (arith, entry .is [] [] [], ready .left [] [] []) }
+
+    interval-within : Within mainframe (Interval p (e + 1))
+    unfolding Within mainframe
+    interval-within = let i = tick-interval e refl in (i .from, i .to, i .first, i .last)
+
+    clocks-after : clocksIn mainframe (sets (sets c (8 * p) (raised (rowOf 8 c p) p)) (8 * intervalRow mainframe p (e + 1)) (raised (rowOf 8 c p) p))
+        ≡ withClock (withClock (clocksIn mainframe c) (Processor p) (raised (rowOf 8 c p) p)) (Interval p (e + 1)) (raised (rowOf 8 c p) p)
+    unfolding clockRow
+    clocks-after =
+        clock-written (sets c (8 * p) (raised (rowOf 8 c p) p)) (raised (rowOf 8 c p) p) (Interval p (e + 1)) (length-sets c (8 * p) (raised (rowOf 8 c p) p) ∙ ready .clocks) interval-within raised-long
+        ∙ ap (λ (k : Clocks). withClock k (Interval p (e + 1)) (raised (rowOf 8 c p) p))
+        (clock-written c (raised (rowOf 8 c p) p) (Processor p) (ready .clocks) (processor-within p (ready .from) (ready .to)) raised-long)
+
+    rule-is : (w r m : List ℕ)
+        → withClock (withClock (clocksIn mainframe c) (Processor p) (raised (rowOf 8 c p) p)) (Interval p (e + 1)) (raised (rowOf 8 c p) p)
+        ≡ ticked (stateIn mainframe c w r m) p
+    unfolding ticked stateIn
+    rule-is w r m =
+        let v : rowOf 8 c p ≡ clock (stateIn mainframe c w r m) p = sym (clock-is w r m) in
+        λ i. withClock (withClock (clocksIn mainframe c) (Processor p) (raised (v i) p)) (Interval p (entry .is w r m i + 1)) (raised (v i) p)
+
+    -- both clocks stored anew are the clocks of the rule
+    pub tick-done : (c₁ c₂ v u : List ℕ) (x row : ℕ) → c₂ ≡ sets c₁ (8 * row) u → c₁ ≡ sets c (8 * p) u → u ≡ raised v p → v ≡ rowOf 8 c p
+        → row ≡ intervalRow mainframe p (x + 1) → x ≡ e → Ticked c c₂ p
+    unfolding stateIn withClocks
+    tick-done c₁ c₂ v u x row second first up is at k =
+        let done : clocksIn mainframe c₂ ≡ withClock (withClock (clocksIn mainframe c) (Processor p) (raised (rowOf 8 c p) p)) (Interval p (e + 1)) (raised (rowOf 8 c p) p) =
+        ap (λ (l : List ℕ). clocksIn mainframe l) (second ∙ rw (first, up, is, at, k)) ∙ clocks-after in
+        record {
+          is = λ w r m. ap (λ (q : Clocks). withClocks (stateIn mainframe c w r m) q) (done ∙ rule-is w r m);
+          as-long = tick-same-length c₁ c₂ u u row second first;
+        }
+
+pub ruleset tick-laws = (raise-place, raise-fits, raise-done, tick-clocks, tick-row, tick-kept-row, tick-same-length, tick-raisable, tick-interval, tick-done, needs)

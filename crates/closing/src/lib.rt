@@ -1,0 +1,225 @@
+// Closing an interval: what its processor changed becomes records, its clock ticks, its pages become clean.
+// The contracts say so of the state that the lent areas hold, in the words of the rules (specs/Close.antt of the crate rules).
+ghost use mathlib.Core.Path.{_≡_};
+ghost use Prim.Native.Nat.{_*_, _<_};
+ghost use lib.ListN.{length, replicate};
+ghost use lib.Seq.{sets};
+ghost use Rattle.diff.specs.Format.{written};
+ghost use Rattle.diff.specs.Needed.{PagesWhole};
+ghost use Rattle.rules.specs.State.{mainframe, slotBytes};
+ghost use Rattle.rules.specs.Close.{differ, raised, closed};
+ghost use Rattle.memory.specs.Layout.{rowOf};
+ghost use Rattle.memory.specs.Areas.{dirtyPlace, stateIn};
+ghost use Rattle.memory.specs.Needed.{RowThere, ClocksOf};
+ghost use Rattle.closing.specs.Parts.{recordOf, pageRecord, oneMore, pageRecorded, allRecorded, Holds, OwnEntry, PageChanged, AnyChanged, Ticked};
+ghost use Rattle.closing.specs.Needed.{Closable, Recordable, Appendable, PageThere, SlotThere, RecordFits, SlotFits, DiffFits, Raisable, Tickable, MarksOf};
+use clock::Clock;
+use diff::Written;
+use memory::clear;
+use memory::clock_at;
+use memory::copy_row;
+use memory::dirty_place;
+use memory::interval_row;
+use memory::put_clock;
+use memory::twin_row;
+
+// Closes the interval of a processor: for each page that changed one record, if there is one the clock of the interval, and clean pages.
+pub fn close(p: usize, clocks: &mut [u8], words: &[u32], records: &mut [u8], marks: &mut [u8])
+    requires { ⌜ Closable (now clocks) (now words) (now records) (now marks) p ⌝ }
+    ensures { λ _. ⌜ Holds (now (clocks .exit)) (now (words .entry)) (now (records .exit)) (now (marks .exit)) (closed (stateIn mainframe (now (clocks .entry)) (now (words .entry)) (now (records .entry)) (now (marks .entry))) p) ⌝ }
+{
+    let any = record_pages(p, clocks, words, records, marks);
+    clean_pages(p, marks);
+    if any {
+        tick(p, clocks);
+    }
+}
+
+// The records of all pages that changed, upwards, and whether any did.
+fn record_pages(
+    p: usize,
+    clocks: &[u8],
+    words: &[u32],
+    records: &mut [u8],
+    marks: &mut [u8],
+) -> bool
+    requires { ⌜ Closable (now clocks) (now words) (now records) (now marks) p ⌝ }
+    ensures { λ r. ⌜ AnyChanged (stateIn mainframe (now (clocks .entry)) (now (words .entry)) (now (records .entry)) (now (marks .entry))) p r ⌝ }
+    ensures { λ r. ⌜ Holds (now (clocks .entry)) (now (words .entry)) (now (records .exit)) (now (marks .exit)) (allRecorded (stateIn mainframe (now (clocks .entry)) (now (words .entry)) (now (records .entry)) (now (marks .entry))) p) ⌝ }
+{
+    let n = wide(marks[1]);
+    let mut any = false;
+    let mut g: usize = 0;
+    while g < n {
+        if record_page(p, g, clocks, words, records, marks) {
+            any = true;
+            g = g + 1;
+        } else {
+            g = g + 1;
+        }
+    }
+    any
+}
+
+// The record of a page, if the page changed, and whether it did.
+fn record_page(
+    p: usize,
+    g: usize,
+    clocks: &[u8],
+    words: &[u32],
+    records: &mut [u8],
+    marks: &mut [u8],
+) -> bool
+    requires { ⌜ Recordable (now clocks) (now words) (now records) (now marks) p g ⌝ }
+    ensures { λ r. ⌜ PageChanged (now (words .entry)) (now (marks .entry)) p g r ⌝ }
+    ensures { λ r. ⌜ Holds (now (clocks .entry)) (now (words .entry)) (now (records .exit)) (now (marks .exit)) (pageRecorded (stateIn mainframe (now (clocks .entry)) (now (words .entry)) (now (records .entry)) (now (marks .entry))) p g) ⌝ }
+{
+    if page_changed(p, g, words, marks) {
+        append(p, g, clocks, words, records, marks);
+        return true;
+    }
+    false
+}
+
+// Whether a page of a processor is dirty and differs from its twin.
+fn page_changed(p: usize, g: usize, words: &[u32], marks: &[u8]) -> bool
+    requires { ⌜ PageThere (now words) (now marks) p g ⌝ }
+    ensures { λ r. ⌜ PageChanged (now (words .entry)) (now (marks .entry)) p g r ⌝ }
+{
+    let at = dirty_place(p, g);
+    if marks[at] == 0 {
+        return false;
+    }
+    let old = page(words, twin_row(p, g));
+    let new = page(words, copy_row(p, g));
+    differs(old, new)
+}
+
+// Whether any word differs.
+fn differs(old: &[u32], new: &[u32]) -> bool
+    requires { ⌜ PagesWhole (now old) (now new) ⌝ }
+    ensures { λ r. ⌜ r ≡ differ (now (old .entry)) (now (new .entry)) ⌝ }
+{
+    let mut i: usize = 0;
+    while i < 32 {
+        if old[i] == new[i] {
+            i = i + 1;
+        } else {
+            return true;
+        }
+    }
+    false
+}
+
+// One record more: that of a page that changed, in the first slot that is free.
+fn append(p: usize, g: usize, clocks: &[u8], words: &[u32], records: &mut [u8], marks: &mut [u8])
+    requires { ⌜ Appendable (now clocks) (now words) (now records) (now marks) p g ⌝ }
+    ensures { λ _. ⌜ Holds (now (clocks .entry)) (now (words .entry)) (now (records .exit)) (now (marks .exit)) (oneMore (stateIn mainframe (now (clocks .entry)) (now (words .entry)) (now (records .entry)) (now (marks .entry))) p g) ⌝ }
+{
+    let interval = own_entry(clocks, p) + 1;
+    let count = marks[3];
+    lay_record(p, interval, g, words, records, wide(count));
+    marks[3] = count + 1;
+}
+
+// The record of a page in a slot: what the processor's copy differs in from its twin.
+fn lay_record(p: usize, interval: u8, g: usize, words: &[u32], records: &mut [u8], slot: usize)
+    requires { ⌜ SlotThere (now words) (now records) p g slot ⌝ }
+    ensures { λ _. ⌜ now (records .exit) ≡ sets (now (records .entry)) (135 * slot) (slotBytes (pageRecord p interval g (now (words .entry)))) ⌝ }
+{
+    let old = page(words, twin_row(p, g));
+    let new = page(words, copy_row(p, g));
+    let from = 135 * slot;
+    let to = from + 135;
+    fill_slot(p, interval, g, old, new, &mut records[from..to]);
+}
+
+// The bytes of a record in its slot; those behind it keep what they hold.
+fn fill_slot(p: usize, interval: u8, g: usize, old: &[u32], new: &[u32], slot: &mut [u8])
+    requires { ⌜ RecordFits p g (now old) (now new) (now slot) ⌝ }
+    ensures { λ _. ⌜ now (slot .exit) ≡ sets (now (slot .entry)) 0 (slotBytes (recordOf p interval g (now (old .entry)) (now (new .entry)))) ⌝ }
+{
+    let n = lay_diff_behind(old, new, slot);
+    slot[0] = (p % 256) as u8;
+    slot[1] = interval;
+    slot[2] = (g % 256) as u8;
+    slot[3] = n;
+}
+
+// The diff of two pages behind the four numbers of a slot, and its length.
+fn lay_diff_behind(old: &[u32], new: &[u32], slot: &mut [u8]) -> u8
+    requires { ⌜ SlotFits (now old) (now new) (now slot) ⌝ }
+    ensures { λ r. ⌜ r ≡ length (written (now (old .entry)) (now (new .entry))) ⌝ }
+    ensures { λ r. ⌜ now (slot .exit) ≡ sets (now (slot .entry)) 4 (written (now (old .entry)) (now (new .entry))) ⌝ }
+{
+    lay_diff(old, new, &mut slot[4..135])
+}
+
+// The diff of two pages at the start of `out`, and its length. It is never refused: 131 bytes suffice for every diff.
+fn lay_diff(old: &[u32], new: &[u32], out: &mut [u8]) -> u8
+    requires { ⌜ DiffFits (now old) (now new) (now out) ⌝ }
+    ensures { λ r. ⌜ r ≡ length (written (now (old .entry)) (now (new .entry))) ⌝ }
+    ensures { λ r. ⌜ now (out .exit) ≡ sets (now (out .entry)) 0 (written (now (old .entry)) (now (new .entry))) ⌝ }
+{
+    let Written::Length(n) = diff::write(old, new, out) else {
+        return 0;
+    };
+    (n % 256) as u8
+}
+
+// The 32 words in a row.
+fn page(words: &[u32], row: usize) -> &[u32]
+    requires { ⌜ RowThere 32 (now words) row ⌝ }
+    ensures { λ r. ⌜ now r ≡ rowOf 32 (now (words .entry)) row ⌝ }
+{
+    let from = 32 * row;
+    let to = from + 32;
+    &words[from..to]
+}
+
+// How many intervals of its own a processor has made.
+fn own_entry(clocks: &[u8], p: usize) -> u8
+    requires { ⌜ ClocksOf (now clocks) p ⌝ }
+    ensures { λ r. ⌜ OwnEntry (now (clocks .entry)) p r ⌝ }
+{
+    clocks[9 * p - 1]
+}
+
+// Every page of a processor becomes clean.
+fn clean_pages(p: usize, marks: &mut [u8])
+    requires { ⌜ MarksOf (now marks) p ⌝ }
+    ensures { λ _. ⌜ now (marks .exit) ≡ sets (now (marks .entry)) (dirtyPlace mainframe p 0) (replicate 8 0) ⌝ }
+{
+    let from = dirty_place(p, 0);
+    let to = from + 8;
+    clear(&mut marks[from..to]);
+}
+
+// The own entry of a processor rises by 1, and the interval keeps the processor's clock.
+fn tick(p: usize, clocks: &mut [u8])
+    requires { ⌜ Tickable (now clocks) p ⌝ }
+    ensures { λ _. ⌜ Ticked (now (clocks .entry)) (now (clocks .exit)) p ⌝ }
+{
+    let interval = wide(own_entry(clocks, p)) + 1;
+    let row = interval_row(p, interval);
+    let before = clock_at(clocks, p);
+    let after = raise(before, p);
+    put_clock(clocks, p, after);
+    put_clock(clocks, row, after);
+}
+
+// A clock with the entry of a processor one higher.
+fn raise(clock: Clock, p: usize) -> Clock
+    requires { ⌜ Raisable (clock .entries) p ⌝ }
+    ensures { λ r. ⌜ r .entries ≡ raised (clock .entries) p ⌝ }
+{
+    let mut entries = clock.entries;
+    entries[p - 1] = entries[p - 1] + 1;
+    Clock { entries }
+}
+
+fn wide(x: u8) -> usize
+    ensures { λ r. ⌜ (r ≡ x) × (r < 256) ⌝ }
+{
+    x as usize
+}

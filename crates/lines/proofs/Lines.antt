@@ -1,0 +1,60 @@
+-- How long a line is, its bytes as two halves, and bytes stored part by part. Assumes nothing.
+use Prim.Native.Nat.{ℕ, suc, _+_, _^_, _≤_, _<_}
+use native.Mathlib.Omega.{arith}
+use native.Mathlib.Nat.{add-zero}
+use mathlib.Core.Path.{_≡_, refl, sym, ap, _∙_}
+use mathlib.Core.List.{List, [], _∷_, _++_, append-assoc}
+use lib.ListN.{length, set, length-append}
+use lib.Seq.{set-comm, sets}
+use Rattle.lines.specs.Decimal.{digitsWithin, digits}
+use Rattle.lines.specs.Lines.{lineBytes}
+use Rattle.lines.specs.Needed.{fieldBytes, halfBytes}
+use Rattle.lines.proofs.Digits.{at-most-ten-digits}
+
+-- a line is its two halves, one behind the other
+pub line-is-halves : (number refusal value count : ℕ) → lineBytes number refusal value count ≡ halfBytes number refusal 32 ++ halfBytes value count 10
+unfolding lineBytes halfBytes fieldBytes
+line-is-halves number refusal value count = simp append-assoc
+
+-- a line has the bytes of its numbers and four more
+pub length-line : (number refusal value count : ℕ)
+    → length (lineBytes number refusal value count) ≡ length (digits number) + length (digits refusal) + length (digits value) + length (digits count) + 4
+unfolding lineBytes
+length-line number refusal value count = simp length-append (omega arith)
+
+-- a line of numbers of 32 bits has at most 44 bytes
+pub at-most-44-bytes : (number refusal value count : ℕ) → number < 2 ^ 32 → refusal < 2 ^ 32 → value < 2 ^ 32 → count < 2 ^ 32
+    → length (lineBytes number refusal value count) ≤ 44
+at-most-44-bytes number refusal value count a b c d =
+    omega (arith, length-line number refusal value count, at-most-ten-digits number a, at-most-ten-digits refusal b, at-most-ten-digits value c, at-most-ten-digits count d)
+
+-- ---- stores, one part after the other
+
+-- two lists in a row are stored one behind the other
+pub sets-append : (l : List ℕ) (i : ℕ) (vs ws : List ℕ) → sets l i (vs ++ ws) ≡ sets (sets l i vs) (i + length vs) ws
+sets-append l i [] ws = ap (λ (n : ℕ). sets l n ws) (sym (add-zero i))
+sets-append l i (v ∷ vs) ws =
+    sets-append (set l i v) (suc i) vs ws ∙ ap (λ (n : ℕ). sets (sets (set l i v) (suc i) vs) n ws) (omega arith)
+
+-- the last byte of a list may be stored first
+pub sets-last-first : (l : List ℕ) (i : ℕ) (vs : List ℕ) (v : ℕ) → sets l i (vs ++ v ∷ []) ≡ sets (set l (i + length vs) v) i vs
+sets-last-first l i [] v = ap (λ (n : ℕ). set l n v) (sym (add-zero i))
+sets-last-first l i (x ∷ vs) v =
+    let place : suc i + length vs ≡ i + length (x ∷ vs) = omega arith in
+    sets-last-first (set l i x) (suc i) vs v
+    ∙ ap (λ (n : ℕ). sets (set (set l i x) n v) (suc i) vs) place
+    ∙ ap (λ (m : List ℕ). sets m (suc i) vs) (set-comm l i (i + length (x ∷ vs)) x v (λ e. omega arith))
+
+-- ---- lines of Listing A, and the largest number
+
+pub line-7-of-listing-A : lineBytes 7 0 700 1 ≡ 55 ∷ 32 ∷ 48 ∷ 32 ∷ 55 ∷ 48 ∷ 48 ∷ 32 ∷ 49 ∷ 10 ∷ []
+unfolding lineBytes digits digitsWithin
+line-7-of-listing-A = refl
+
+pub line-10-of-listing-A : lineBytes 10 6 0 0 ≡ 49 ∷ 48 ∷ 32 ∷ 54 ∷ 32 ∷ 48 ∷ 32 ∷ 48 ∷ 10 ∷ []
+unfolding lineBytes digits digitsWithin
+line-10-of-listing-A = refl
+
+pub largest-number : digits 4294967295 ≡ 52 ∷ 50 ∷ 57 ∷ 52 ∷ 57 ∷ 54 ∷ 55 ∷ 50 ∷ 57 ∷ 53 ∷ []
+unfolding digits digitsWithin
+largest-number = refl

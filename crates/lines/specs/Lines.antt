@@ -1,0 +1,27 @@
+-- Document 01, "The step file and run program": the line of a record, and what writing one into lent memory answers and leaves. Assumes nothing.
+use Prim.Native.Nat.{ℕ, _+_}
+use mathlib.Core.Bool.{Bool, cond}
+use mathlib.Core.List.{List, [], _∷_, _++_}
+use lib.ListN.{length}
+use lib.Seq.{sets}
+use lib.Dec.{leb}
+use Rattle.lines.specs.Decimal.{digits}
+use Rattle.lines.specs.declared.Placed.{Placed}
+use Rattle.lines.specs.declared.Placed.the-variants.{End, NoRoom}
+
+-- "record number (opening 0), refusal or 0, value, count", with a space (32) between two and a line end (10) behind the last
+unfoldable pub lineBytes : ℕ → ℕ → ℕ → ℕ → List ℕ
+lineBytes number refusal value count = digits number ++ 32 ∷ digits refusal ++ 32 ∷ digits value ++ 32 ∷ digits count ++ 10 ∷ []
+
+-- whether the longest line, of 44 bytes, fits from a place on into memory of so many bytes
+unfoldable pub lineFits : ℕ → ℕ → Bool
+lineFits bytes at = leb (at + 44) bytes
+
+-- what `line_into` answers: the place behind the line, or that there is no room
+unfoldable pub lineAnswer : List ℕ → ℕ → ℕ → ℕ → ℕ → ℕ → Placed
+lineAnswer out at number refusal value count =
+    cond (lineFits (length out) at) (End (at + length (lineBytes number refusal value count))) NoRoom
+
+-- what `line_into` leaves: the line from a place on, or all as it was
+unfoldable pub lineLeft : List ℕ → ℕ → ℕ → ℕ → ℕ → ℕ → List ℕ
+lineLeft out at number refusal value count = cond (lineFits (length out) at) (sets out at (lineBytes number refusal value count)) out

@@ -1,0 +1,30 @@
+-- What the functions of this crate ask, room in lent memory, and what those that write a part of a line tell. Assumes nothing.
+use Prim.Native.Nat.{ℕ, _+_, _≤_}
+use mathlib.Core.Path.{_≡_}
+use mathlib.Core.List.{List, [], _∷_, _++_}
+use lib.ListN.{length}
+use lib.Seq.{sets}
+use Rattle.lines.specs.Decimal.{digits}
+
+-- `most` bytes have room from a place on
+pub record Room (out : List ℕ) (at most : ℕ) : Type 0 where
+  pub room : at + most ≤ length out
+
+-- the digits of n, which are len, have room from a place on
+pub record DigitsFit (out : List ℕ) (at len n : ℕ) : Type 0 where
+  pub counted : len ≡ length (digits n)
+  pub room : at + len ≤ length out
+
+-- a number with a byte behind
+unfoldable pub fieldBytes : ℕ → ℕ → List ℕ
+fieldBytes n behind = digits n ++ behind ∷ []
+
+-- two numbers with a space between and a byte behind
+unfoldable pub halfBytes : ℕ → ℕ → ℕ → List ℕ
+halfBytes first second behind = fieldBytes first 32 ++ fieldBytes second behind
+
+-- the bytes vs, at most `most`, are stored in out from a place on, which leaves out′; the place behind them is end
+pub record Put (out : List ℕ) (at : ℕ) (vs : List ℕ) (most : ℕ) (out′ : List ℕ) (end : ℕ) : Type 0 where
+  pub stored : out′ ≡ sets out at vs
+  pub place : end ≡ at + length vs
+  pub near : end ≤ at + most

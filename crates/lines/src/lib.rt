@@ -1,0 +1,123 @@
+// The lines of the run program: four numbers in base ten, each with a space or the line end behind it.
+ghost use mathlib.Core.Path.{_≡_};
+ghost use Prim.Native.Nat.{_+_, _≤_};
+ghost use lib.ListN.{length};
+ghost use lib.Seq.{sets};
+ghost use Rattle.lines.specs.Decimal.{digits};
+ghost use Rattle.lines.specs.Lines.{lineBytes, lineFits, lineAnswer, lineLeft};
+ghost use Rattle.lines.specs.Needed.{Room, DigitsFit, Put, fieldBytes, halfBytes};
+
+// What writing a line answers: the place behind it, or that the longest line would not fit.
+pub enum Placed {
+    End(usize),
+    NoRoom,
+}
+
+// Writes the line of a record from a place on, unless fewer than 44 bytes are left there.
+pub fn line_into(
+    out: &mut [u8],
+    at: usize,
+    number: u32,
+    refusal: u32,
+    value: u32,
+    count: u32,
+) -> Placed
+    ensures answer { λ r. ⌜ r ≡ lineAnswer (now (out .entry)) at number refusal value count ⌝ }
+    ensures memory { λ r. ⌜ now (out .exit) ≡ lineLeft (now (out .entry)) at number refusal value count ⌝ }
+{
+    if !line_fits(out.len(), at) {
+        return Placed::NoRoom;
+    }
+    Placed::End(put_line(out, at, number, refusal, value, count))
+}
+
+// Whether the longest line, of 44 bytes, fits from a place on into memory of so many bytes.
+pub fn line_fits(bytes: usize, at: usize) -> bool
+    ensures { λ r. ⌜ r ≡ lineFits bytes at ⌝ }
+{
+    if bytes < at {
+        return false;
+    }
+    44 <= bytes - at
+}
+
+// Writes the line of a record from a place on, and says the place behind it.
+pub fn put_line(
+    out: &mut [u8],
+    at: usize,
+    number: u32,
+    refusal: u32,
+    value: u32,
+    count: u32,
+) -> usize
+    requires { ⌜ Room (now out) at 44 ⌝ }
+    ensures { λ r. ⌜ r ≡ at + length (lineBytes number refusal value count) ⌝ }
+    ensures { λ r. ⌜ now (out .exit) ≡ sets (now (out .entry)) at (lineBytes number refusal value count) ⌝ }
+{
+    let half = put_half(out, at, number, refusal, 32);
+    put_half(out, half, value, count, 10)
+}
+
+// Writes two numbers with a space between and a byte behind, and says the place behind them.
+fn put_half(out: &mut [u8], at: usize, first: u32, second: u32, behind: u8) -> usize
+    requires { ⌜ Room (now out) at 22 ⌝ }
+    ensures { λ r. ⌜ Put (now (out .entry)) at (halfBytes first second behind) 22 (now (out .exit)) r ⌝ }
+{
+    let middle = put_field(out, at, first, 32);
+    put_field(out, middle, second, behind)
+}
+
+// Writes a number with a byte behind, and says the place behind both.
+fn put_field(out: &mut [u8], at: usize, n: u32, behind: u8) -> usize
+    requires { ⌜ Room (now out) at 11 ⌝ }
+    ensures { λ r. ⌜ Put (now (out .entry)) at (fieldBytes n behind) 11 (now (out .exit)) r ⌝ }
+{
+    let end = put_number(out, at, n);
+    out[end] = behind;
+    end + 1
+}
+
+// Writes a number in base ten from a place on, and says the place behind it.
+pub fn put_number(out: &mut [u8], at: usize, n: u32) -> usize
+    requires { ⌜ Room (now out) at 10 ⌝ }
+    ensures { λ r. ⌜ r ≡ at + length (digits n) ⌝ }
+    ensures { λ r. ⌜ now (out .exit) ≡ sets (now (out .entry)) at (digits n) ⌝ }
+    ensures { λ r. ⌜ r ≤ at + 10 ⌝ }
+{
+    if n < 10 {
+        out[at] = (48 + n) as u8;
+        return at + 1;
+    }
+    let len = width(n);
+    put_digits(out, at, len, n);
+    at + len
+}
+
+// How many digits a number has.
+fn width(n: u32) -> usize
+    ensures { λ r. ⌜ r ≡ length (digits n) ⌝ }
+    ensures { λ r. ⌜ r ≤ 10 ⌝ }
+{
+    let mut len: usize = 1;
+    let mut rest = n;
+    while 10 <= rest {
+        rest = rest / 10;
+        len = len + 1;
+    }
+    len
+}
+
+// Writes the digits of a number, of which there are len, from the last to the first.
+fn put_digits(out: &mut [u8], at: usize, len: usize, n: u32)
+    requires { ⌜ DigitsFit (now out) at len n ⌝ }
+    ensures { λ _. ⌜ now (out .exit) ≡ sets (now (out .entry)) at (digits n) ⌝ }
+{
+    let mut i = at + len - 1;
+    let mut rest = n;
+    while 10 <= rest {
+        out[i] = (48 + rest % 10) as u8;
+        i = i - 1;
+        rest = rest / 10;
+    }
+    out[i] = (48 + rest) as u8;
+}
