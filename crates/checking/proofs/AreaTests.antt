@@ -1,0 +1,108 @@
+-- What the functions on all four areas leave to show, one law for each way of the code. Assumes nothing.
+use Prim.Native.Nat.{ℕ, _+_, _≤_, _<_}
+use mathlib.Core.Path.{_≡_, sym, _∙_}
+use mathlib.Core.Bool.{Bool, true, false, not, _&&_}
+use mathlib.Core.List.{List}
+use lib.ListN.{getD}
+use lib.Dec.{leb}
+use borrow.Author.Tests.{leb-true, not-true, not-false}
+use borrow.Author.Needs.{needs}
+use Rattle.rules.specs.State.{own, standing}
+use Rattle.rules.specs.Tables.{every}
+use Rattle.rules.proofs.Everywhere.{and-left, and-right}
+use Rattle.memory.specs.Needed.{Lent}
+use Rattle.checking.specs.Tests.{rowsHold, ownEntries, ownFits, appliedHold, intervalsHold, clocksHoldWith, copiesHold, marksHoldWith, recordsHoldWith, countsHold, areasHoldWith, areasHold}
+use Rattle.checking.specs.Needed.{CountsFit, OwnFit, ClocksThere, MarksThere, SlotsThere, AreasThere}
+use Rattle.checking.proofs.Passing.{and-fails, and-goes-on}
+
+-- ---- what each area's test asks
+
+module _ (c w r m : List ℕ) (processors pages locks standing : ℕ) (p : AreasThere c w r m processors pages locks standing) where
+  -- the area of the clocks
+  pub clocks-there : ClocksThere c processors pages locks
+  clocks-there =
+      record { clocks = p .lent .clocks; processors-fit = p .counts .processors-fit; pages-fit = p .counts .pages-fit; locks-fit = p .counts .locks-fit }
+
+  -- the area of the marks
+  pub marks-there : MarksThere m processors pages locks standing
+  marks-there = record { marks = p .lent .marks; counts = p .counts }
+
+  -- the slots of the records that stand
+  pub slots-there : SlotsThere r standing
+  slots-there = record { records = p .lent .records; slots = p .counts .standing-fit }
+
+-- own entries fit where the clocks pass
+pub own-fit-clocks : (own c : List ℕ) (processors pages locks : ℕ) (t : Bool) → t ≡ clocksHoldWith own c processors pages locks → not t ≡ false → OwnFit own
+unfolding clocksHoldWith
+own-fit-clocks own c processors pages locks t e k =
+    record { fit = and-left (every 8 (ownFits own)) (rowsHold own c 0 9 (processors + 1) && (rowsHold own c 9 16 locks && (every 8 (appliedHold c processors pages) && every 8 (intervalsHold own c)))) (sym e ∙ not-false t k) }
+
+-- the tests of the areas, one after the other
+pub areas-is : (own c w r m : List ℕ) (processors pages locks standing : ℕ) (t : Bool)
+    → t ≡ (clocksHoldWith own c processors pages locks && (every 8 (copiesHold w processors pages) && (marksHoldWith own m processors pages locks standing && recordsHoldWith own r processors pages standing)))
+    → t ≡ areasHoldWith own c w r m processors pages locks standing
+unfolding areasHoldWith
+areas-is own c w r m processors pages locks standing t e = e
+
+-- ---- the counts
+
+-- what the test of the counts says
+pub record CountsIn (processors pages locks standing : ℕ) : Type 0 where
+  pub some-processor : 1 ≤ processors
+  pub processors-fit : processors ≤ 8
+  pub some-page : 1 ≤ pages
+  pub pages-fit : pages ≤ 8
+  pub some-lock : 1 ≤ locks
+  pub locks-fit : locks ≤ 16
+  pub standing-fit : standing ≤ 128
+
+-- each count is in its range
+pub counts-in : (processors pages locks standing : ℕ) → countsHold processors pages locks standing ≡ true → CountsIn processors pages locks standing
+unfolding countsHold
+counts-in processors pages locks standing e =
+    let last : Bool = leb locks 16 && leb standing 128 in
+    let from-locks : Bool = leb 1 locks && last in
+    let to-pages : Bool = leb pages 8 && from-locks in
+    let from-pages : Bool = leb 1 pages && to-pages in
+    let to-processors : Bool = leb processors 8 && from-pages in
+    let a = and-right (leb 1 processors) to-processors e in
+    let b = and-right (leb processors 8) from-pages a in
+    let d = and-right (leb 1 pages) to-pages b in
+    let f = and-right (leb pages 8) from-locks d in
+    let g = and-right (leb 1 locks) last f in
+    record {
+      some-processor = leb-true _ _ (and-left (leb 1 processors) to-processors e);
+      processors-fit = leb-true _ _ (and-left (leb processors 8) from-pages a);
+      some-page = leb-true _ _ (and-left (leb 1 pages) to-pages b);
+      pages-fit = leb-true _ _ (and-left (leb pages 8) from-locks d);
+      some-lock = leb-true _ _ (and-left (leb 1 locks) last f);
+      locks-fit = leb-true _ _ (and-left (leb locks 16) (leb standing 128) g);
+      standing-fit = leb-true _ _ (and-right (leb locks 16) (leb standing 128) g);
+    }
+
+-- counts in range fit their tables
+pub counts-fit : (processors pages locks standing : ℕ) → countsHold processors pages locks standing ≡ true → CountsFit processors pages locks standing
+counts-fit processors pages locks standing e =
+    let z = counts-in processors pages locks standing e in
+    record { processors-fit = z .processors-fit; pages-fit = z .pages-fit; locks-fit = z .locks-fit; standing-fit = z .standing-fit }
+
+-- after counts that pass, the areas are tested
+pub areas-there : (c w r m : List ℕ) (processors pages locks standing : ℕ) (t : Bool) → Lent c w r m → t ≡ countsHold processors pages locks standing → not t ≡ false
+    → AreasThere c w r m processors pages locks standing
+areas-there c w r m processors pages locks standing t p e k =
+    record { lent = p; counts = counts-fit processors pages locks standing (sym e ∙ not-false t k) }
+
+module _ (c w r m : List ℕ) (processors pages locks standing : ℕ) (t : Bool)
+    (a : (processors ≡ getD m 0 0) × (processors < 256)) (b : (pages ≡ getD m 1 0) × (pages < 256)) (d : (locks ≡ getD m 2 0) × (locks < 256))
+    (f : (standing ≡ getD m 3 0) × (standing < 256)) (e : t ≡ countsHold processors pages locks standing) where
+  -- a count out of range decides
+  pub counts-broken : not t ≡ true → false ≡ areasHold c w r m
+  unfolding areasHold
+  counts-broken k = rw (← a .0, ← b .0, ← d .0, ← f .0, ← e, not-true t k)
+
+  -- where the counts pass, the areas decide
+  pub areas-decide : (own : List ℕ) (x : Bool) → own ≡ ownEntries c → not t ≡ false → x ≡ areasHoldWith own c w r m processors pages locks standing → x ≡ areasHold c w r m
+  unfolding areasHold
+  areas-decide own x o k h = rw (← a .0, ← b .0, ← d .0, ← f .0, ← e, not-false t k, ← o) h
+
+pub ruleset areas-checked = (and-fails, and-goes-on, clocks-there, marks-there, slots-there, own-fit-clocks, areas-is, areas-there, counts-broken, areas-decide, needs)

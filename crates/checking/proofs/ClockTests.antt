@@ -1,0 +1,159 @@
+-- What the functions on clocks leave to show, one law for each way of the code. Assumes nothing.
+use Prim.Native.Nat.{ℕ, _+_, _-_, _*_, _≤_, _<_}
+use native.Mathlib.Omega.{arith}
+use mathlib.Core.Path.{_≡_, refl, sym, _∙_}
+use mathlib.Core.Bool.{Bool, false, not, _&&_}
+use mathlib.Core.List.{List, [], _∷_}
+use lib.ListN.{length, getD}
+use borrow.Author.Tests.{leb-true, not-false, lt-ltb, le-ltb, le-leb, lt-leb, eq-eqb, ne-eqb}
+use borrow.Author.Needs.{needs}
+use Rattle.rules.specs.Refusals.{fits}
+use Rattle.rules.specs.State.{own}
+use Rattle.rules.specs.Tables.{every}
+use Rattle.rules.proofs.Tables.{every-at}
+use Rattle.memory.specs.Layout.{rowOf}
+use Rattle.memory.specs.Needed.{RowThere}
+use Rattle.checking.specs.Tests.{zeroAt, pagesOf, entryWithin, rowWithin, rowsHold, ownEntries, ownFits, appliedHold, intervalsHold, clocksHoldWith}
+use Rattle.checking.specs.Needed.{PlacesThere, RowsThere, OwnFit, ClocksThere, ClocksOne, IntervalsOne}
+use Rattle.checking.proofs.Passing.{Passed, passed-none, pass-one, fail-one, passed-more, passed-broken, passed-all, Kept, kept-none, kept-on, kept-off, kept-all, and-fails, and-goes-on}
+
+-- ---- places that are 0
+
+-- one more is 0
+pub zero-kept : (l : List ℕ) (at n i : ℕ) (all : Bool) → Kept n (zeroAt l at) i all → i < n → getD l (at + i) 0 ≡ 0 → Kept n (zeroAt l at) (i + 1) all
+unfolding zeroAt
+zero-kept l at n i all p h e = kept-on n (zeroAt l at) i all p h (eq-eqb _ _ e)
+
+-- one is not
+pub zero-lost : (l : List ℕ) (at n i : ℕ) (all : Bool) → Kept n (zeroAt l at) i all → i < n → (getD l (at + i) 0 ≡ 0 → ⊥) → Kept n (zeroAt l at) (i + 1) false
+unfolding zeroAt
+zero-lost l at n i all p h e = kept-off n (zeroAt l at) i all p h (ne-eqb _ _ e)
+
+-- ---- rows that do not exceed another clock
+
+-- one more entry does not
+pub within-kept : (b c : List ℕ) (at n i : ℕ) (all : Bool) → Kept n (entryWithin b c at) i all → i < n → getD c (at + i) 0 ≤ getD b i 0
+    → Kept n (entryWithin b c at) (i + 1) all
+unfolding entryWithin
+within-kept b c at n i all p h e = kept-on n (entryWithin b c at) i all p h (le-leb _ _ e)
+
+-- one does
+pub within-lost : (b c : List ℕ) (at n i : ℕ) (all : Bool) → Kept n (entryWithin b c at) i all → i < n → getD b i 0 < getD c (at + i) 0
+    → Kept n (entryWithin b c at) (i + 1) false
+unfolding entryWithin
+within-lost b c at n i all p h e = kept-off n (entryWithin b c at) i all p h (lt-leb _ _ e)
+
+-- the eight entries are the row
+pub row-is : (b c : List ℕ) (first i : ℕ) (r : Bool) → r ≡ every 8 (entryWithin b c (8 * (first + i))) → r ≡ rowWithin b c first i
+unfolding rowWithin
+row-is b c first i r e = e
+
+-- one of the rows lies within the area
+pub row-there : (c : List ℕ) (first n i : ℕ) → PlacesThere c (8 * first) (8 * n) → i < n → PlacesThere c (8 * (first + i)) 8
+row-there c first n i p h = record { within = omega (arith, p .within) }
+
+-- ---- rows that are there, and absent ones
+
+-- the rows that are there lie within the area
+pub first-rows-there : (c : List ℕ) (first n there : ℕ) → RowsThere c first n there → PlacesThere c (8 * first) (8 * there)
+first-rows-there c first n there p = record { within = omega (arith, p .within, p .among) }
+
+-- the absent rows do
+pub other-rows-there : (c : List ℕ) (first n there : ℕ) → RowsThere c first n there → PlacesThere c (8 * (first + there)) (8 * (n - there))
+other-rows-there c first n there p = record { within = omega (arith, p .within, p .among) }
+
+-- both decide
+pub rows-hold-is : (b c : List ℕ) (first n there : ℕ) (r : Bool)
+    → r ≡ (every there (rowWithin b c first) && every (8 * (n - there)) (zeroAt c (8 * (first + there)))) → r ≡ rowsHold b c first n there
+unfolding rowsHold
+rows-hold-is b c first n there r e = e
+
+-- ---- own entries
+
+-- the eight own entries, read one by one
+pub own-is : (c : List ℕ) → (getD c 8 0 ∷ getD c 17 0 ∷ getD c 26 0 ∷ getD c 35 0 ∷ getD c 44 0 ∷ getD c 53 0 ∷ getD c 62 0 ∷ getD c 71 0 ∷ []) ≡ ownEntries c
+unfolding ownEntries
+own-is c = refl
+
+-- one more own entry is at most 63
+pub own-more : (own : List ℕ) (k : ℕ) → Passed 8 (ownFits own) k → k < 8 → getD own k 0 ≤ 63 → Passed 8 (ownFits own) (k + 1)
+unfolding ownFits
+own-more own k p h e = pass-one 8 (ownFits own) k p h (le-leb _ _ e)
+
+-- one is not
+pub own-broken : (own : List ℕ) (k : ℕ) → Passed 8 (ownFits own) k → k < 8 → 63 < getD own k 0 → false ≡ every 8 (ownFits own)
+unfolding ownFits
+own-broken own k p h e = fail-one 8 (ownFits own) k h (lt-leb _ _ e)
+
+-- all are
+pub own-fit-all : (own : List ℕ) (r : Bool) → r ≡ every 8 (ownFits own) → not r ≡ false → OwnFit own
+own-fit-all own r e k = record { fit = sym e ∙ not-false r k }
+
+-- ---- pages of a processor
+
+-- those of a present processor
+pub pages-there : (processors pages k : ℕ) → k < processors → pages ≡ pagesOf processors pages k
+unfolding pagesOf
+pages-there processors pages k h = rw (lt-ltb k processors h)
+
+-- an absent one has none
+pub pages-absent : (processors pages k : ℕ) → processors ≤ k → 0 ≡ pagesOf processors pages k
+unfolding pagesOf
+pages-absent processors pages k h = rw (le-ltb k processors h)
+
+-- ---- applied clocks
+
+-- the processor's own row lies within the area
+pub row-of-processor : (c : List ℕ) (pages k : ℕ) → ClocksOne c pages k → RowThere 8 c (k + 1)
+row-of-processor c pages k p = record { within = omega (arith, p .clocks, p .processor) }
+
+-- the rows of its applied clocks do
+pub applied-rows-there : (c : List ℕ) (pages k there : ℕ) → ClocksOne c pages k → there ≤ pages → RowsThere c (25 + 8 * k) 8 there
+applied-rows-there c pages k there p h = record { within = omega (arith, p .clocks, p .processor); among = omega (arith, p .pages-fit) }
+
+-- they decide
+pub applied-is : (c most : List ℕ) (processors pages k there : ℕ) (r : Bool) → there ≡ pagesOf processors pages k → most ≡ rowOf 8 c (k + 1)
+    → r ≡ rowsHold most c (25 + 8 * k) 8 there → r ≡ appliedHold c processors pages k
+unfolding appliedHold
+applied-is c most processors pages k there r t b e = e ∙ rw (t, b)
+
+-- one processor of eight
+pub clocks-one : (c : List ℕ) (pages k : ℕ) → length c ≡ 4744 → pages ≤ 8 → k < 8 → ClocksOne c pages k
+clocks-one c pages k a b h = record { clocks = a; pages-fit = b; processor = h }
+
+-- ---- the intervals' clocks
+
+-- the rows of the intervals' clocks lie within the area
+pub interval-rows-there : (own c : List ℕ) (k there : ℕ) → IntervalsOne own c k → (there ≡ getD own k 0) × (there < 256) → RowsThere c (89 + 63 * k) 63 there
+unfolding ownFits
+interval-rows-there own c k there p e =
+    let fits : getD own k 0 ≤ 63 = leb-true _ _ (every-at 8 (ownFits own) k (p .own-fit .fit) (p .processor)) in
+    record { within = omega (arith, p .clocks, p .processor); among = omega (arith, fits, e .0) }
+
+-- they decide
+pub intervals-is : (own c : List ℕ) (k there : ℕ) (r : Bool) → (there ≡ getD own k 0) × (there < 256) → r ≡ rowsHold own c (89 + 63 * k) 63 there → r ≡ intervalsHold own c k
+unfolding intervalsHold
+intervals-is own c k there r t e = e ∙ rw (t .0)
+
+-- one processor of eight
+pub intervals-one : (own c : List ℕ) (k : ℕ) → length c ≡ 4744 → OwnFit own → k < 8 → IntervalsOne own c k
+intervals-one own c k a b h = record { clocks = a; own-fit = b; processor = h }
+
+-- ---- all clocks
+
+-- the barrier's row and the processors' lie within the area
+pub processor-rows-there : (c : List ℕ) (processors pages locks : ℕ) → ClocksThere c processors pages locks → RowsThere c 0 9 (processors + 1)
+processor-rows-there c processors pages locks p = record { within = omega (arith, p .clocks); among = omega (arith, p .processors-fit) }
+
+-- the locks' do
+pub lock-rows-there : (c : List ℕ) (processors pages locks : ℕ) → ClocksThere c processors pages locks → RowsThere c 9 16 locks
+lock-rows-there c processors pages locks p = record { within = omega (arith, p .clocks); among = omega (arith, p .locks-fit) }
+
+-- the tests of all clocks, one after the other
+pub clocks-is : (own c : List ℕ) (processors pages locks : ℕ) (r : Bool)
+    → r ≡ (every 8 (ownFits own) && (rowsHold own c 0 9 (processors + 1) && (rowsHold own c 9 16 locks && (every 8 (appliedHold c processors pages) && every 8 (intervalsHold own c)))))
+    → r ≡ clocksHoldWith own c processors pages locks
+unfolding clocksHoldWith
+clocks-is own c processors pages locks r e = e
+
+pub ruleset clocks-checked = (passed-none, passed-more, passed-broken, passed-all, and-fails, and-goes-on, kept-none, kept-all, zero-kept, zero-lost, within-kept, within-lost, row-is, row-there, first-rows-there, other-rows-there, rows-hold-is, own-is, own-more, own-broken, own-fit-all, pages-there, pages-absent, row-of-processor, applied-rows-there, applied-is, clocks-one, interval-rows-there, intervals-is, intervals-one, processor-rows-there, lock-rows-there, clocks-is, needs)

@@ -1,0 +1,16 @@
+pub mod Passing
+pub mod ClockTests
+pub mod MarkTests
+pub mod RecordTests
+pub mod Notices
+pub mod AreaTests
+pub mod PlaceFacts
+pub mod StateReads
+pub mod ClocksSay
+pub mod MarksSay
+pub mod ClocksWhen
+pub mod ClockConditions
+pub mod PageConditions
+pub mod RecordConditions
+pub mod OrderWhen
+pub mod Sizes

@@ -1,0 +1,20 @@
+-- `applied_hold` meets its contract: the first k processors pass. Assumes nothing.
+use Prim.Native.Nat.{_-_, _≤_}
+use mathlib.Core.Path.{_≡_}
+use lib.ListN.{length}
+use Rattle.checking.specs.Tests.{appliedHold}
+use Rattle.checking.proofs.Passing.{Passed}
+use Rattle.checking.proofs.ClockTests.{clocks-checked}
+use Rattle.checking.proofs.applied_hold.Statement.{statement}
+use Rattle.checking.proofs.applied_hold.Tie as tie
+
+abbrev Inv-loop : tie.InvT-loop
+Inv-loop clocks processors pages k₀ k = (Passed 8 (appliedHold clocks processors pages) k) × (length clocks ≡ 4744) × (pages ≤ 8)
+
+abbrev μ-loop : tie.MeasureT-loop
+μ-loop clocks processors pages k₀ k = 8 - k
+
+pub applied-hold-spec : {M : Type 1} → statement M
+applied-hold-spec =
+    tie.close
+    (tie.spec Inv-loop μ-loop (λ c. search clocks-checked) (λ c κs. search clocks-checked) (λ c. search clocks-checked) (λ c. search clocks-checked) (λ c. search clocks-checked) (λ c. search clocks-checked) (λ c. search clocks-checked))

@@ -1,0 +1,20 @@
+-- `copies_hold` meets its contract: the first k processors pass. Assumes nothing.
+use Prim.Native.Nat.{_-_, _≤_}
+use mathlib.Core.Path.{_≡_}
+use lib.ListN.{length}
+use Rattle.checking.specs.Tests.{copiesHold}
+use Rattle.checking.proofs.Passing.{Passed}
+use Rattle.checking.proofs.MarkTests.{marks-checked}
+use Rattle.checking.proofs.copies_hold.Statement.{statement}
+use Rattle.checking.proofs.copies_hold.Tie as tie
+
+abbrev Inv-loop : tie.InvT-loop
+Inv-loop words processors pages k₀ k = (Passed 8 (copiesHold words processors pages) k) × (length words ≡ 4096) × (pages ≤ 8)
+
+abbrev μ-loop : tie.MeasureT-loop
+μ-loop words processors pages k₀ k = 8 - k
+
+pub copies-hold-spec : {M : Type 1} → statement M
+copies-hold-spec =
+    tie.close
+    (tie.spec Inv-loop μ-loop (λ c. search marks-checked) (λ c κs. search marks-checked) (λ c. search marks-checked) (λ c. search marks-checked) (λ c. search marks-checked) (λ c. search marks-checked) (λ c. search marks-checked))

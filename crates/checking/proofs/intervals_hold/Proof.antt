@@ -1,0 +1,22 @@
+-- `intervals_hold` meets its contract: the first k processors pass. Assumes nothing.
+use Prim.Native.Nat.{_-_}
+use mathlib.Core.Path.{_≡_}
+use lib.ListN.{length}
+use Rattle.rules.specs.State.{own}
+use Rattle.checking.specs.Tests.{intervalsHold}
+use Rattle.checking.specs.Needed.{OwnFit}
+use Rattle.checking.proofs.Passing.{Passed}
+use Rattle.checking.proofs.ClockTests.{clocks-checked}
+use Rattle.checking.proofs.intervals_hold.Statement.{statement}
+use Rattle.checking.proofs.intervals_hold.Tie as tie
+
+abbrev Inv-loop : tie.InvT-loop
+Inv-loop clocks own k₀ k = (Passed 8 (intervalsHold own clocks) k) × (length clocks ≡ 4744) × (OwnFit own)
+
+abbrev μ-loop : tie.MeasureT-loop
+μ-loop clocks own k₀ k = 8 - k
+
+pub intervals-hold-spec : {M : Type 1} → statement M
+intervals-hold-spec =
+    tie.close
+    (tie.spec Inv-loop μ-loop (λ c. search clocks-checked) (λ c κs. search clocks-checked) (λ c. search clocks-checked) (λ c. search clocks-checked) (λ c. search clocks-checked) (λ c. search clocks-checked) (λ c. search clocks-checked))

@@ -1,0 +1,21 @@
+-- `own_fit` meets its contract: the first k own entries are at most 63. Assumes nothing.
+use Prim.Native.Nat.{_-_}
+use mathlib.Core.Path.{_≡_}
+use lib.ListN.{length}
+use Rattle.rules.specs.State.{own}
+use Rattle.checking.specs.Tests.{ownFits}
+use Rattle.checking.proofs.Passing.{Passed}
+use Rattle.checking.proofs.ClockTests.{clocks-checked}
+use Rattle.checking.proofs.own_fit.Statement.{statement}
+use Rattle.checking.proofs.own_fit.Tie as tie
+
+abbrev Inv-loop : tie.InvT-loop
+Inv-loop own k₀ k = (Passed 8 (ownFits own) k) × (length own ≡ 8)
+
+abbrev μ-loop : tie.MeasureT-loop
+μ-loop own k₀ k = 8 - k
+
+pub own-fit-spec : {M : Type 1} → statement M
+own-fit-spec =
+    tie.close
+    (tie.spec Inv-loop μ-loop (λ c. search clocks-checked) (λ c. search clocks-checked) (λ c. search clocks-checked) (λ c. search clocks-checked) (λ c. search clocks-checked) (λ c. search clocks-checked) (λ c. search clocks-checked))

@@ -1,0 +1,19 @@
+-- `words_zero` meets its contract: `all` says whether the first i words are 0. Assumes nothing.
+use Prim.Native.Nat.{_-_}
+use Rattle.checking.specs.Tests.{zeroAt}
+use Rattle.checking.specs.Needed.{PlacesThere}
+use Rattle.checking.proofs.Passing.{Kept}
+use Rattle.checking.proofs.MarkTests.{marks-checked}
+use Rattle.checking.proofs.words_zero.Statement.{statement}
+use Rattle.checking.proofs.words_zero.Tie as tie
+
+abbrev Inv-loop : tie.InvT-loop
+Inv-loop words at n all₀ i₀ all i = (Kept n (zeroAt words at) i all) × (PlacesThere words at n)
+
+abbrev μ-loop : tie.MeasureT-loop
+μ-loop words at n all₀ i₀ all i = n - i
+
+pub words-zero-spec : {M : Type 1} → statement M
+words-zero-spec =
+    tie.close
+    (tie.spec Inv-loop μ-loop (λ c. search marks-checked) (λ c. search marks-checked) (λ c. search marks-checked) (λ c. search marks-checked) (λ c. search marks-checked) (λ c. search marks-checked) (λ c. search marks-checked) (λ c. search marks-checked) (λ c. search marks-checked) (λ c. search marks-checked) (λ c. search marks-checked))

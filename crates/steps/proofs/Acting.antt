@@ -1,0 +1,201 @@
+-- The steps that begin with closing the interval, put together from closing and their own parts: one law for each way of the code, and
+-- `act-laws`. Rests on Learning. Assumes nothing.
+use Prim.Native.Nat.{ℕ, _+_, _*_, _≤_, _<_}
+use native.Mathlib.Omega.{arith}
+use mathlib.Core.Path.{_≡_, refl, sym, ap, _∙_}
+use mathlib.Core.Bool.{Bool, true, false, not, false≢true}
+use mathlib.Core.List.{List}
+use lib.ListN.{length, getD, set, length-set}
+use lib.Seq.{sets, length-sets}
+use mir.Syntax.{w64}
+use mir.Val.{Fits}
+use borrow.Author.Needs.{needs}
+use Rattle.clock.specs.Clocks.{joined}
+use Rattle.rules.specs.Close.{closed}
+use Rattle.rules.specs.State.{mainframe, Processor, Barrier, Clocks, State}
+use Rattle.rules.specs.Steps.{learned, acquire, release, atBarrier, allArrived, roundDone, Fetches, arrive}
+use Rattle.rules.specs.Tables.{put}
+use Rattle.rules.proofs.Facts.{Within}
+use Rattle.rules.proofs.KeptBarrier.{round-parts}
+use Rattle.rules.proofs.KeptParts.{among-when, parts-of, in-order-of}
+use Rattle.memory.specs.Areas.{clockRow, arrivedPlace, clocksIn, stateIn}
+use Rattle.memory.specs.Layout.{rowOf}
+use Rattle.memory.proofs.MarkLaws.{processors-read, arrived-written}
+use Rattle.closing.specs.Needed.{Closable}
+use Rattle.closing.specs.Parts.{Holds}
+use Rattle.steps.specs.Needed.{Acts, ActsOnLock, RoundComplete, TwoRows, MarksThere}
+use Rattle.steps.specs.Effects.{CountedAs, ClosedAtLock, lockTaken, lockFreed, LockTaken, LockFreed, ArrivedAll, completed}
+use Rattle.steps.proofs.Learning.{learned-clock}
+
+-- who acts can close
+pub can-close : (c w r m : List ℕ) (p : ℕ) → Acts c w r m p → Closable c w r m p
+can-close c w r m p a = record { lent = a .lent; in-order = a .in-order; from = a .from; to = a .to }
+
+-- who acts has rows and places
+processor-within : (c w r m : List ℕ) (p : ℕ) → Acts c w r m p → p ≤ 8
+unfolding mainframe
+processor-within c w r m p a = omega (arith, a .to, a .in-order .processors-fit)
+
+-- so the place of its mark fits a number
+pub arrived-place-fits : (c w r m : List ℕ) (p : ℕ) → Acts c w r m p → Fits w64 (4 + p)
+arrived-place-fits c w r m p a = record { fits = omega (arith, processor-within c w r m p a) }
+
+-- ---- acquire and release
+
+-- closed, with the processor and the lock at their places
+pub closed-at-lock : (c w r m : List ℕ) (p l : ℕ) (c₁ r₁ m₁ : List ℕ) → ActsOnLock c w r m p l → Holds c₁ w r₁ m₁ (closed (stateIn mainframe c w r m) p)
+    → ClosedAtLock (stateIn mainframe c w r m) c₁ w r₁ m₁ p l
+unfolding mainframe
+closed-at-lock c w r m p l c₁ r₁ m₁ a h =
+    record {
+      there =
+          record {
+            clocks = h .lent .clocks;
+            marks = h .lent .marks;
+            from = a .acts .from;
+            to = processor-within c w r m p (a .acts);
+            lock = omega (arith, a .lock, a .acts .in-order .locks-fit);
+          };
+      areas = h;
+    }
+
+module _ (s : State) (p l : ℕ) (c w r m c′ m′ : List ℕ) (h : ClosedAtLock s c w r m p l) where
+  -- then the lock taken
+  pub acquired : LockTaken c m c′ m′ p l → Holds c′ w r m′ (acquire s p l)
+  unfolding acquire lockTaken
+  acquired t =
+      let l₁ = h .areas .lent in
+      record {
+        lent = record { clocks = t .clocks; words = l₁ .words; records = l₁ .records; marks = t .marks };
+        is = t .is w r ∙ ap (λ (u : State). lockTaken u p l) (h .areas .is);
+      }
+
+  -- or freed
+  pub released : LockFreed c m c′ m′ p l → Holds c′ w r m′ (release s p l)
+  unfolding release lockFreed
+  released t =
+      let l₁ = h .areas .lent in
+      record {
+        lent = record { clocks = t .clocks; words = l₁ .words; records = l₁ .records; marks = t .marks };
+        is = t .is w r ∙ ap (λ (u : State). lockFreed u p l) (h .areas .is);
+      }
+
+-- ---- at the barrier
+
+-- a state with other clocks, and one processor marked
+unfoldable marked : State → Clocks → ℕ → State
+marked s k p =
+    record {
+      counts = s .counts;
+      clocks = k;
+      pages = s .pages;
+      records = s .records;
+      marks = record { holders = s .marks .holders; arrived = put 0 (s .marks .arrived) p 1; wanted = s .marks .wanted };
+    }
+
+module _ (c w r m : List ℕ) (p : ℕ) (a : Acts c w r m p) (c₁ r₁ m₁ : List ℕ) (h : Holds c₁ w r₁ m₁ (closed (stateIn mainframe c w r m) p)) where
+  -- the processor's mark has its place
+  pub arrived-there : 4 + p < length m₁
+  arrived-there = omega (arith, processor-within c w r m p a, h .lent .marks)
+
+  -- the barrier's clock and the processor's have their rows
+  pub barrier-rows : TwoRows c₁ 0 p
+  barrier-rows = record { clocks = h .lent .clocks; to-there = omega arith; from-there = omega (arith, processor-within c w r m p a) }
+
+  -- the barrier's clock has joined the processor's, and the processor is marked
+  pub at-barrier : (c₂ : List ℕ) → c₂ ≡ sets c₁ (8 * 0) (joined (rowOf 8 c₁ 0) (rowOf 8 c₁ p))
+      → Holds c₂ w r₁ (set m₁ (4 + p) 1) (atBarrier (stateIn mainframe c w r m) p)
+  unfolding atBarrier marked stateIn arrivedPlace clockRow mainframe Within
+  at-barrier c₂ e =
+      let d : p ≤ 8 = processor-within c w r m p a in
+      let f : Clocks → Clocks = λ k. learned k Barrier (Processor p) in
+      record {
+        lent =
+            record {
+              clocks = ap length e ∙ length-sets c₁ (8 * 0) (joined (rowOf 8 c₁ 0) (rowOf 8 c₁ p)) ∙ h .lent .clocks;
+              words = h .lent .words;
+              records = h .lent .records;
+              marks = length-set m₁ (4 + p) 1 ∙ h .lent .marks;
+            };
+        is =
+            arrived-written c₂ w r₁ m₁ 1 (h .lent .marks) p (a .from) d
+            ∙ ap (λ (k : Clocks). marked (stateIn mainframe c₁ w r₁ m₁) k p)
+            (ap (λ (x : List ℕ). clocksIn mainframe x) e ∙ learned-clock c₁ Barrier (Processor p) (h .lent .clocks) tt (a .from, d))
+            ∙ ap (λ (t : State). marked t (learned (t .clocks) Barrier (Processor p)) p) (h .is);
+      }
+
+-- ---- arrive
+
+arrive-waits : (s : State) (p : ℕ) → allArrived (atBarrier s p) ≡ false → arrive mainframe s p ≡ record { after = atBarrier s p; count = 0 }
+unfolding arrive
+arrive-waits s p e = rw e
+
+arrive-completes : (s : State) (p : ℕ) → allArrived (atBarrier s p) ≡ true → arrive mainframe s p ≡ completed (atBarrier s p)
+unfolding arrive completed
+arrive-completes s p e = rw e
+
+module _ (c w r m : List ℕ) (p : ℕ) (a : Acts c w r m p) (c₁ r₁ m₁ : List ℕ) (h : Holds c₁ w r₁ m₁ (atBarrier (stateIn mainframe c w r m) p)) where
+  same-processors : getD m₁ 0 0 ≡ stateIn mainframe c w r m .counts .processors
+  unfolding atBarrier closed
+  same-processors = sym (processors-read c₁ w r₁ m₁) ∙ ap (λ (s : State). s .counts .processors) (h .is)
+
+  few-processors : getD m₁ 0 0 ≤ 8
+  unfolding mainframe
+  few-processors = omega (arith, same-processors, a .in-order .processors-fit)
+
+  -- every processor has its mark
+  pub all-marks-there : MarksThere m₁
+  all-marks-there = record { marks = h .lent .marks; few = few-processors }
+
+  -- the round can be completed
+  pub round-complete : RoundComplete c₁ w r₁ m₁
+  round-complete =
+      let s : State = stateIn mainframe c w r m in
+      record {
+        lent = h .lent;
+        few = few-processors;
+        in-order =
+            rw (h .is)
+            (in-order-of mainframe (roundDone (atBarrier s p)) (round-parts mainframe s p (parts-of mainframe s (a .in-order)) (among-when (s .counts) p (a .from) (a .to))));
+      }
+
+  module _ (b : Bool) (is : ArrivedAll m₁ b) where
+    answer-is : b ≡ allArrived (atBarrier (stateIn mainframe c w r m) p)
+    answer-is = is .is c₁ w r₁ ∙ ap (λ (s : State). allArrived s) (h .is)
+
+    module _ (no-round : not b ≡ true) where
+      waiting : arrive mainframe (stateIn mainframe c w r m) p ≡ record { after = atBarrier (stateIn mainframe c w r m) p; count = 0 }
+      waiting = arrive-waits (stateIn mainframe c w r m) p (sym answer-is ∙ go b no-round)
+        where
+          go : (x : Bool) → not x ≡ true → x ≡ false
+          go true z = absurd (false≢true z)
+          go false z = refl
+
+      -- others are awaited
+      pub waits-done : CountedAs (arrive mainframe (stateIn mainframe c w r m) p) 0 c₁ w r₁ m₁
+      waits-done =
+          record {
+            applied = ap (λ (f : Fetches). f .count) (sym waiting);
+            areas = record { lent = h .lent; is = h .is ∙ ap (λ (f : Fetches). f .after) (sym waiting) };
+          }
+
+    module _ (round : not b ≡ false) where
+      completing : completed (stateIn mainframe c₁ w r₁ m₁) ≡ arrive mainframe (stateIn mainframe c w r m) p
+      completing =
+          ap (λ (s : State). completed s) (h .is)
+          ∙ sym (arrive-completes (stateIn mainframe c w r m) p (sym answer-is ∙ go b round))
+        where
+          go : (x : Bool) → not x ≡ false → x ≡ true
+          go true z = refl
+          go false z = absurd (false≢true (sym z))
+
+      -- the round is completed
+      pub completes-done : (x : ℕ) (c₂ w₂ m₂ : List ℕ) → CountedAs (completed (stateIn mainframe c₁ w r₁ m₁)) x c₂ w₂ r₁ m₂
+          → CountedAs (arrive mainframe (stateIn mainframe c w r m) p) x c₂ w₂ r₁ m₂
+      completes-done x c₂ w₂ m₂ e =
+          record {
+            applied = e .applied ∙ ap (λ (f : Fetches). f .count) completing;
+            areas = record { lent = e .areas .lent; is = e .areas .is ∙ ap (λ (f : Fetches). f .after) completing };
+          }
+
+pub ruleset act-laws = (can-close, arrived-place-fits, closed-at-lock, acquired, released, arrived-there, barrier-rows, at-barrier, all-marks-there, round-complete, waits-done, completes-done, needs)

@@ -1,0 +1,8 @@
+pub mod Learning
+pub mod Rounds
+pub mod Locking
+pub mod Storing
+pub mod Collecting
+pub mod Completing
+pub mod Acting
+pub mod Accessing

@@ -1,0 +1,173 @@
+-- The barrier's marks and what a completed round and a collection leave; the wish for collection. One law for each way of the code, and
+-- `round-laws`. Rests on Learning. Assumes nothing.
+use Prim.Native.Nat.{ℕ, suc, _+_, _-_, _*_, _≤_, _<_}
+use native.Mathlib.Numerals.{add-one}
+use native.Mathlib.Omega.{arith}
+use mathlib.Core.Path.{_≡_, refl, sym, ap, _∙_}
+use mathlib.Core.Bool.{Bool, true, false, not, false≢true}
+use mathlib.Core.List.{List, _++_, map, append-assoc}
+use lib.ListN.{length, getD, take, drop, set, length-drop, length-set, replicate, length-replicate}
+use lib.Seq.{length-take-le, drop-drop, sets, length-sets, sets-eq}
+use lib.Dec.{eqb}
+use borrow.Author.Tests.{eq-eqb, ne-eqb}
+use borrow.Author.Needs.{needs}
+use Rattle.rules.specs.State.{mainframe, Barrier, Clocks, withClock, cleared, State, hasArrived}
+use Rattle.rules.specs.Steps.{allArrived, allLearned, roundDone, emptied, wantsCollection, want}
+use Rattle.rules.specs.Tables.{every}
+use Rattle.rules.proofs.Facts.{Within}
+use Rattle.rules.proofs.Tables.{every-at}
+use Rattle.memory.specs.Areas.{clockRow, arrivedPlace, clocksIn, recordsIn, stateIn}
+use Rattle.memory.specs.Layout.{rowOf}
+use Rattle.memory.specs.Needed.{RowThere}
+use Rattle.memory.proofs.ClockLaws.{clock-written, clocks-zeros}
+use Rattle.memory.proofs.MarkLaws.{processors-read, wanted-read, arrived-read, standing-written, wanted-written, arrived-cleared}
+use Rattle.memory.proofs.RowLaws.{length-row, map-replicate}
+use Rattle.steps.specs.Needed.{ClocksOfFirst, MarksThere, ClocksAndMarks, RoundThere}
+use Rattle.steps.specs.Effects.{HoldsClocks, ArrivedAll, RoundDone, Emptied, Wanted}
+
+-- ---- whether all processors have arrived
+
+-- the first k of n processors have arrived
+pub record Arriving (m : List ℕ) (n k : ℕ) : Type 0 where
+  pub marks : length m ≡ 93
+  pub few : n ≤ 8
+  pub count : n ≡ getD m 0 0
+  pub upto : k ≤ n
+  pub first : (c w r : List ℕ) → every k (λ j. hasArrived (stateIn mainframe c w r m) (suc j)) ≡ true
+
+-- none was looked at yet
+pub arriving-begins : (m : List ℕ) (n : ℕ) → MarksThere m → n ≡ getD m 0 0 → Arriving m n 0
+unfolding every
+arriving-begins m n h e = record { marks = h .marks; few = omega (arith, h .few); count = e; upto = omega arith; first = λ c w r. refl }
+
+mark-read : (c w r m : List ℕ) (k : ℕ) → k < 8 → hasArrived (stateIn mainframe c w r m) (suc k) ≡ not (eqb (getD m (5 + k) 0) 0)
+unfolding hasArrived arrivedPlace
+mark-read c w r m k h =
+    let at : 4 + suc k ≡ 5 + k = omega arith in
+    ap (λ (x : ℕ). not (eqb x 0)) (arrived-read c w r m (suc k) (omega arith) (omega arith) ∙ ap (λ (j : ℕ). getD m j 0) at)
+
+-- one has not arrived
+pub arriving-missing : (m : List ℕ) (n k : ℕ) → Arriving m n k → k < n → getD m (5 + k) 0 ≡ 0 → ArrivedAll m false
+unfolding allArrived
+arriving-missing m n k a h e = record { is = λ c w r. sym (go c w r (allArrived (stateIn mainframe c w r m)) refl) }
+  where
+    go : (c w r : List ℕ) (b : Bool) → allArrived (stateIn mainframe c w r m) ≡ b → allArrived (stateIn mainframe c w r m) ≡ false
+    go c w r false z = z
+    go c w r true z =
+        let there : k < stateIn mainframe c w r m .counts .processors = omega (arith, processors-read c w r m, a .count) in
+        let yes-mark = every-at (stateIn mainframe c w r m .counts .processors) (λ j. hasArrived (stateIn mainframe c w r m) (suc j)) k z there in
+        let no-mark : hasArrived (stateIn mainframe c w r m) (suc k) ≡ false = mark-read c w r m k (omega (arith, a .few)) ∙ rw (eq-eqb (getD m (5 + k) 0) 0 e) in
+        absurd (false≢true (sym no-mark ∙ yes-mark))
+
+-- one more has arrived
+pub arriving-more : (m : List ℕ) (n k : ℕ) → Arriving m n k → k < n → (getD m (5 + k) 0 ≡ 0 → ⊥) → Arriving m n (k + 1)
+unfolding every
+arriving-more m n k a h e =
+    record {
+      marks = a .marks;
+      few = a .few;
+      count = a .count;
+      upto = omega arith;
+      first =
+          λ c w r.
+          rw (add-one k)
+          (rw (a .first c w r, mark-read c w r m k (omega (arith, a .few)), ne-eqb (getD m (5 + k) 0) 0 e));
+    }
+
+-- all have arrived
+pub arriving-ends : (m : List ℕ) (n k : ℕ) → Arriving m n k → n ≤ k → ArrivedAll m true
+unfolding allArrived
+arriving-ends m n k a h =
+    record {
+      is =
+          λ c w r.
+          let e : k ≡ stateIn mainframe c w r m .counts .processors = omega (arith, processors-read c w r m, a .count, a .upto) in
+          sym (ap (λ (j : ℕ). every j (λ i. hasArrived (stateIn mainframe c w r m) (suc i))) (sym e) ∙ a .first c w r);
+    }
+
+-- ---- a completed round
+
+-- the part of the arrived marks filled with zeros
+pub arrived-part : (m part : List ℕ) → length m ≡ 93 → part ≡ replicate (length (take (13 - 5) (drop 5 m))) 0
+    → take 5 m ++ (part ++ drop (13 - 5) (drop 5 m)) ≡ sets m 5 (replicate 8 0)
+arrived-part m part h e =
+    let eight : length (take 8 (drop 5 m)) ≡ 8 = length-take-le 8 (drop 5 m) (omega (arith, length-drop 5 m)) in
+    let zeros : part ≡ replicate 8 0 = e ∙ ap (λ (n : ℕ). replicate n 0) eight in
+    rw (zeros, drop-drop 8 5 m)
+    (sym (append-assoc (take 5 m) (replicate 8 0) (drop 13 m)) ∙ sym (sets-eq (replicate 8 0) m 5 (omega (arith, length-replicate {A = ℕ} 8 0))))
+
+-- the processors of the marks have rows
+pub learners-there : (c m : List ℕ) (n : ℕ) → RoundThere c m → n ≡ getD m 0 0 → ClocksOfFirst c n
+learners-there c m n h e = record { clocks = h .clocks; few = omega (arith, h .few) }
+
+-- the barrier's clock has its row
+pub barrier-row-there : (c : List ℕ) (k : Clocks) → HoldsClocks c k → RowThere 8 c 0
+barrier-row-there c k h = record { within = omega (arith, h .long) }
+
+zeros-again : (c : List ℕ) → length c ≡ 4744 → cleared (clocksIn mainframe c .barrier) ≡ replicate 8 0
+unfolding cleared clocksIn mainframe clockRow
+zeros-again c h = map-replicate (rowOf 8 c 0) 0 ∙ ap (λ (j : ℕ). replicate j 0) (length-row 8 c 0 (omega (arith, h)))
+
+round-clocks : (c c₁ c₂ : List ℕ) (n : ℕ) → length c ≡ 4744 → HoldsClocks c₁ (allLearned (clocksIn mainframe c) n) → c₂ ≡ sets c₁ (8 * 0) (replicate 8 0)
+    → clocksIn mainframe c₂ ≡ withClock (allLearned (clocksIn mainframe c) n) Barrier (cleared (clocksIn mainframe c .barrier))
+unfolding Within clockRow
+round-clocks c c₁ c₂ n h k e =
+    ap (λ (x : List ℕ). clocksIn mainframe x) e
+    ∙ clock-written c₁ (replicate 8 0) Barrier (k .long) tt (length-replicate {A = ℕ} 8 0)
+    ∙ ap (λ (x : Clocks). withClock x Barrier (replicate 8 0)) (k .clocks)
+    ∙ ap (λ (x : List ℕ). withClock (allLearned (clocksIn mainframe c) n) Barrier x) (sym (zeros-again c h))
+
+-- all have learned, the barrier's clock is zeros, the marks are clear
+pub round-done : (c m c₁ c₂ m₂ : List ℕ) (n : ℕ) → RoundThere c m → n ≡ getD m 0 0 → HoldsClocks c₁ (allLearned (clocksIn mainframe c) n)
+    → c₂ ≡ sets c₁ (8 * 0) (replicate 8 0) → m₂ ≡ sets m 5 (replicate 8 0) → RoundDone c m c₂ m₂
+unfolding roundDone stateIn
+round-done c m c₁ c₂ m₂ n h e k ec em =
+    record {
+      clocks = ap length ec ∙ length-sets c₁ (8 * 0) (replicate 8 0) ∙ k .long;
+      marks = ap length em ∙ length-sets m 5 (replicate 8 0) ∙ h .marks;
+      is =
+          λ w r.
+          ap (λ (x : List ℕ). stateIn mainframe c₂ w r x) em ∙ arrived-cleared c₂ w r m (h .marks)
+          ∙ ap (λ (x : Clocks). record { counts = stateIn mainframe c w r m .counts; clocks = x; pages = stateIn mainframe c w r m .pages; records = stateIn mainframe c w r m .records; marks = record { holders = stateIn mainframe c w r m .marks .holders; arrived = map (λ mark. 0) (stateIn mainframe c w r m .marks .arrived); wanted = stateIn mainframe c w r m .marks .wanted } })
+          (round-clocks c c₁ c₂ n (h .clocks) k ec ∙ ap (λ (j : ℕ). withClock (allLearned (clocksIn mainframe c) j) Barrier (cleared (clocksIn mainframe c .barrier))) e);
+    }
+
+-- ---- collection
+
+-- the records go, all clocks are zeros, the wish is clear
+pub emptied-areas : (c m c′ : List ℕ) → ClocksAndMarks c m → c′ ≡ replicate (length c) 0 → Emptied c m c′ (set (set m 3 0) 4 0)
+unfolding emptied stateIn recordsIn
+emptied-areas c m c′ h e =
+    let long : length (set m 3 0) ≡ 93 = length-set m 3 0 ∙ h .marks in
+    record {
+      clocks = ap length e ∙ length-replicate {A = ℕ} (length c) 0 ∙ h .clocks;
+      marks = length-set (set m 3 0) 4 0 ∙ long;
+      is =
+          λ w r.
+          wanted-written c′ w r (set m 3 0) 0 long
+          ∙ ap (λ (s : State). record { counts = s .counts; clocks = s .clocks; pages = s .pages; records = s .records; marks = record { holders = s .marks .holders; arrived = s .marks .arrived; wanted = 0 } })
+          (standing-written c′ w r m 0 (h .marks))
+          ∙ rw (e, clocks-zeros c);
+    }
+
+-- ---- the wish for collection
+
+-- it is set
+pub wish-set : (m : List ℕ) → length m ≡ 93 → getD m 4 0 ≡ 0 → Wanted m (set m 4 1)
+unfolding want wantsCollection
+wish-set m h e =
+    record {
+      marks = length-set m 4 1 ∙ h;
+      is = λ c w r. wanted-written c w r m 1 h ∙ rw (wanted-read c w r m, e);
+    }
+
+-- it was set
+pub wish-kept : (m : List ℕ) → length m ≡ 93 → (getD m 4 0 ≡ 0 → ⊥) → Wanted m m
+unfolding want wantsCollection
+wish-kept m h e =
+    record {
+      marks = h;
+      is = λ c w r. rw (wanted-read c w r m, ne-eqb (getD m 4 0) 0 e);
+    }
+
+pub ruleset round-laws = (arriving-begins, arriving-missing, arriving-more, arriving-ends, arrived-part, learners-there, barrier-row-there, round-done, emptied-areas, wish-set, wish-kept, needs)

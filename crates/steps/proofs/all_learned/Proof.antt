@@ -1,0 +1,16 @@
+-- `all_learned` meets its contract: the first p processors have learned. Assumes nothing.
+use Prim.Native.Nat.{_-_}
+use Rattle.steps.proofs.Learning.{AllLearning, learn-laws}
+use Rattle.steps.proofs.all_learned.Statement.{statement}
+use Rattle.steps.proofs.all_learned.Tie as tie
+
+abbrev Inv-loop : tie.InvT-loop
+Inv-loop clocks₀ n p₀ clocks p = AllLearning clocks₀ clocks n p
+
+abbrev μ-loop : tie.MeasureT-loop
+μ-loop clocks₀ n p₀ clocks p = n - p
+
+pub all-learned-spec : {M : Type 1} → statement M
+all-learned-spec =
+    tie.close
+    (tie.spec Inv-loop μ-loop (λ c. search learn-laws) (λ c. search learn-laws) (λ c κs. search learn-laws) (λ c. search learn-laws) (λ c. search learn-laws) (λ c. search learn-laws) (λ c. search learn-laws) (λ c. search learn-laws))
