@@ -11,15 +11,19 @@ use Rattle.memory.specs.Layout.{rowOf, tabulate, perProcessor, joinRows}
 
 -- ---- which row a clock has: the barrier's first, then the processors', the locks', the applied clocks and the intervals'
 
+-- behind the processors
 unfoldable pub lockRow : Limits → ℕ → ℕ
 lockRow lim l = lim .processors + 1 + l
 
+-- behind the locks, a row for each page of each processor
 unfoldable pub appliedRow : Limits → ℕ → ℕ → ℕ
 appliedRow lim p g = lim .processors + 1 + lim .locks + (p - 1) * lim .pages + g
 
+-- behind the applied clocks, a row for each interval of each processor
 unfoldable pub intervalRow : Limits → ℕ → ℕ → ℕ
 intervalRow lim p i = lim .processors + 1 + lim .locks + lim .processors * lim .pages + (p - 1) * lim .intervals + (i - 1)
 
+-- the row of any holder's clock
 unfoldable pub clockRow : Limits → Holder → ℕ
 clockRow lim Barrier = 0
 clockRow lim (Processor p) = p
@@ -27,36 +31,45 @@ clockRow lim (Lock l) = lockRow lim l
 clockRow lim (Applied p g) = appliedRow lim p g
 clockRow lim (Interval p i) = intervalRow lim p i
 
+-- all rows of clocks
 unfoldable pub clockRows : Limits → ℕ
 clockRows lim = lim .processors + 1 + lim .locks + lim .processors * lim .pages + lim .processors * lim .intervals
 
 -- ---- which row of words a page has: the copies, then the twins
 
+-- a row for each page of each processor
 unfoldable pub copyRow : Limits → ℕ → ℕ → ℕ
 copyRow lim p g = (p - 1) * lim .pages + g
 
+-- the same behind the copies
 unfoldable pub twinRow : Limits → ℕ → ℕ → ℕ
 twinRow lim p g = lim .processors * lim .pages + copyRow lim p g
 
+-- all rows of words
 unfoldable pub wordRows : Limits → ℕ
 wordRows lim = lim .processors * lim .pages + lim .processors * lim .pages
 
 -- ---- where a mark stands: processors, pages, locks, records standing, collection wanted, arrived, holders, dirty
 
+-- the arrived mark of processor p
 unfoldable pub arrivedPlace : Limits → ℕ → ℕ
 arrivedPlace lim p = 4 + p
 
+-- the holder of lock l
 unfoldable pub holderPlace : Limits → ℕ → ℕ
 holderPlace lim l = 5 + lim .processors + l
 
+-- the dirty mark of page g of processor p
 unfoldable pub dirtyPlace : Limits → ℕ → ℕ → ℕ
 dirtyPlace lim p g = 5 + lim .processors + lim .locks + (p - 1) * lim .pages + g
 
+-- all marks
 unfoldable pub markPlaces : Limits → ℕ
 markPlaces lim = 5 + lim .processors + lim .locks + lim .processors * lim .pages
 
 -- ---- decode: the state that the areas hold
 
+-- the clocks by holder
 unfoldable pub clocksIn : Limits → List ℕ → Clocks
 clocksIn lim c =
     record {
@@ -67,6 +80,7 @@ clocksIn lim c =
       intervals = perProcessor (lim .processors) (λ p. perProcessor (lim .intervals) (λ i. rowOf (lim .processors) c (clockRow lim (Interval p i))));
     }
 
+-- copies and twins from the words, dirty marks from the marks
 unfoldable pub pagesIn : Limits → List ℕ → List ℕ → Pages
 pagesIn lim w m =
     record {
@@ -75,9 +89,11 @@ pagesIn lim w m =
       dirty = perProcessor (lim .processors) (λ p. tabulate (lim .pages) (λ g. getD m (dirtyPlace lim p g) 0));
     }
 
+-- the slots from the records, their number from the marks
 unfoldable pub recordsIn : Limits → List ℕ → List ℕ → Records
 recordsIn lim r m = record { standing = getD m 3 0; slots = tabulate (lim .records) (λ i. rowOf (slotSize lim) r i) }
 
+-- holders, arrived marks and the wish
 unfoldable pub marksIn : Limits → List ℕ → Marks
 marksIn lim m =
     record {
@@ -86,6 +102,7 @@ marksIn lim m =
       wanted = getD m 4 0;
     }
 
+-- the whole state
 unfoldable pub stateIn : Limits → List ℕ → List ℕ → List ℕ → List ℕ → State
 stateIn lim c w r m =
     record {
@@ -98,15 +115,19 @@ stateIn lim c w r m =
 
 -- ---- encode: the areas that hold a state
 
+-- the clocks, row by row
 unfoldable pub clockBytes : Clocks → List ℕ
 clockBytes c = c .barrier ++ joinRows (c .processors) ++ joinRows (c .locks) ++ joinRows (joinRows (c .applied)) ++ joinRows (joinRows (c .intervals))
 
+-- the copies, then the twins
 unfoldable pub pageWords : Pages → List ℕ
 pageWords m = joinRows (joinRows (m .copies)) ++ joinRows (joinRows (m .twins))
 
+-- the slots, one after the other
 unfoldable pub recordBytes : Records → List ℕ
 recordBytes r = joinRows (r .slots)
 
+-- the marks in their order
 unfoldable pub markBytes : State → List ℕ
 markBytes s =
     s .counts .processors ∷ s .counts .pages ∷ s .counts .locks ∷ s .records .standing ∷ s .marks .wanted ∷ drop 1 (s .marks .arrived) ++ s .marks .holders
@@ -114,6 +135,7 @@ markBytes s =
 
 -- ---- "its size is the fixed one"
 
+-- each area has the size of its rows
 unfoldable pub sizesRight : Limits → List ℕ → List ℕ → List ℕ → List ℕ → Bool
 sizesRight lim c w r m =
     eqb (length c) (lim .processors * clockRows lim)
