@@ -1,0 +1,120 @@
+-- A step on areas of any sizes and contents: 1 where they are not in order, else the step in order; and the areas are those that hold the
+-- rules' next state. One law for each way of the code, and `answering-laws`. Assumes nothing.
+use Prim.Native.Nat.{ℕ}
+use mathlib.Core.Path.{_≡_, refl, sym, ap, _∙_}
+use mathlib.Core.Bool.{Bool, true, false, cond, not, _&&_, and-eq-true-iff}
+use mathlib.Core.List.{List}
+use borrow.Author.Tests.{not-false}
+use borrow.Author.Needs.{needs}
+use Rattle.rules.specs.InOrder.{inOrder}
+use Rattle.rules.specs.Refusals.{Step, Answer, refusedAs, answerInOrder, nextInOrder, answer, next}
+use Rattle.rules.specs.State.{mainframe, State}
+use Rattle.rules.proofs.InOrderSays.{in-order-says}
+use Rattle.memory.specs.Areas.{pagesIn, recordsIn, stateIn, pageWords, recordBytes, markBytes, sizesRight}
+use Rattle.memory.specs.Needed.{Lent}
+use Rattle.memory.proofs.Encoding.{clock-bytes, page-words, record-bytes, mark-bytes, right-lent}
+use Rattle.refusals.specs.Needed.{Ready}
+use Rattle.closing.specs.Parts.{Holds}
+use Rattle.checking.specs.Areas as checked
+use Rattle.engine.specs.declared.Outcome.{Outcome}
+use Rattle.engine.specs.declared.Outcome.the-variants.{Refused}
+use Rattle.engine.specs.Promises.{areas, heldBy, holding, rightSizes, areasInOrder, answerOf, areasAfter}
+use Rattle.engine.specs.Outcomes.{outcomeOf, OrderIs, SteppedAs}
+
+-- ---- areas and the state that they hold
+
+-- areas of the right sizes are the areas that hold their state
+pub held-again : (c w r m : List ℕ) → Lent c w r m → holding (stateIn mainframe c w r m) ≡ areas c w r m
+unfolding holding stateIn
+held-again c w r m h =
+    ap (λ (x : List ℕ). areas x (pageWords (pagesIn mainframe w m)) (recordBytes (recordsIn mainframe r m)) (markBytes (stateIn mainframe c w r m))) (clock-bytes c (h .clocks))
+    ∙ ap (λ (x : List ℕ). areas c x (recordBytes (recordsIn mainframe r m)) (markBytes (stateIn mainframe c w r m))) (page-words w m (h .words))
+    ∙ ap (λ (x : List ℕ). areas c w x (markBytes (stateIn mainframe c w r m))) (record-bytes r m (h .records))
+    ∙ ap (λ (x : List ℕ). areas c w r x) (mark-bytes m (h .marks) c w r)
+
+-- areas that hold a state are the areas that the state gives
+pub holding-is : (c w r m : List ℕ) (s : State) → Holds c w r m s → areas c w r m ≡ holding s
+holding-is c w r m s h = sym (held-again c w r m (h .lent)) ∙ ap (λ (x : State). holding x) (h .is)
+
+-- ---- in order or not
+
+-- the test of the crate checking says it
+pub order-checked : (c w r m : List ℕ) (b : Bool) → b ≡ checked.areasInOrder c w r m → OrderIs b c w r m
+unfolding areasInOrder areas heldBy rightSizes checked.areasInOrder
+order-checked c w r m b e = record { is = e }
+
+module _ (c w r m : List ℕ) (t : Step) where
+  -- the answer by the test of the whole memory
+  answer-by-test : answerOf (areas c w r m) t ≡ cond (areasInOrder (areas c w r m)) (answerInOrder mainframe (stateIn mainframe c w r m) t) (refusedAs 1)
+  unfolding answerOf answer areas heldBy rightSizes areasInOrder
+  answer-by-test = go (sizesRight mainframe c w r m)
+    where
+      go : (b : Bool) → cond b (answer mainframe (stateIn mainframe c w r m) t) (refusedAs 1)
+          ≡ cond (b && inOrder mainframe (stateIn mainframe c w r m)) (answerInOrder mainframe (stateIn mainframe c w r m) t) (refusedAs 1)
+      go true = refl
+      go false = refl
+
+  -- the areas by the same test
+  areas-by-test : areasAfter (areas c w r m) t ≡ cond (areasInOrder (areas c w r m)) (holding (nextInOrder mainframe (stateIn mainframe c w r m) t)) (areas c w r m)
+  unfolding areasAfter next areas heldBy rightSizes areasInOrder
+  areas-by-test = go (sizesRight mainframe c w r m) (inOrder mainframe (stateIn mainframe c w r m)) refl
+    where
+      s : State
+      s = stateIn mainframe c w r m
+
+      go : (b d : Bool) → sizesRight mainframe c w r m ≡ b
+          → cond b (holding (cond d (nextInOrder mainframe s t) s)) (areas c w r m)
+          ≡ cond (b && d) (holding (nextInOrder mainframe s t)) (areas c w r m)
+      go true true e = refl
+      go true false e = held-again c w r m (right-lent c w r m e)
+      go false d e = refl
+
+module _ (c w r m : List ℕ) (b : Bool) (e : OrderIs b c w r m) where
+  module _ (t : Step) (z : not b ≡ true) where
+    out : areasInOrder (areas c w r m) ≡ false
+    out = sym (e .is) ∙ go b z
+      where
+        go : (x : Bool) → not x ≡ true → x ≡ false
+        go true y = sym y
+        go false y = refl
+
+    -- 1: "not in order"
+    pub out-of-order : Refused 1 ≡ outcomeOf (answerOf (areas c w r m) t)
+    unfolding outcomeOf refusedAs
+    out-of-order =
+        ap (λ (d : Bool). outcomeOf (cond d (answerInOrder mainframe (stateIn mainframe c w r m) t) (refusedAs 1))) (sym out)
+        ∙ ap (λ (a : Answer). outcomeOf a) (sym (answer-by-test c w r m t))
+
+    -- "every lent area untouched"
+    pub out-of-order-untouched : areas c w r m ≡ areasAfter (areas c w r m) t
+    out-of-order-untouched =
+        ap (λ (d : Bool). cond d (holding (nextInOrder mainframe (stateIn mainframe c w r m) t)) (areas c w r m)) (sym out)
+        ∙ sym (areas-by-test c w r m t)
+
+  module _ (z : not b ≡ false) where
+    fine : areasInOrder (areas c w r m) ≡ true
+    fine = sym (e .is) ∙ not-false b z
+
+    -- memory in order
+    pub ready-when-fine : Ready c w r m
+    unfolding areasInOrder areas heldBy rightSizes
+    ready-when-fine =
+        let both = and-eq-true-iff (sizesRight mainframe c w r m) (inOrder mainframe (stateIn mainframe c w r m)) .0 fine in
+        record { lent = right-lent c w r m (both .0); in-order = in-order-says mainframe (stateIn mainframe c w r m) (both .1) }
+
+    module _ (t : Step) (x : Outcome) (c′ w′ r′ m′ : List ℕ) (d : SteppedAs (stateIn mainframe c w r m) t x c′ w′ r′ m′) where
+      -- the step's answer
+      pub in-order-answered : x ≡ outcomeOf (answerOf (areas c w r m) t)
+      in-order-answered =
+          d .outcome
+          ∙ ap (λ (y : Bool). outcomeOf (cond y (answerInOrder mainframe (stateIn mainframe c w r m) t) (refusedAs 1))) (sym fine)
+          ∙ ap (λ (a : Answer). outcomeOf a) (sym (answer-by-test c w r m t))
+
+      -- the step's areas
+      pub in-order-after : areas c′ w′ r′ m′ ≡ areasAfter (areas c w r m) t
+      in-order-after =
+          holding-is c′ w′ r′ m′ (nextInOrder mainframe (stateIn mainframe c w r m) t) (d .areas)
+          ∙ ap (λ (y : Bool). cond y (holding (nextInOrder mainframe (stateIn mainframe c w r m) t)) (areas c w r m)) (sym fine)
+          ∙ sym (areas-by-test c w r m t)
+
+pub ruleset answering-laws = (order-checked, out-of-order, out-of-order-untouched, ready-when-fine, in-order-answered, in-order-after, needs)

@@ -1,0 +1,4 @@
+pub mod Promises
+pub mod Outcomes
+pub mod Needed
+pub mod Openings
