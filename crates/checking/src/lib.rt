@@ -9,6 +9,9 @@ ghost use Rattle.memory.specs.Needed.{Lent};
 ghost use Rattle.checking.specs.Areas.{areasInOrder};
 ghost use Rattle.checking.specs.Tests.{zeroAt, pagesOf, entryWithin, rowWithin, rowsHold, ownEntries, ownFits, appliedHold, intervalsHold, clocksHoldWith, copiesHold, mayBeDirty, dirtyHold, holderWithin, holdersHold, arrivedHold, dirtyOf, roomHolds, marksHoldWith, noticeHolds, diffHolds, recordHolds, unlike, noticePlace, recordsHoldWith, countsHold, areasHoldWith, areasHold};
 ghost use Rattle.checking.specs.Needed.{PlacesThere, RowsThere, OwnFit, ClocksThere, ClocksOne, IntervalsOne, WordsOne, MarksOne, MarksThere, SlotThere, SlotsThere, NoticeFits, NoticesFit, Blank, AreasThere};
+use clock::IntervalId;
+use clock::PageId;
+use clock::ProcessorId;
 use diff::check;
 use memory::clock_at;
 
@@ -399,23 +402,30 @@ fn marks_hold(
 }
 
 // Whether a record's numbers are those of a present processor and page and of an interval that was made.
-fn notice_holds(own: [u8; 8], processors: usize, pages: usize, p: usize, n: usize, g: usize) -> bool
+fn notice_holds(
+    own: [u8; 8],
+    processors: usize,
+    pages: usize,
+    p: ProcessorId,
+    n: IntervalId,
+    g: PageId,
+) -> bool
     requires { ⌜ processors ≤ 8 ⌝ }
-    ensures { λ r. ⌜ r ≡ noticeHolds own processors pages p n g ⌝ }
+    ensures { λ r. ⌜ r ≡ noticeHolds own processors pages (p .0) (n .0) (g .0) ⌝ }
 {
-    if p == 0 {
+    if p.0 == 0 {
         return false;
     }
-    if processors < p {
+    if processors < p.0 {
         return false;
     }
-    if pages <= g {
+    if pages <= g.0 {
         return false;
     }
-    if n == 0 {
+    if n.0 == 0 {
         return false;
     }
-    n <= wide(own[p - 1])
+    n.0 <= wide(own[p.0 - 1])
 }
 
 // Whether the diff of the slot at a place fits the slot and is legal.
@@ -442,9 +452,9 @@ fn record_holds(records: &[u8], own: [u8; 8], processors: usize, pages: usize, i
         own,
         processors,
         pages,
-        wide(records[at]),
-        wide(records[at + 1]),
-        wide(records[at + 2]),
+        ProcessorId(wide(records[at])),
+        IntervalId(wide(records[at + 1])),
+        PageId(wide(records[at + 2])),
     ) {
         return false;
     }
@@ -486,10 +496,10 @@ fn notice_place(records: &[u8], i: usize) -> usize
     ensures { λ r. ⌜ r < 4608 ⌝ }
 {
     let at = 135 * i;
-    let p = wide(records[at]);
-    let n = wide(records[at + 1]);
-    let g = wide(records[at + 2]);
-    512 * p + 8 * n + g
+    let p = ProcessorId(wide(records[at]));
+    let n = IntervalId(wide(records[at + 1]));
+    let g = PageId(wide(records[at + 2]));
+    512 * p.0 + 8 * n.0 + g.0
 }
 
 // Whether no two records that stand are of one processor, interval and page: each is marked in the table.

@@ -5,13 +5,13 @@ ghost use Prim.Native.Nat.{max};
 ghost use Rattle.clock.specs.Clocks.{joined, covered, entryOf, sumOf};
 
 // A processor, 1 to 8; 0 is nobody. Document 01 calls a processor a card.
-pub struct ProcessorId(pub u8);
+pub struct ProcessorId(pub usize);
 
 // An interval of one processor, 1 to 63.
-pub struct IntervalId(pub u8);
+pub struct IntervalId(pub usize);
 
 // A page, numbered from 0.
-pub struct PageId(pub u8);
+pub struct PageId(pub usize);
 
 // How many intervals of each processor are known: the entry of processor p is at place p - 1.
 pub struct Clock {
@@ -58,7 +58,7 @@ impl Clock {
         ensures { λ r. ⌜ r ≡ entryOf (self .entries) (processor .0) ⌝ }
     {
         let entries = self.entries;
-        let p = processor.0 as usize;
+        let p = processor.0;
         if p == 0 {
             return 0;
         }

@@ -33,18 +33,19 @@ use Rattle.closing.proofs.SlotBytes.{part-stored}
 pub words-row : (w : List ℕ) (row : ℕ) → length w ≡ 4096 → row < 128 → RowThere 32 w row
 words-row w row e h = record { within = omega arith }
 
-module _ (w r : List ℕ) (p g slot : ℕ) (there : SlotThere w r p g slot) where
+module _ (w r : List ℕ) (p i g slot : ℕ) (there : SlotThere w r p i g slot) where
   -- the page has its rows
   pub record-on-page : OnPage p g
   record-on-page = record { from = there .from; to = there .to; page = there .page }
 
   -- the pages are whole and the slot is
   pub record-fits : (old new : List ℕ) (twin copy : ℕ) → old ≡ rowOf 32 w twin → new ≡ rowOf 32 w copy → twin < 128 → copy < 128
-      → RecordFits p g old new (take (135 * slot + 135 - 135 * slot) (drop (135 * slot) r))
+      → RecordFits p i g old new (take (135 * slot + 135 - 135 * slot) (drop (135 * slot) r))
   record-fits old new twin copy eo en ht hc =
       let k : 135 * slot + 135 - 135 * slot ≡ 135 = omega arith in
       record {
         processor = there .to;
+        interval = there .interval;
         page = there .page;
         old-whole = ap length eo ∙ length-row 32 w twin (omega (arith, there .words));
         new-whole = ap length en ∙ length-row 32 w copy (omega (arith, there .words));
@@ -52,12 +53,12 @@ module _ (w r : List ℕ) (p g slot : ℕ) (there : SlotThere w r p g slot) wher
       }
 
   -- the slot put back has the bytes of the record
-  pub record-laid : (part old new : List ℕ) (i twin copy : ℕ)
+  pub record-laid : (part old new : List ℕ) (twin copy : ℕ)
       → part ≡ sets (take (135 * slot + 135 - 135 * slot) (drop (135 * slot) r)) 0 (slotBytes (recordOf p i g old new))
       → old ≡ rowOf 32 w twin → new ≡ rowOf 32 w copy → twin ≡ twinRow mainframe p g → copy ≡ copyRow mainframe p g → twin < 128 → copy < 128
       → take (135 * slot) r ++ (part ++ drop (135 * slot + 135 - 135 * slot) (drop (135 * slot) r)) ≡ sets r (135 * slot) (slotBytes (pageRecord p i g w))
   unfolding pageRecord recordOf slotBytes
-  record-laid part old new i twin copy e eo en et ec ht hc =
+  record-laid part old new twin copy e eo en et ec ht hc =
       let fits = record-fits old new twin copy eo en ht hc in
       let few : length (written old new) ≤ 131 = at-most-131-bytes old new (fits .old-whole) (fits .new-whole) in
       part-stored r part (slotBytes (recordOf p i g old new)) (135 * slot) (135 * slot + 135 - 135 * slot) (omega (arith, there .records, there .place)) (omega (arith, few)) e
@@ -102,26 +103,23 @@ module _ (c w r m : List ℕ) (p g : ℕ) (ready : Appendable c w r m p g) where
   pub append-place : 3 < length m
   append-place = omega (arith, ready .lent .marks)
 
-  -- the first free slot is there
-  pub append-slot : (slot : ℕ) → slot ≡ getD m 3 0 → SlotThere w r p g slot
-  append-slot slot e =
-      record {
-        words = ready .lent .words;
-        records = ready .lent .records;
-        from = ready .from;
-        to = ready .to;
-        page = ready .page;
-        place = omega (arith, e, ready .room);
-      }
-
   -- the number of records, one higher, fits its byte
   pub count-fits : Fits w8 (getD m 3 0 + 1)
   count-fits = omega (arith, ready .room)
 
   module _ (e : ℕ) (entry : OwnEntry c p e) where
-    -- numbers a little above the own entry fit a byte
-    pub interval-fits : (k : ℕ) → k ≤ 100 → Fits w8 (e + k)
-    interval-fits k h = omega (arith, entry .is w r m, ready .own-fits)
+    -- the first free slot is there, and numbers a little above the own entry fit a byte
+    pub append-slot : (slot x k : ℕ) → slot ≡ getD m 3 0 → x ≡ e → k ≤ 100 → SlotThere w r p (x + k) g slot
+    append-slot slot x k at is h =
+        record {
+          words = ready .lent .words;
+          records = ready .lent .records;
+          from = ready .from;
+          to = ready .to;
+          interval = omega (arith, is, entry .is w r m, ready .own-fits);
+          page = ready .page;
+          place = omega (arith, at, ready .room);
+        }
 
     record-is : pageRecord p (e + 1) g w ≡ newRecord (stateIn mainframe c w r m) p g
     unfolding pageRecord recordOf newRecord
@@ -161,9 +159,10 @@ module _ (c w r m : List ℕ) (p g : ℕ) (ready : Appendable c w r m p g) where
           ∙ (λ i. withRecords (stateIn mainframe c w r m) (record { standing = getD m 3 0 + 1; slots = new-slots i }))
 
     -- the record in its slot, counted, is the appended one
-    pub one-more : (r′ : List ℕ) (slot : ℕ) → r′ ≡ sets r (135 * slot) (slotBytes (pageRecord p (e + 1) g w)) → slot ≡ getD m 3 0
+    pub one-more : (r′ : List ℕ) (slot x : ℕ) → r′ ≡ sets r (135 * slot) (slotBytes (pageRecord p (x + 1) g w)) → x ≡ e → slot ≡ getD m 3 0
         → Holds c w r′ (set m 3 (getD m 3 0 + 1)) (oneMore (stateIn mainframe c w r m) p g)
-    one-more r′ slot laid at =
+    one-more r′ slot x laid′ is at =
+        let laid : r′ ≡ sets r (135 * slot) (slotBytes (pageRecord p (e + 1) g w)) = rw is at laid′ in
         record {
           lent =
               record {
@@ -177,4 +176,4 @@ module _ (c w r m : List ℕ) (p g : ℕ) (ready : Appendable c w r m p g) where
 
 pub ruleset lay-laws = (words-row, record-on-page, record-fits, record-laid, needs)
 
-pub ruleset append-laws = (own-place, own-is, append-clocks, append-place, append-slot, count-fits, interval-fits, one-more, needs)
+pub ruleset append-laws = (own-place, own-is, append-clocks, append-place, append-slot, count-fits, one-more, needs)

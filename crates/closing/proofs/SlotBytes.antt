@@ -99,7 +99,7 @@ set-before [] l i j a h = refl
 set-before (v ∷ vs) l i j a h =
     set-before vs (set l i v) (suc i) j a (omega arith) ∙ ap (λ (k : List ℕ). sets k (suc i) vs) (set-comm l i j v a (λ e. omega (arith, e, h)))
 
-module _ (p g : ℕ) (old new slot : List ℕ) (fits : RecordFits p g old new slot) where
+module _ (p i g : ℕ) (old new slot : List ℕ) (fits : RecordFits p i g old new slot) where
   -- what the diff needs
   pub slot-fits : SlotFits old new slot
   slot-fits = record { old-whole = fits .old-whole; new-whole = fits .new-whole; room = fits .room }
@@ -117,14 +117,15 @@ module _ (p g : ℕ) (old new slot : List ℕ) (fits : RecordFits p g old new sl
   slot-place-3 out k a b d e h = omega (arith, slot-place-2 out k a b e h, length-set (set (set out 0 a) 1 b) 2 d)
 
   -- numbers and diff together are the bytes of the record
-  pub slot-filled : (i n : ℕ) (out : List ℕ) → n ≡ length (written old new) → out ≡ sets slot 4 (written old new)
-      → set (set (set (set out 0 (p % 256)) 1 i) 2 (g % 256)) 3 n ≡ sets slot 0 (slotBytes (recordOf p i g old new))
+  pub slot-filled : (n : ℕ) (out : List ℕ) → n ≡ length (written old new) → out ≡ sets slot 4 (written old new)
+      → set (set (set (set out 0 (p % 256)) 1 (i % 256)) 2 (g % 256)) 3 n ≡ sets slot 0 (slotBytes (recordOf p i g old new))
   unfolding slotBytes recordOf
-  slot-filled i n out l e =
+  slot-filled n out l e =
       let d : List ℕ = written old new in
       let processor : p % 256 ≡ p = omega (arith, fits .processor) in
+      let interval : i % 256 ≡ i = omega (arith, fits .interval) in
       let page : g % 256 ≡ g = omega (arith, fits .page) in
-      rw (e, processor, page, l)
+      rw (e, processor, interval, page, l)
       (ap (λ (x : List ℕ). set (set (set x 1 i) 2 g) 3 (length d)) (set-before d slot 4 0 p (omega arith))
       ∙ ap (λ (x : List ℕ). set (set x 2 g) 3 (length d)) (set-before d (set slot 0 p) 4 1 i (omega arith))
       ∙ ap (λ (x : List ℕ). set x 3 (length d)) (set-before d (set (set slot 0 p) 1 i) 4 2 g (omega arith))

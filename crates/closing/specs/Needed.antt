@@ -44,18 +44,20 @@ pub record PageThere (w m : List ℕ) (p g : ℕ) : Type 0 where
   pub to : p ≤ 8
   pub page : g < 8
 
--- page g of p and a slot, in areas of words and records of the right sizes
-pub record SlotThere (w r : List ℕ) (p g slot : ℕ) : Type 0 where
+-- page g of p, an interval number of one byte and a slot, in areas of words and records of the right sizes
+pub record SlotThere (w r : List ℕ) (p i g slot : ℕ) : Type 0 where
   pub words : length w ≡ 4096
   pub records : length r ≡ 17280
   pub from : 1 ≤ p
   pub to : p ≤ 8
+  pub interval : i < 256
   pub page : g < 8
   pub place : slot < 128
 
--- two whole pages, a slot for their diff, and numbers of a processor and a page
-pub record RecordFits (p g : ℕ) (old new slot : List ℕ) : Type 0 where
+-- two whole pages, a slot for their diff, and numbers of a processor, an interval and a page
+pub record RecordFits (p i g : ℕ) (old new slot : List ℕ) : Type 0 where
   pub processor : p ≤ 8
+  pub interval : i < 256
   pub page : g < 8
   pub old-whole : length old ≡ 32
   pub new-whole : length new ≡ 32

@@ -14,6 +14,9 @@ ghost use Rattle.memory.specs.Needed.{RowThere, ClocksOf};
 ghost use Rattle.closing.specs.Parts.{recordOf, pageRecord, oneMore, pageRecorded, allRecorded, Holds, OwnEntry, PageChanged, AnyChanged, Ticked};
 ghost use Rattle.closing.specs.Needed.{Closable, Recordable, Appendable, PageThere, SlotThere, RecordFits, SlotFits, DiffFits, Raisable, Tickable, MarksOf};
 use clock::Clock;
+use clock::IntervalId;
+use clock::PageId;
+use clock::ProcessorId;
 use diff::Written;
 use memory::clear;
 use memory::clock_at;
@@ -24,9 +27,9 @@ use memory::put_clock;
 use memory::twin_row;
 
 // Closes the interval of a processor: for each page that changed one record, if there is one the clock of the interval, and clean pages.
-pub fn close(p: usize, clocks: &mut [u8], words: &[u32], records: &mut [u8], marks: &mut [u8])
-    requires { ⌜ Closable (now clocks) (now words) (now records) (now marks) p ⌝ }
-    ensures { λ _. ⌜ Holds (now (clocks .exit)) (now (words .entry)) (now (records .exit)) (now (marks .exit)) (closed (stateIn mainframe (now (clocks .entry)) (now (words .entry)) (now (records .entry)) (now (marks .entry))) p) ⌝ }
+pub fn close(p: ProcessorId, clocks: &mut [u8], words: &[u32], records: &mut [u8], marks: &mut [u8])
+    requires { ⌜ Closable (now clocks) (now words) (now records) (now marks) (p .0) ⌝ }
+    ensures { λ _. ⌜ Holds (now (clocks .exit)) (now (words .entry)) (now (records .exit)) (now (marks .exit)) (closed (stateIn mainframe (now (clocks .entry)) (now (words .entry)) (now (records .entry)) (now (marks .entry))) (p .0)) ⌝ }
 {
     let any = record_pages(p, clocks, words, records, marks);
     clean_pages(p, marks);
@@ -37,21 +40,21 @@ pub fn close(p: usize, clocks: &mut [u8], words: &[u32], records: &mut [u8], mar
 
 // The records of all pages that changed, upwards, and whether any did.
 fn record_pages(
-    p: usize,
+    p: ProcessorId,
     clocks: &[u8],
     words: &[u32],
     records: &mut [u8],
     marks: &mut [u8],
 ) -> bool
-    requires { ⌜ Closable (now clocks) (now words) (now records) (now marks) p ⌝ }
-    ensures { λ r. ⌜ AnyChanged (stateIn mainframe (now (clocks .entry)) (now (words .entry)) (now (records .entry)) (now (marks .entry))) p r ⌝ }
-    ensures { λ r. ⌜ Holds (now (clocks .entry)) (now (words .entry)) (now (records .exit)) (now (marks .exit)) (allRecorded (stateIn mainframe (now (clocks .entry)) (now (words .entry)) (now (records .entry)) (now (marks .entry))) p) ⌝ }
+    requires { ⌜ Closable (now clocks) (now words) (now records) (now marks) (p .0) ⌝ }
+    ensures { λ r. ⌜ AnyChanged (stateIn mainframe (now (clocks .entry)) (now (words .entry)) (now (records .entry)) (now (marks .entry))) (p .0) r ⌝ }
+    ensures { λ r. ⌜ Holds (now (clocks .entry)) (now (words .entry)) (now (records .exit)) (now (marks .exit)) (allRecorded (stateIn mainframe (now (clocks .entry)) (now (words .entry)) (now (records .entry)) (now (marks .entry))) (p .0)) ⌝ }
 {
     let n = wide(marks[1]);
     let mut any = false;
     let mut g: usize = 0;
     while g < n {
-        if record_page(p, g, clocks, words, records, marks) {
+        if record_page(p, PageId(g), clocks, words, records, marks) {
             any = true;
             g = g + 1;
         } else {
@@ -63,16 +66,16 @@ fn record_pages(
 
 // The record of a page, if the page changed, and whether it did.
 fn record_page(
-    p: usize,
-    g: usize,
+    p: ProcessorId,
+    g: PageId,
     clocks: &[u8],
     words: &[u32],
     records: &mut [u8],
     marks: &mut [u8],
 ) -> bool
-    requires { ⌜ Recordable (now clocks) (now words) (now records) (now marks) p g ⌝ }
-    ensures { λ r. ⌜ PageChanged (now (words .entry)) (now (marks .entry)) p g r ⌝ }
-    ensures { λ r. ⌜ Holds (now (clocks .entry)) (now (words .entry)) (now (records .exit)) (now (marks .exit)) (pageRecorded (stateIn mainframe (now (clocks .entry)) (now (words .entry)) (now (records .entry)) (now (marks .entry))) p g) ⌝ }
+    requires { ⌜ Recordable (now clocks) (now words) (now records) (now marks) (p .0) (g .0) ⌝ }
+    ensures { λ r. ⌜ PageChanged (now (words .entry)) (now (marks .entry)) (p .0) (g .0) r ⌝ }
+    ensures { λ r. ⌜ Holds (now (clocks .entry)) (now (words .entry)) (now (records .exit)) (now (marks .exit)) (pageRecorded (stateIn mainframe (now (clocks .entry)) (now (words .entry)) (now (records .entry)) (now (marks .entry))) (p .0) (g .0)) ⌝ }
 {
     if page_changed(p, g, words, marks) {
         append(p, g, clocks, words, records, marks);
@@ -82,9 +85,9 @@ fn record_page(
 }
 
 // Whether a page of a processor is dirty and differs from its twin.
-fn page_changed(p: usize, g: usize, words: &[u32], marks: &[u8]) -> bool
-    requires { ⌜ PageThere (now words) (now marks) p g ⌝ }
-    ensures { λ r. ⌜ PageChanged (now (words .entry)) (now (marks .entry)) p g r ⌝ }
+fn page_changed(p: ProcessorId, g: PageId, words: &[u32], marks: &[u8]) -> bool
+    requires { ⌜ PageThere (now words) (now marks) (p .0) (g .0) ⌝ }
+    ensures { λ r. ⌜ PageChanged (now (words .entry)) (now (marks .entry)) (p .0) (g .0) r ⌝ }
 {
     let at = dirty_place(p, g);
     if marks[at] == 0 {
@@ -112,20 +115,34 @@ fn differs(old: &[u32], new: &[u32]) -> bool
 }
 
 // One record more: that of a page that changed, in the first slot that is free.
-fn append(p: usize, g: usize, clocks: &[u8], words: &[u32], records: &mut [u8], marks: &mut [u8])
-    requires { ⌜ Appendable (now clocks) (now words) (now records) (now marks) p g ⌝ }
-    ensures { λ _. ⌜ Holds (now (clocks .entry)) (now (words .entry)) (now (records .exit)) (now (marks .exit)) (oneMore (stateIn mainframe (now (clocks .entry)) (now (words .entry)) (now (records .entry)) (now (marks .entry))) p g) ⌝ }
+fn append(
+    p: ProcessorId,
+    g: PageId,
+    clocks: &[u8],
+    words: &[u32],
+    records: &mut [u8],
+    marks: &mut [u8],
+)
+    requires { ⌜ Appendable (now clocks) (now words) (now records) (now marks) (p .0) (g .0) ⌝ }
+    ensures { λ _. ⌜ Holds (now (clocks .entry)) (now (words .entry)) (now (records .exit)) (now (marks .exit)) (oneMore (stateIn mainframe (now (clocks .entry)) (now (words .entry)) (now (records .entry)) (now (marks .entry))) (p .0) (g .0)) ⌝ }
 {
-    let interval = own_entry(clocks, p) + 1;
+    let interval = IntervalId(wide(own_entry(clocks, p)) + 1);
     let count = marks[3];
     lay_record(p, interval, g, words, records, wide(count));
     marks[3] = count + 1;
 }
 
 // The record of a page in a slot: what the processor's copy differs in from its twin.
-fn lay_record(p: usize, interval: u8, g: usize, words: &[u32], records: &mut [u8], slot: usize)
-    requires { ⌜ SlotThere (now words) (now records) p g slot ⌝ }
-    ensures { λ _. ⌜ now (records .exit) ≡ sets (now (records .entry)) (135 * slot) (slotBytes (pageRecord p interval g (now (words .entry)))) ⌝ }
+fn lay_record(
+    p: ProcessorId,
+    interval: IntervalId,
+    g: PageId,
+    words: &[u32],
+    records: &mut [u8],
+    slot: usize,
+)
+    requires { ⌜ SlotThere (now words) (now records) (p .0) (interval .0) (g .0) slot ⌝ }
+    ensures { λ _. ⌜ now (records .exit) ≡ sets (now (records .entry)) (135 * slot) (slotBytes (pageRecord (p .0) (interval .0) (g .0) (now (words .entry)))) ⌝ }
 {
     let old = page(words, twin_row(p, g));
     let new = page(words, copy_row(p, g));
@@ -135,14 +152,21 @@ fn lay_record(p: usize, interval: u8, g: usize, words: &[u32], records: &mut [u8
 }
 
 // The bytes of a record in its slot; those behind it keep what they hold.
-fn fill_slot(p: usize, interval: u8, g: usize, old: &[u32], new: &[u32], slot: &mut [u8])
-    requires { ⌜ RecordFits p g (now old) (now new) (now slot) ⌝ }
-    ensures { λ _. ⌜ now (slot .exit) ≡ sets (now (slot .entry)) 0 (slotBytes (recordOf p interval g (now (old .entry)) (now (new .entry)))) ⌝ }
+fn fill_slot(
+    p: ProcessorId,
+    interval: IntervalId,
+    g: PageId,
+    old: &[u32],
+    new: &[u32],
+    slot: &mut [u8],
+)
+    requires { ⌜ RecordFits (p .0) (interval .0) (g .0) (now old) (now new) (now slot) ⌝ }
+    ensures { λ _. ⌜ now (slot .exit) ≡ sets (now (slot .entry)) 0 (slotBytes (recordOf (p .0) (interval .0) (g .0) (now (old .entry)) (now (new .entry)))) ⌝ }
 {
     let n = lay_diff_behind(old, new, slot);
-    slot[0] = (p % 256) as u8;
-    slot[1] = interval;
-    slot[2] = (g % 256) as u8;
+    slot[0] = (p.0 % 256) as u8;
+    slot[1] = (interval.0 % 256) as u8;
+    slot[2] = (g.0 % 256) as u8;
     slot[3] = n;
 }
 
@@ -178,43 +202,44 @@ fn page(words: &[u32], row: usize) -> &[u32]
 }
 
 // How many intervals of its own a processor has made.
-fn own_entry(clocks: &[u8], p: usize) -> u8
-    requires { ⌜ ClocksOf (now clocks) p ⌝ }
-    ensures { λ r. ⌜ OwnEntry (now (clocks .entry)) p r ⌝ }
+fn own_entry(clocks: &[u8], p: ProcessorId) -> u8
+    requires { ⌜ ClocksOf (now clocks) (p .0) ⌝ }
+    ensures { λ r. ⌜ OwnEntry (now (clocks .entry)) (p .0) r ⌝ }
 {
-    clocks[9 * p - 1]
+    clocks[9 * p.0 - 1]
 }
 
 // Every page of a processor becomes clean.
-fn clean_pages(p: usize, marks: &mut [u8])
-    requires { ⌜ MarksOf (now marks) p ⌝ }
-    ensures { λ _. ⌜ now (marks .exit) ≡ sets (now (marks .entry)) (dirtyPlace mainframe p 0) (replicate 8 0) ⌝ }
+fn clean_pages(p: ProcessorId, marks: &mut [u8])
+    requires { ⌜ MarksOf (now marks) (p .0) ⌝ }
+    ensures { λ _. ⌜ now (marks .exit) ≡ sets (now (marks .entry)) (dirtyPlace mainframe (p .0) 0) (replicate 8 0) ⌝ }
 {
-    let from = dirty_place(p, 0);
+    let from = dirty_place(p, PageId(0));
     let to = from + 8;
     clear(&mut marks[from..to]);
 }
 
 // The own entry of a processor rises by 1, and the interval keeps the processor's clock.
-fn tick(p: usize, clocks: &mut [u8])
-    requires { ⌜ Tickable (now clocks) p ⌝ }
-    ensures { λ _. ⌜ Ticked (now (clocks .entry)) (now (clocks .exit)) p ⌝ }
+fn tick(p: ProcessorId, clocks: &mut [u8])
+    requires { ⌜ Tickable (now clocks) (p .0) ⌝ }
+    ensures { λ _. ⌜ Ticked (now (clocks .entry)) (now (clocks .exit)) (p .0) ⌝ }
 {
-    let interval = wide(own_entry(clocks, p)) + 1;
-    let row = interval_row(p, interval);
-    let before = clock_at(clocks, p);
+    let made = wide(own_entry(clocks, p));
+    let row = interval_row(p, IntervalId(made + 1));
+    let before = clock_at(clocks, p.0);
     let after = raise(before, p);
-    put_clock(clocks, p, after);
+    put_clock(clocks, p.0, after);
     put_clock(clocks, row, after);
 }
 
 // A clock with the entry of a processor one higher.
-fn raise(clock: Clock, p: usize) -> Clock
-    requires { ⌜ Raisable (clock .entries) p ⌝ }
-    ensures { λ r. ⌜ r .entries ≡ raised (clock .entries) p ⌝ }
+fn raise(clock: Clock, p: ProcessorId) -> Clock
+    requires { ⌜ Raisable (clock .entries) (p .0) ⌝ }
+    ensures { λ r. ⌜ r .entries ≡ raised (clock .entries) (p .0) ⌝ }
 {
     let mut entries = clock.entries;
-    entries[p - 1] = entries[p - 1] + 1;
+    let at = p.0 - 1;
+    entries[at] = entries[at] + 1;
     Clock { entries }
 }
 

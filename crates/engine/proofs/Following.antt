@@ -70,7 +70,8 @@ module _ (bs c w r m : List ℕ) (e : areas c w r m ≡ holding (opened mainfram
             ∙ opened-state bs;
       }
 
-accepted-opening : (bs : List ℕ) (a : Areas) → openRefusal bs a ≡ 0 → openingRefusal mainframe (openingOf bs) ≡ 0
+-- an accepted opening is one that the rules accept
+pub accepted-opening : (bs : List ℕ) (a : Areas) → openRefusal bs a ≡ 0 → openingRefusal mainframe (openingOf bs) ≡ 0
 unfolding openRefusal
 accepted-opening bs a e = go (rightSizes a) (eqb (length bs) 8) (openingRefusal mainframe (openingOf bs)) e
   where

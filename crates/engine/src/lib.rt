@@ -13,6 +13,7 @@ ghost use Rattle.engine.specs.Promises.{areas, stepOf, answerOf, areasAf
 ghost use Rattle.engine.specs.Outcomes.{outcomeOf, OrderIs, RefusalIs, DoneAs, SteppedAs};
 ghost use Rattle.engine.specs.Openings.{freshCopy, freshWords, openedMarks, Openable, MarksOpenable, SizesAre, ZerosAre, CountsAre, OpeningIs, HoldsOpened};
 ghost use Rattle.engine.specs.Needed.{Acting, Accessing, Locking, Meeting};
+use clock::ProcessorId;
 use memory::clear;
 
 // What a step answers: its value and count where it was done, else its refusal.
@@ -86,7 +87,7 @@ pub fn step_in_order(
     }
     act(
         kind,
-        processor as usize,
+        ProcessorId(processor as usize),
         object as usize,
         value,
         clocks,
@@ -125,7 +126,7 @@ fn refusal_of(
 // What an accepted step does, by its kind.
 fn act(
     kind: u32,
-    p: usize,
+    p: ProcessorId,
     object: usize,
     value: u32,
     clocks: &mut [u8],
@@ -133,8 +134,8 @@ fn act(
     records: &mut [u8],
     marks: &mut [u8],
 ) -> Outcome
-    requires { ⌜ Acting (now clocks) (now words) (now records) (now marks) kind p object value ⌝ }
-    ensures { λ r. ⌜ DoneAs (effect mainframe (stateIn mainframe (now (clocks .entry)) (now (words .entry)) (now (records .entry)) (now (marks .entry))) p (actionOf (stepOf kind p object value))) r (now (clocks .exit)) (now (words .exit)) (now (records .exit)) (now (marks .exit)) ⌝ }
+    requires { ⌜ Acting (now clocks) (now words) (now records) (now marks) kind (p .0) object value ⌝ }
+    ensures { λ r. ⌜ DoneAs (effect mainframe (stateIn mainframe (now (clocks .entry)) (now (words .entry)) (now (records .entry)) (now (marks .entry))) (p .0) (actionOf (stepOf kind (p .0) object value))) r (now (clocks .exit)) (now (words .exit)) (now (records .exit)) (now (marks .exit)) ⌝ }
 {
     if kind <= 2 {
         return access(kind, p, object, value, clocks, words, records, marks);
@@ -148,7 +149,7 @@ fn act(
 // Kinds 1 and 2: read and write.
 fn access(
     kind: u32,
-    p: usize,
+    p: ProcessorId,
     object: usize,
     value: u32,
     clocks: &mut [u8],
@@ -156,8 +157,8 @@ fn access(
     records: &[u8],
     marks: &mut [u8],
 ) -> Outcome
-    requires { ⌜ Accessing (now clocks) (now words) (now records) (now marks) kind p object value ⌝ }
-    ensures { λ r. ⌜ DoneAs (effect mainframe (stateIn mainframe (now (clocks .entry)) (now (words .entry)) (now (records .entry)) (now (marks .entry))) p (actionOf (stepOf kind p object value))) r (now (clocks .exit)) (now (words .exit)) (now (records .entry)) (now (marks .exit)) ⌝ }
+    requires { ⌜ Accessing (now clocks) (now words) (now records) (now marks) kind (p .0) object value ⌝ }
+    ensures { λ r. ⌜ DoneAs (effect mainframe (stateIn mainframe (now (clocks .entry)) (now (words .entry)) (now (records .entry)) (now (marks .entry))) (p .0) (actionOf (stepOf kind (p .0) object value))) r (now (clocks .exit)) (now (words .exit)) (now (records .entry)) (now (marks .exit)) ⌝ }
 {
     if kind == 1 {
         let answered = steps::read_word(p, object, clocks, words, records, marks);
@@ -173,7 +174,7 @@ fn access(
 // Kinds 3 and 4: acquire and release.
 fn lock(
     kind: u32,
-    p: usize,
+    p: ProcessorId,
     object: usize,
     value: u32,
     clocks: &mut [u8],
@@ -181,8 +182,8 @@ fn lock(
     records: &mut [u8],
     marks: &mut [u8],
 ) -> Outcome
-    requires { ⌜ Locking (now clocks) (now words) (now records) (now marks) kind p object value ⌝ }
-    ensures { λ r. ⌜ DoneAs (effect mainframe (stateIn mainframe (now (clocks .entry)) (now (words .entry)) (now (records .entry)) (now (marks .entry))) p (actionOf (stepOf kind p object value))) r (now (clocks .exit)) (now (words .entry)) (now (records .exit)) (now (marks .exit)) ⌝ }
+    requires { ⌜ Locking (now clocks) (now words) (now records) (now marks) kind (p .0) object value ⌝ }
+    ensures { λ r. ⌜ DoneAs (effect mainframe (stateIn mainframe (now (clocks .entry)) (now (words .entry)) (now (records .entry)) (now (marks .entry))) (p .0) (actionOf (stepOf kind (p .0) object value))) r (now (clocks .exit)) (now (words .entry)) (now (records .exit)) (now (marks .exit)) ⌝ }
 {
     if kind == 3 {
         steps::acquire(p, object, clocks, words, records, marks);
@@ -195,7 +196,7 @@ fn lock(
 // Kinds 5 and 6: arrive and want collection.
 fn meet(
     kind: u32,
-    p: usize,
+    p: ProcessorId,
     object: usize,
     value: u32,
     clocks: &mut [u8],
@@ -203,8 +204,8 @@ fn meet(
     records: &mut [u8],
     marks: &mut [u8],
 ) -> Outcome
-    requires { ⌜ Meeting (now clocks) (now words) (now records) (now marks) kind p object value ⌝ }
-    ensures { λ r. ⌜ DoneAs (effect mainframe (stateIn mainframe (now (clocks .entry)) (now (words .entry)) (now (records .entry)) (now (marks .entry))) p (actionOf (stepOf kind p object value))) r (now (clocks .exit)) (now (words .exit)) (now (records .exit)) (now (marks .exit)) ⌝ }
+    requires { ⌜ Meeting (now clocks) (now words) (now records) (now marks) kind (p .0) object value ⌝ }
+    ensures { λ r. ⌜ DoneAs (effect mainframe (stateIn mainframe (now (clocks .entry)) (now (words .entry)) (now (records .entry)) (now (marks .entry))) (p .0) (actionOf (stepOf kind (p .0) object value))) r (now (clocks .exit)) (now (words .exit)) (now (records .exit)) (now (marks .exit)) ⌝ }
 {
     if kind == 5 {
         let count = steps::arrive(p, clocks, words, records, marks);

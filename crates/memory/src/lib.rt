@@ -10,6 +10,9 @@ ghost use Rattle.memory.specs.Layout.{rowOf, tabulate, joinRows};
 ghost use Rattle.memory.specs.Areas.{appliedRow, intervalRow, copyRow, twinRow, dirtyPlace};
 ghost use Rattle.memory.specs.Needed.{RowThere, OnPage, MadeInterval, ClocksOf};
 use clock::Clock;
+use clock::IntervalId;
+use clock::PageId;
+use clock::ProcessorId;
 
 // The clock in a row of eight entries.
 pub fn clock_at(clocks: &[u8], row: usize) -> Clock
@@ -90,59 +93,59 @@ pub fn clear(area: &mut [u8])
 }
 
 // The row of the clock applied to a page of a processor.
-pub fn applied_row(p: usize, g: usize) -> usize
-    requires { ⌜ OnPage p g ⌝ }
-    ensures { λ r. ⌜ r ≡ appliedRow mainframe p g ⌝ }
+pub fn applied_row(p: ProcessorId, g: PageId) -> usize
+    requires { ⌜ OnPage (p .0) (g .0) ⌝ }
+    ensures { λ r. ⌜ r ≡ appliedRow mainframe (p .0) (g .0) ⌝ }
     ensures { λ r. ⌜ r < 593 ⌝ }
 {
-    25 + 8 * (p - 1) + g
+    25 + 8 * (p.0 - 1) + g.0
 }
 
 // The row of the clock that an interval of a processor keeps.
-pub fn interval_row(p: usize, i: usize) -> usize
-    requires { ⌜ MadeInterval p i ⌝ }
-    ensures { λ r. ⌜ r ≡ intervalRow mainframe p i ⌝ }
+pub fn interval_row(p: ProcessorId, i: IntervalId) -> usize
+    requires { ⌜ MadeInterval (p .0) (i .0) ⌝ }
+    ensures { λ r. ⌜ r ≡ intervalRow mainframe (p .0) (i .0) ⌝ }
     ensures { λ r. ⌜ r < 593 ⌝ }
 {
-    89 + 63 * (p - 1) + (i - 1)
+    89 + 63 * (p.0 - 1) + (i.0 - 1)
 }
 
 // The row of a processor's copy of a page.
-pub fn copy_row(p: usize, g: usize) -> usize
-    requires { ⌜ OnPage p g ⌝ }
-    ensures { λ r. ⌜ r ≡ copyRow mainframe p g ⌝ }
+pub fn copy_row(p: ProcessorId, g: PageId) -> usize
+    requires { ⌜ OnPage (p .0) (g .0) ⌝ }
+    ensures { λ r. ⌜ r ≡ copyRow mainframe (p .0) (g .0) ⌝ }
     ensures { λ r. ⌜ r < 128 ⌝ }
 {
-    8 * (p - 1) + g
+    8 * (p.0 - 1) + g.0
 }
 
 // The row of a processor's twin of a page.
-pub fn twin_row(p: usize, g: usize) -> usize
-    requires { ⌜ OnPage p g ⌝ }
-    ensures { λ r. ⌜ r ≡ twinRow mainframe p g ⌝ }
+pub fn twin_row(p: ProcessorId, g: PageId) -> usize
+    requires { ⌜ OnPage (p .0) (g .0) ⌝ }
+    ensures { λ r. ⌜ r ≡ twinRow mainframe (p .0) (g .0) ⌝ }
     ensures { λ r. ⌜ r < 128 ⌝ }
 {
-    64 + 8 * (p - 1) + g
+    64 + 8 * (p.0 - 1) + g.0
 }
 
 // The place of the mark that says whether a processor's copy of a page is dirty.
-pub fn dirty_place(p: usize, g: usize) -> usize
-    requires { ⌜ OnPage p g ⌝ }
-    ensures { λ r. ⌜ r ≡ dirtyPlace mainframe p g ⌝ }
+pub fn dirty_place(p: ProcessorId, g: PageId) -> usize
+    requires { ⌜ OnPage (p .0) (g .0) ⌝ }
+    ensures { λ r. ⌜ r ≡ dirtyPlace mainframe (p .0) (g .0) ⌝ }
     ensures { λ r. ⌜ r < 93 ⌝ }
 {
-    29 + 8 * (p - 1) + g
+    29 + 8 * (p.0 - 1) + g.0
 }
 
 // The clocks applied to the pages of a processor, a row for each page.
-pub fn applied_at(clocks: &[u8], p: usize) -> [[u8; 8]; 8]
-    requires { ⌜ ClocksOf (now clocks) p ⌝ }
-    ensures { λ r. ⌜ r ≡ tabulate 8 (λ g. rowOf 8 (now (clocks .entry)) (appliedRow mainframe p g)) ⌝ }
+pub fn applied_at(clocks: &[u8], p: ProcessorId) -> [[u8; 8]; 8]
+    requires { ⌜ ClocksOf (now clocks) (p .0) ⌝ }
+    ensures { λ r. ⌜ r ≡ tabulate 8 (λ g. rowOf 8 (now (clocks .entry)) (appliedRow mainframe (p .0) g)) ⌝ }
 {
     let mut rows = [[0u8; 8]; 8];
     let mut g: usize = 0;
     while g < 8 {
-        let clock = clock_at(clocks, applied_row(p, g));
+        let clock = clock_at(clocks, applied_row(p, PageId(g)));
         let row = clock.entries;
         rows[g] = row;
         g = g + 1;
@@ -151,23 +154,25 @@ pub fn applied_at(clocks: &[u8], p: usize) -> [[u8; 8]; 8]
 }
 
 // The clocks applied to the pages of a processor, laid into their rows, which lie one behind the other.
-pub fn put_applied(clocks: &mut [u8], p: usize, rows: [[u8; 8]; 8])
-    requires { ⌜ ClocksOf (now clocks) p ⌝ }
-    ensures { λ _. ⌜ now (clocks .exit) ≡ sets (now (clocks .entry)) (8 * appliedRow mainframe p 0) (joinRows rows) ⌝ }
+pub fn put_applied(clocks: &mut [u8], p: ProcessorId, rows: [[u8; 8]; 8])
+    requires { ⌜ ClocksOf (now clocks) (p .0) ⌝ }
+    ensures { λ _. ⌜ now (clocks .exit) ≡ sets (now (clocks .entry)) (8 * appliedRow mainframe (p .0) 0) (joinRows rows) ⌝ }
 {
     let mut g: usize = 0;
     while g < 8 {
-        put_clock(clocks, applied_row(p, g), applied_clock(rows, g));
+        let page = PageId(g);
+        put_clock(clocks, applied_row(p, page), applied_clock(rows, page));
         g = g + 1;
     }
 }
 
 // The clock of one page out of those of all pages.
-fn applied_clock(rows: [[u8; 8]; 8], g: usize) -> Clock
-    requires { ⌜ g < 8 ⌝ }
-    ensures { λ r. ⌜ r .entries ≡ getD rows g [] ⌝ }
+fn applied_clock(rows: [[u8; 8]; 8], g: PageId) -> Clock
+    requires { ⌜ g .0 < 8 ⌝ }
+    ensures { λ r. ⌜ r .entries ≡ getD rows (g .0) [] ⌝ }
     ensures { λ r. ⌜ length (r .entries) ≡ 8 ⌝ }
 {
-    let entries = rows[g];
+    let at = g.0;
+    let entries = rows[at];
     Clock { entries }
 }

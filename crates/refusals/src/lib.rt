@@ -11,6 +11,7 @@ ghost use Rattle.memory.specs.Areas.{stateIn};
 ghost use Rattle.memory.specs.Needed.{ClocksOf};
 ghost use Rattle.refusals.specs.Parts.{stepOf, seen, fieldsFit, valueFits, refusalOfKind, refusalOfFields, refusalOfKnown, dirtyPagesOf, recordsToCome};
 ghost use Rattle.refusals.specs.Needed.{Ready, Shown, ShownKind, Counted, KnownStep, FittingStep, KnownKind, MarkOf, LockThere, PagesOf, PageOf, WriteOf};
+use clock::PageId;
 use clock::ProcessorId;
 use memory::clock_at;
 use memory::dirty_place;
@@ -31,7 +32,7 @@ pub fn refusal(
 {
     refusal_of_step(
         kind,
-        processor as usize,
+        ProcessorId(processor as usize),
         object as usize,
         value,
         clocks,
@@ -42,14 +43,14 @@ pub fn refusal(
 // The same from clocks and marks alone: row 3, then the others.
 fn refusal_of_step(
     kind: u32,
-    processor: usize,
+    processor: ProcessorId,
     object: usize,
     value: u32,
     clocks: &[u8],
     marks: &[u8],
 ) -> u8
     requires { ⌜ Shown (now clocks) (now marks) ⌝ }
-    ensures { λ r. ⌜ r ≡ refusalInOrder mainframe (seen (now (clocks .entry)) (now (marks .entry))) (stepOf kind processor object value) ⌝ }
+    ensures { λ r. ⌜ r ≡ refusalInOrder mainframe (seen (now (clocks .entry)) (now (marks .entry))) (stepOf kind (processor .0) object value) ⌝ }
 {
     if kind == 0 {
         return 3;
@@ -63,14 +64,14 @@ fn refusal_of_step(
 // Rows 4 to 10, for a known kind.
 fn refusal_of_known(
     kind: u32,
-    processor: usize,
+    processor: ProcessorId,
     object: usize,
     value: u32,
     clocks: &[u8],
     marks: &[u8],
 ) -> u8
     requires { ⌜ ShownKind (now clocks) (now marks) kind ⌝ }
-    ensures { λ r. ⌜ r ≡ refusalOfKnown (seen (now (clocks .entry)) (now (marks .entry))) kind processor object value ⌝ }
+    ensures { λ r. ⌜ r ≡ refusalOfKnown (seen (now (clocks .entry)) (now (marks .entry))) kind (processor .0) object value ⌝ }
 {
     if !is_present(processor, marks) {
         return 4;
@@ -79,27 +80,27 @@ fn refusal_of_known(
 }
 
 // Row 4: whether a processor is one of those that the opening gave.
-fn is_present(processor: usize, marks: &[u8]) -> bool
+fn is_present(processor: ProcessorId, marks: &[u8]) -> bool
     requires { ⌜ Counted (now marks) ⌝ }
-    ensures { λ r. ⌜ r ≡ present (seen [] (now (marks .entry))) processor ⌝ }
+    ensures { λ r. ⌜ r ≡ present (seen [] (now (marks .entry))) (processor .0) ⌝ }
 {
-    if processor == 0 {
+    if processor.0 == 0 {
         return false;
     }
-    processor <= mark(marks, 0)
+    processor.0 <= mark(marks, 0)
 }
 
 // Rows 5 to 10, for a known kind and a present processor.
 fn refusal_of_fields(
     kind: u32,
-    processor: usize,
+    processor: ProcessorId,
     object: usize,
     value: u32,
     clocks: &[u8],
     marks: &[u8],
 ) -> u8
-    requires { ⌜ KnownStep (now clocks) (now marks) kind processor ⌝ }
-    ensures { λ r. ⌜ r ≡ refusalOfFields (seen (now (clocks .entry)) (now (marks .entry))) kind processor object value ⌝ }
+    requires { ⌜ KnownStep (now clocks) (now marks) kind (processor .0) ⌝ }
+    ensures { λ r. ⌜ r ≡ refusalOfFields (seen (now (clocks .entry)) (now (marks .entry))) kind (processor .0) object value ⌝ }
 {
     if !fields_fit(kind, object, value, marks) {
         return 5;
@@ -146,17 +147,23 @@ fn object_fits(kind: u32, object: usize, marks: &[u8]) -> bool
 }
 
 // Row 6: whether a processor has arrived in the open round.
-fn has_arrived(processor: usize, marks: &[u8]) -> bool
-    requires { ⌜ MarkOf (now marks) processor ⌝ }
-    ensures { λ r. ⌜ r ≡ hasArrived (seen [] (now (marks .entry))) processor ⌝ }
+fn has_arrived(processor: ProcessorId, marks: &[u8]) -> bool
+    requires { ⌜ MarkOf (now marks) (processor .0) ⌝ }
+    ensures { λ r. ⌜ r ≡ hasArrived (seen [] (now (marks .entry))) (processor .0) ⌝ }
 {
-    mark(marks, 4 + processor) != 0
+    mark(marks, 4 + processor.0) != 0
 }
 
 // Rows 7 to 10, each for its kind.
-fn refusal_of_kind(kind: u32, processor: usize, object: usize, clocks: &[u8], marks: &[u8]) -> u8
-    requires { ⌜ FittingStep (now clocks) (now marks) kind processor object ⌝ }
-    ensures { λ r. ⌜ r ≡ refusalOfKind (seen (now (clocks .entry)) (now (marks .entry))) kind processor object ⌝ }
+fn refusal_of_kind(
+    kind: u32,
+    processor: ProcessorId,
+    object: usize,
+    clocks: &[u8],
+    marks: &[u8],
+) -> u8
+    requires { ⌜ FittingStep (now clocks) (now marks) kind (processor .0) object ⌝ }
+    ensures { λ r. ⌜ r ≡ refusalOfKind (seen (now (clocks .entry)) (now (marks .entry))) kind (processor .0) object ⌝ }
 {
     if kind == 2 {
         return refusal_of_write(processor, object, clocks, marks);
@@ -175,37 +182,39 @@ fn refusal_of_acquire(lock: usize, marks: &[u8]) -> u8
     requires { ⌜ LockThere (now marks) lock ⌝ }
     ensures { λ r. ⌜ r ≡ lateRefusal mainframe (seen [] (now (marks .entry))) 0 (Acquire lock) ⌝ }
 {
-    if holder_of(lock, marks) == 0 {
+    let holder = holder_of(lock, marks);
+    if holder.0 == 0 {
         return 0;
     }
     7
 }
 
 // Row 8: this processor is not the holder.
-fn refusal_of_release(processor: usize, lock: usize, marks: &[u8]) -> u8
+fn refusal_of_release(processor: ProcessorId, lock: usize, marks: &[u8]) -> u8
     requires { ⌜ LockThere (now marks) lock ⌝ }
-    ensures { λ r. ⌜ r ≡ lateRefusal mainframe (seen [] (now (marks .entry))) processor (Release lock) ⌝ }
+    ensures { λ r. ⌜ r ≡ lateRefusal mainframe (seen [] (now (marks .entry))) (processor .0) (Release lock) ⌝ }
 {
-    if holder_of(lock, marks) == processor {
+    let holder = holder_of(lock, marks);
+    if holder.0 == processor.0 {
         return 0;
     }
     8
 }
 
 // The holder of a lock; 0 is nobody.
-fn holder_of(lock: usize, marks: &[u8]) -> usize
+fn holder_of(lock: usize, marks: &[u8]) -> ProcessorId
     requires { ⌜ LockThere (now marks) lock ⌝ }
-    ensures { λ r. ⌜ r ≡ holder (seen [] (now (marks .entry))) lock ⌝ }
+    ensures { λ r. ⌜ r .0 ≡ holder (seen [] (now (marks .entry))) lock ⌝ }
 {
-    mark(marks, 13 + lock)
+    ProcessorId(mark(marks, 13 + lock))
 }
 
 // Rows 9 and 10, for a clean page: no interval is left, or no room for one record more.
-fn refusal_of_write(processor: usize, word: usize, clocks: &[u8], marks: &[u8]) -> u8
-    requires { ⌜ WriteOf (now clocks) (now marks) processor word ⌝ }
-    ensures { λ r. ⌜ r ≡ lateRefusal mainframe (seen (now (clocks .entry)) (now (marks .entry))) processor (Write word 0) ⌝ }
+fn refusal_of_write(processor: ProcessorId, word: usize, clocks: &[u8], marks: &[u8]) -> u8
+    requires { ⌜ WriteOf (now clocks) (now marks) (processor .0) word ⌝ }
+    ensures { λ r. ⌜ r ≡ lateRefusal mainframe (seen (now (clocks .entry)) (now (marks .entry))) (processor .0) (Write word 0) ⌝ }
 {
-    if is_dirty(processor, word / 32, marks) {
+    if is_dirty(processor, PageId(word / 32), marks) {
         return 0;
     }
     if own_entry(processor, clocks) == 63 {
@@ -218,12 +227,12 @@ fn refusal_of_write(processor: usize, word: usize, clocks: &[u8], marks: &[u8]) 
 }
 
 // The entry of a processor for itself in its clock.
-fn own_entry(processor: usize, clocks: &[u8]) -> u8
-    requires { ⌜ ClocksOf (now clocks) processor ⌝ }
-    ensures { λ r. ⌜ r ≡ own (seen (now (clocks .entry)) []) processor ⌝ }
+fn own_entry(processor: ProcessorId, clocks: &[u8]) -> u8
+    requires { ⌜ ClocksOf (now clocks) (processor .0) ⌝ }
+    ensures { λ r. ⌜ r ≡ own (seen (now (clocks .entry)) []) (processor .0) ⌝ }
 {
-    let clock = clock_at(clocks, processor);
-    clock.entry(ProcessorId(processor as u8))
+    let clock = clock_at(clocks, processor.0);
+    clock.entry(processor)
 }
 
 // The records that stand and those that closing may make: one for each dirty page.
@@ -244,23 +253,23 @@ fn dirty_pages(marks: &[u8]) -> usize
     let mut sum: usize = 0;
     let mut k: usize = 0;
     while k < processors {
-        sum = sum + dirty_pages_of(k + 1, marks);
+        sum = sum + dirty_pages_of(ProcessorId(k + 1), marks);
         k = k + 1;
     }
     sum
 }
 
 // The dirty pages of one processor.
-fn dirty_pages_of(processor: usize, marks: &[u8]) -> usize
-    requires { ⌜ PagesOf (now marks) processor ⌝ }
-    ensures { λ r. ⌜ r ≡ dirtyPagesOf (seen [] (now (marks .entry))) processor ⌝ }
+fn dirty_pages_of(processor: ProcessorId, marks: &[u8]) -> usize
+    requires { ⌜ PagesOf (now marks) (processor .0) ⌝ }
+    ensures { λ r. ⌜ r ≡ dirtyPagesOf (seen [] (now (marks .entry))) (processor .0) ⌝ }
     ensures { λ r. ⌜ r ≤ 8 ⌝ }
 {
     let pages = mark(marks, 1);
     let mut sum: usize = 0;
     let mut g: usize = 0;
     while g < pages {
-        if is_dirty(processor, g, marks) {
+        if is_dirty(processor, PageId(g), marks) {
             sum = sum + 1;
             g = g + 1;
         } else {
@@ -271,9 +280,9 @@ fn dirty_pages_of(processor: usize, marks: &[u8]) -> usize
 }
 
 // Whether a processor's copy of a page is dirty.
-fn is_dirty(processor: usize, page: usize, marks: &[u8]) -> bool
-    requires { ⌜ PageOf (now marks) processor page ⌝ }
-    ensures { λ r. ⌜ r ≡ dirtyAt (seen [] (now (marks .entry)) .pages) processor page ⌝ }
+fn is_dirty(processor: ProcessorId, page: PageId, marks: &[u8]) -> bool
+    requires { ⌜ PageOf (now marks) (processor .0) (page .0) ⌝ }
+    ensures { λ r. ⌜ r ≡ dirtyAt (seen [] (now (marks .entry)) .pages) (processor .0) (page .0) ⌝ }
 {
     mark(marks, dirty_place(processor, page)) != 0
 }

@@ -35,6 +35,7 @@ pub mod Ghosts
 pub mod StrictOrder
 pub mod ActionKinds
 pub mod MarksAfter
+pub mod NobodyArrived
 pub mod Allowed
 pub mod Rounds
 pub mod NumbersAfter

@@ -13,6 +13,8 @@ ghost use Rattle.closing.specs.Parts.{Holds};
 ghost use Rattle.steps.specs.Needed.{Acts, ActsOnWord, ActsOnLock, Ready, RoundComplete, TwoRows, ClocksOfFirst, MarksThere, ClocksAndMarks, RoundThere, LockThere, OnWord, WordIn, WordThere, PageThere};
 ghost use Rattle.steps.specs.Effects.{AnsweredAs, CountedAs, ClosedAtLock, HoldsClocks, wordPlace, TwinTaken, Stored, LockTaken, LockFreed, ArrivedAll, RoundDone, Emptied, completed, Wanted};
 use clock::Clock;
+use clock::PageId;
+use clock::ProcessorId;
 use memory::clear;
 use memory::clock_at;
 use memory::copy_page;
@@ -29,24 +31,24 @@ pub struct Answered {
 
 // Read: fetches the word's page, then answers the word.
 pub fn read_word(
-    p: usize,
+    p: ProcessorId,
     w: usize,
     clocks: &mut [u8],
     words: &mut [u32],
     records: &[u8],
     marks: &[u8],
 ) -> Answered
-    requires { ⌜ ActsOnWord (now clocks) (now words) (now records) (now marks) p w ⌝ }
-    ensures { λ r. ⌜ AnsweredAs (read mainframe (stateIn mainframe (now (clocks .entry)) (now (words .entry)) (now (records .entry)) (now (marks .entry))) p w) (r .value) (r .count) (now (clocks .exit)) (now (words .exit)) (now (records .entry)) (now (marks .entry)) ⌝ }
+    requires { ⌜ ActsOnWord (now clocks) (now words) (now records) (now marks) (p .0) w ⌝ }
+    ensures { λ r. ⌜ AnsweredAs (read mainframe (stateIn mainframe (now (clocks .entry)) (now (words .entry)) (now (records .entry)) (now (marks .entry))) (p .0) w) (r .value) (r .count) (now (clocks .exit)) (now (words .exit)) (now (records .entry)) (now (marks .entry)) ⌝ }
 {
-    let count = fetching::fetch_page(p, w / 32, clocks, words, records, marks);
+    let count = fetching::fetch_page(p, PageId(w / 32), clocks, words, records, marks);
     let value = word_at(words, p, w);
     Answered { value, count }
 }
 
 // Write: fetches the word's page, takes the twin if the page is clean, and stores. Yields how many records the fetch applied.
 pub fn write_word(
-    p: usize,
+    p: ProcessorId,
     w: usize,
     v: u32,
     clocks: &mut [u8],
@@ -54,25 +56,25 @@ pub fn write_word(
     records: &[u8],
     marks: &mut [u8],
 ) -> u32
-    requires { ⌜ ActsOnWord (now clocks) (now words) (now records) (now marks) p w ⌝ }
-    ensures { λ r. ⌜ AnsweredAs (write mainframe (stateIn mainframe (now (clocks .entry)) (now (words .entry)) (now (records .entry)) (now (marks .entry))) p w v) 0 r (now (clocks .exit)) (now (words .exit)) (now (records .entry)) (now (marks .exit)) ⌝ }
+    requires { ⌜ ActsOnWord (now clocks) (now words) (now records) (now marks) (p .0) w ⌝ }
+    ensures { λ r. ⌜ AnsweredAs (write mainframe (stateIn mainframe (now (clocks .entry)) (now (words .entry)) (now (records .entry)) (now (marks .entry))) (p .0) w v) 0 r (now (clocks .exit)) (now (words .exit)) (now (records .entry)) (now (marks .exit)) ⌝ }
 {
-    let count = fetching::fetch_page(p, w / 32, clocks, words, records, marks);
+    let count = fetching::fetch_page(p, PageId(w / 32), clocks, words, records, marks);
     store(words, marks, p, w, v);
     count
 }
 
 // Acquire: closes the interval; the processor becomes the lock's holder; its clock joins the lock's.
 pub fn acquire(
-    p: usize,
+    p: ProcessorId,
     l: usize,
     clocks: &mut [u8],
     words: &[u32],
     records: &mut [u8],
     marks: &mut [u8],
 )
-    requires { ⌜ ActsOnLock (now clocks) (now words) (now records) (now marks) p l ⌝ }
-    ensures { λ _. ⌜ Holds (now (clocks .exit)) (now (words .entry)) (now (records .exit)) (now (marks .exit)) (acquire (stateIn mainframe (now (clocks .entry)) (now (words .entry)) (now (records .entry)) (now (marks .entry))) p l) ⌝ }
+    requires { ⌜ ActsOnLock (now clocks) (now words) (now records) (now marks) (p .0) l ⌝ }
+    ensures { λ _. ⌜ Holds (now (clocks .exit)) (now (words .entry)) (now (records .exit)) (now (marks .exit)) (acquire (stateIn mainframe (now (clocks .entry)) (now (words .entry)) (now (records .entry)) (now (marks .entry))) (p .0) l) ⌝ }
 {
     close_at_lock(p, l, clocks, words, records, marks);
     take_lock(clocks, marks, p, l);
@@ -80,15 +82,15 @@ pub fn acquire(
 
 // Release: closes the interval; the lock has no holder; its clock becomes the processor's.
 pub fn release(
-    p: usize,
+    p: ProcessorId,
     l: usize,
     clocks: &mut [u8],
     words: &[u32],
     records: &mut [u8],
     marks: &mut [u8],
 )
-    requires { ⌜ ActsOnLock (now clocks) (now words) (now records) (now marks) p l ⌝ }
-    ensures { λ _. ⌜ Holds (now (clocks .exit)) (now (words .entry)) (now (records .exit)) (now (marks .exit)) (release (stateIn mainframe (now (clocks .entry)) (now (words .entry)) (now (records .entry)) (now (marks .entry))) p l) ⌝ }
+    requires { ⌜ ActsOnLock (now clocks) (now words) (now records) (now marks) (p .0) l ⌝ }
+    ensures { λ _. ⌜ Holds (now (clocks .exit)) (now (words .entry)) (now (records .exit)) (now (marks .exit)) (release (stateIn mainframe (now (clocks .entry)) (now (words .entry)) (now (records .entry)) (now (marks .entry))) (p .0) l) ⌝ }
 {
     close_at_lock(p, l, clocks, words, records, marks);
     free_lock(clocks, marks, p, l);
@@ -97,14 +99,14 @@ pub fn release(
 // Arrive: closes the interval; the barrier's clock joins the processor's; the processor is marked. When the last processor arrives the
 // round is completed. Yields how many records were applied then.
 pub fn arrive(
-    p: usize,
+    p: ProcessorId,
     clocks: &mut [u8],
     words: &mut [u32],
     records: &mut [u8],
     marks: &mut [u8],
 ) -> u32
-    requires { ⌜ Acts (now clocks) (now words) (now records) (now marks) p ⌝ }
-    ensures { λ r. ⌜ CountedAs (arrive mainframe (stateIn mainframe (now (clocks .entry)) (now (words .entry)) (now (records .entry)) (now (marks .entry))) p) r (now (clocks .exit)) (now (words .exit)) (now (records .exit)) (now (marks .exit)) ⌝ }
+    requires { ⌜ Acts (now clocks) (now words) (now records) (now marks) (p .0) ⌝ }
+    ensures { λ r. ⌜ CountedAs (arrive mainframe (stateIn mainframe (now (clocks .entry)) (now (words .entry)) (now (records .entry)) (now (marks .entry))) (p .0)) r (now (clocks .exit)) (now (words .exit)) (now (records .exit)) (now (marks .exit)) ⌝ }
 {
     at_barrier(p, clocks, words, records, marks);
     if !all_arrived(marks) {
@@ -125,18 +127,18 @@ pub fn want(marks: &mut [u8])
 }
 
 // Takes the twin of the word's page if that is clean, then stores.
-fn store(words: &mut [u32], marks: &mut [u8], p: usize, w: usize, v: u32)
-    requires { ⌜ WordThere (now words) (now marks) p w ⌝ }
-    ensures { λ _. ⌜ Stored (now (words .entry)) (now (marks .entry)) (now (words .exit)) (now (marks .exit)) p w v ⌝ }
+fn store(words: &mut [u32], marks: &mut [u8], p: ProcessorId, w: usize, v: u32)
+    requires { ⌜ WordThere (now words) (now marks) (p .0) w ⌝ }
+    ensures { λ _. ⌜ Stored (now (words .entry)) (now (marks .entry)) (now (words .exit)) (now (marks .exit)) (p .0) w v ⌝ }
 {
-    take_twin(words, marks, p, w / 32);
+    take_twin(words, marks, p, PageId(w / 32));
     put_word(words, p, w, v);
 }
 
 // Takes the twin of a page if the page is clean.
-fn take_twin(words: &mut [u32], marks: &mut [u8], p: usize, g: usize)
-    requires { ⌜ PageThere (now words) (now marks) p g ⌝ }
-    ensures { λ _. ⌜ TwinTaken (now (words .entry)) (now (marks .entry)) (now (words .exit)) (now (marks .exit)) p g ⌝ }
+fn take_twin(words: &mut [u32], marks: &mut [u8], p: ProcessorId, g: PageId)
+    requires { ⌜ PageThere (now words) (now marks) (p .0) (g .0) ⌝ }
+    ensures { λ _. ⌜ TwinTaken (now (words .entry)) (now (marks .entry)) (now (words .exit)) (now (marks .exit)) (p .0) (g .0) ⌝ }
 {
     let place = dirty_place(p, g);
     if marks[place] != 0 {
@@ -147,72 +149,78 @@ fn take_twin(words: &mut [u32], marks: &mut [u8], p: usize, g: usize)
 }
 
 // Stores a word in a processor's copy.
-fn put_word(words: &mut [u32], p: usize, w: usize, v: u32)
-    requires { ⌜ WordIn (now words) p w ⌝ }
-    ensures { λ _. ⌜ now (words .exit) ≡ set (now (words .entry)) (wordPlace p w) v ⌝ }
+fn put_word(words: &mut [u32], p: ProcessorId, w: usize, v: u32)
+    requires { ⌜ WordIn (now words) (p .0) w ⌝ }
+    ensures { λ _. ⌜ now (words .exit) ≡ set (now (words .entry)) (wordPlace (p .0) w) v ⌝ }
 {
     words[word_place(p, w)] = v;
 }
 
 // The word in a processor's copy.
-fn word_at(words: &[u32], p: usize, w: usize) -> u32
-    requires { ⌜ WordIn (now words) p w ⌝ }
-    ensures { λ r. ⌜ r ≡ getD (now (words .entry)) (wordPlace p w) 0 ⌝ }
+fn word_at(words: &[u32], p: ProcessorId, w: usize) -> u32
+    requires { ⌜ WordIn (now words) (p .0) w ⌝ }
+    ensures { λ r. ⌜ r ≡ getD (now (words .entry)) (wordPlace (p .0) w) 0 ⌝ }
 {
     words[word_place(p, w)]
 }
 
 // The place of a word of a processor's copy.
-fn word_place(p: usize, w: usize) -> usize
-    requires { ⌜ OnWord p w ⌝ }
-    ensures { λ r. ⌜ r ≡ wordPlace p w ⌝ }
+fn word_place(p: ProcessorId, w: usize) -> usize
+    requires { ⌜ OnWord (p .0) w ⌝ }
+    ensures { λ r. ⌜ r ≡ wordPlace (p .0) w ⌝ }
     ensures { λ r. ⌜ r < 4096 ⌝ }
 {
-    32 * copy_row(p, w / 32) + w % 32
+    32 * copy_row(p, PageId(w / 32)) + w % 32
 }
 
 // Closes the interval of a processor that has a lock to take or to free.
 fn close_at_lock(
-    p: usize,
+    p: ProcessorId,
     l: usize,
     clocks: &mut [u8],
     words: &[u32],
     records: &mut [u8],
     marks: &mut [u8],
 )
-    requires { ⌜ ActsOnLock (now clocks) (now words) (now records) (now marks) p l ⌝ }
-    ensures { λ _. ⌜ ClosedAtLock (stateIn mainframe (now (clocks .entry)) (now (words .entry)) (now (records .entry)) (now (marks .entry))) (now (clocks .exit)) (now (words .entry)) (now (records .exit)) (now (marks .exit)) p l ⌝ }
+    requires { ⌜ ActsOnLock (now clocks) (now words) (now records) (now marks) (p .0) l ⌝ }
+    ensures { λ _. ⌜ ClosedAtLock (stateIn mainframe (now (clocks .entry)) (now (words .entry)) (now (records .entry)) (now (marks .entry))) (now (clocks .exit)) (now (words .entry)) (now (records .exit)) (now (marks .exit)) (p .0) l ⌝ }
 {
     closing::close(p, clocks, words, records, marks);
 }
 
 // The processor becomes the lock's holder, and its clock joins the lock's.
-fn take_lock(clocks: &mut [u8], marks: &mut [u8], p: usize, l: usize)
-    requires { ⌜ LockThere (now clocks) (now marks) p l ⌝ }
-    ensures { λ _. ⌜ LockTaken (now (clocks .entry)) (now (marks .entry)) (now (clocks .exit)) (now (marks .exit)) p l ⌝ }
+fn take_lock(clocks: &mut [u8], marks: &mut [u8], p: ProcessorId, l: usize)
+    requires { ⌜ LockThere (now clocks) (now marks) (p .0) l ⌝ }
+    ensures { λ _. ⌜ LockTaken (now (clocks .entry)) (now (marks .entry)) (now (clocks .exit)) (now (marks .exit)) (p .0) l ⌝ }
 {
-    marks[13 + l] = (p % 256) as u8;
-    learn(clocks, p, 9 + l);
+    marks[13 + l] = (p.0 % 256) as u8;
+    learn(clocks, p.0, 9 + l);
 }
 
 // The lock has no holder, and its clock becomes the processor's.
-fn free_lock(clocks: &mut [u8], marks: &mut [u8], p: usize, l: usize)
-    requires { ⌜ LockThere (now clocks) (now marks) p l ⌝ }
-    ensures { λ _. ⌜ LockFreed (now (clocks .entry)) (now (marks .entry)) (now (clocks .exit)) (now (marks .exit)) p l ⌝ }
+fn free_lock(clocks: &mut [u8], marks: &mut [u8], p: ProcessorId, l: usize)
+    requires { ⌜ LockThere (now clocks) (now marks) (p .0) l ⌝ }
+    ensures { λ _. ⌜ LockFreed (now (clocks .entry)) (now (marks .entry)) (now (clocks .exit)) (now (marks .exit)) (p .0) l ⌝ }
 {
     marks[13 + l] = 0;
-    let own = clock_at(clocks, p);
+    let own = clock_at(clocks, p.0);
     put_clock(clocks, 9 + l, own);
 }
 
 // Closes the interval; the barrier's clock joins the processor's; the processor is marked.
-fn at_barrier(p: usize, clocks: &mut [u8], words: &[u32], records: &mut [u8], marks: &mut [u8])
-    requires { ⌜ Acts (now clocks) (now words) (now records) (now marks) p ⌝ }
-    ensures { λ _. ⌜ Holds (now (clocks .exit)) (now (words .entry)) (now (records .exit)) (now (marks .exit)) (atBarrier (stateIn mainframe (now (clocks .entry)) (now (words .entry)) (now (records .entry)) (now (marks .entry))) p) ⌝ }
+fn at_barrier(
+    p: ProcessorId,
+    clocks: &mut [u8],
+    words: &[u32],
+    records: &mut [u8],
+    marks: &mut [u8],
+)
+    requires { ⌜ Acts (now clocks) (now words) (now records) (now marks) (p .0) ⌝ }
+    ensures { λ _. ⌜ Holds (now (clocks .exit)) (now (words .entry)) (now (records .exit)) (now (marks .exit)) (atBarrier (stateIn mainframe (now (clocks .entry)) (now (words .entry)) (now (records .entry)) (now (marks .entry))) (p .0)) ⌝ }
 {
     closing::close(p, clocks, words, records, marks);
-    learn(clocks, 0, p);
-    marks[4 + p] = 1;
+    learn(clocks, 0, p.0);
+    marks[4 + p.0] = 1;
 }
 
 // Whether all processors have arrived.
@@ -258,10 +266,10 @@ fn all_learned(clocks: &mut [u8], n: usize)
     requires { ⌜ ClocksOfFirst (now clocks) n ⌝ }
     ensures { λ _. ⌜ HoldsClocks (now (clocks .exit)) (allLearned (clocksIn mainframe (now (clocks .entry))) n) ⌝ }
 {
-    let mut p: usize = 0;
-    while p < n {
-        learn(clocks, p + 1, 0);
-        p = p + 1;
+    let mut k: usize = 0;
+    while k < n {
+        learn(clocks, k + 1, 0);
+        k = k + 1;
     }
 }
 
@@ -292,23 +300,29 @@ fn fetch_all(clocks: &mut [u8], words: &mut [u32], records: &[u8], marks: &[u8])
     let mut count: u32 = 0;
     let mut k: usize = 0;
     while k < n {
-        count = count + fetch_pages(k + 1, clocks, words, records, marks);
+        count = count + fetch_pages(ProcessorId(k + 1), clocks, words, records, marks);
         k = k + 1;
     }
     count
 }
 
 // One processor fetches every page, upwards. Yields how many records were applied.
-fn fetch_pages(p: usize, clocks: &mut [u8], words: &mut [u32], records: &[u8], marks: &[u8]) -> u32
-    requires { ⌜ Acts (now clocks) (now words) (now records) (now marks) p ⌝ }
-    ensures { λ r. ⌜ CountedAs (pagesFetched mainframe (stateIn mainframe (now (clocks .entry)) (now (words .entry)) (now (records .entry)) (now (marks .entry))) p (stateIn mainframe (now (clocks .entry)) (now (words .entry)) (now (records .entry)) (now (marks .entry)) .counts .pages)) r (now (clocks .exit)) (now (words .exit)) (now (records .entry)) (now (marks .entry)) ⌝ }
+fn fetch_pages(
+    p: ProcessorId,
+    clocks: &mut [u8],
+    words: &mut [u32],
+    records: &[u8],
+    marks: &[u8],
+) -> u32
+    requires { ⌜ Acts (now clocks) (now words) (now records) (now marks) (p .0) ⌝ }
+    ensures { λ r. ⌜ CountedAs (pagesFetched mainframe (stateIn mainframe (now (clocks .entry)) (now (words .entry)) (now (records .entry)) (now (marks .entry))) (p .0) (stateIn mainframe (now (clocks .entry)) (now (words .entry)) (now (records .entry)) (now (marks .entry)) .counts .pages)) r (now (clocks .exit)) (now (words .exit)) (now (records .entry)) (now (marks .entry)) ⌝ }
     ensures few { λ r. ⌜ r ≤ 1024 ⌝ }
 {
     let n = wide(marks[1]);
     let mut count: u32 = 0;
     let mut g: usize = 0;
     while g < n {
-        count = count + fetching::fetch_page(p, g, clocks, words, records, marks);
+        count = count + fetching::fetch_page(p, PageId(g), clocks, words, records, marks);
         g = g + 1;
     }
     count

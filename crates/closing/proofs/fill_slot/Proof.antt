@@ -6,4 +6,4 @@ use Rattle.closing.proofs.fill_slot.Tie as tie
 pub fill-slot-spec : {M : Type 1} → statement M
 fill-slot-spec =
     tie.close
-    (tie.spec (λ c κs. search slot-laws) (λ c. search slot-laws) (λ c. search slot-laws) (λ c. search slot-laws) (λ c. search slot-laws) (λ c. search slot-laws) (λ c. search slot-laws) (λ c. search slot-laws) (λ c. search slot-laws))
+    (tie.spec (λ c κs. search slot-laws) (λ c. search slot-laws) (λ c. search slot-laws) (λ c. search slot-laws) (λ c. search slot-laws) (λ c. search slot-laws) (λ c. search slot-laws) (λ c. search slot-laws) (λ c. search slot-laws) (λ c. search slot-laws))

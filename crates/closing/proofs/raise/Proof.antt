@@ -6,4 +6,4 @@ use Rattle.closing.proofs.raise.Tie as tie
 pub raise-spec : {M : Type 1} → statement M
 raise-spec =
     tie.close
-    (tie.spec (λ c. search tick-laws) (λ c. search tick-laws) (λ c. search tick-laws) (λ c. search tick-laws) (λ c. search tick-laws) (λ c. search tick-laws))
+    (tie.spec (λ c. search tick-laws) (λ c. search tick-laws) (λ c. search tick-laws) (λ c. search tick-laws) (λ c. search tick-laws))

@@ -5,7 +5,7 @@ use Rattle.closing.proofs.record_pages.Statement.{statement}
 use Rattle.closing.proofs.record_pages.Tie as tie
 
 abbrev Inv-loop : tie.InvT-loop
-Inv-loop p clocks words records₀ marks₀ n any₀ g₀ records marks any g = RecordingPages clocks words records₀ marks₀ records marks p n g any
+Inv-loop p clocks words records₀ marks₀ n any₀ g₀ records marks any g = RecordingPages clocks words records₀ marks₀ records marks (p .0) n g any
 
 abbrev μ-loop : tie.MeasureT-loop
 μ-loop p clocks words records₀ marks₀ n any₀ g₀ records marks any g = n - g

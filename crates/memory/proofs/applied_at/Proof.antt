@@ -5,7 +5,7 @@ use Rattle.memory.proofs.applied_at.Statement.{statement}
 use Rattle.memory.proofs.applied_at.Tie as tie
 
 abbrev Inv-loop : tie.InvT-loop
-Inv-loop clocks p rows₀ g₀ rows g = AppliedRead clocks p rows g
+Inv-loop clocks p rows₀ g₀ rows g = AppliedRead clocks (p .0) rows g
 
 abbrev μ-loop : tie.MeasureT-loop
 μ-loop clocks p rows₀ g₀ rows g = 8 - g

@@ -5,7 +5,7 @@ use Rattle.memory.proofs.put_applied.Statement.{statement}
 use Rattle.memory.proofs.put_applied.Tie as tie
 
 abbrev Inv-loop : tie.InvT-loop
-Inv-loop clocks₀ p rows g₀ clocks g = AppliedWritten clocks₀ clocks p rows g
+Inv-loop clocks₀ p rows g₀ clocks g = AppliedWritten clocks₀ clocks (p .0) rows g
 
 abbrev μ-loop : tie.MeasureT-loop
 μ-loop clocks₀ p rows g₀ clocks g = 8 - g

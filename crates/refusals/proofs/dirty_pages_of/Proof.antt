@@ -6,7 +6,7 @@ use Rattle.refusals.proofs.dirty_pages_of.Statement.{statement}
 use Rattle.refusals.proofs.dirty_pages_of.Tie as tie
 
 abbrev Inv-loop : tie.InvT-loop
-Inv-loop processor marks pages sum₀ g₀ sum g = PagesCounted marks processor pages sum g
+Inv-loop processor marks pages sum₀ g₀ sum g = PagesCounted marks (processor .0) pages sum g
 
 abbrev μ-loop : tie.MeasureT-loop
 μ-loop processor marks pages sum₀ g₀ sum g = pages - g

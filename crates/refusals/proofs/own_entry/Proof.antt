@@ -6,4 +6,4 @@ use Rattle.refusals.proofs.own_entry.Tie as tie
 pub own-entry-spec : {M : Type 1} → statement M
 own-entry-spec =
     tie.close
-    (tie.spec (λ c κs. search refusal-laws) (λ c. search refusal-laws) (λ c κs. search refusal-laws) (λ c. search refusal-laws))
+    (tie.spec (λ c κs. search refusal-laws) (λ c κs. search refusal-laws) (λ c. search refusal-laws))

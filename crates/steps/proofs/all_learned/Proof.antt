@@ -1,14 +1,14 @@
--- `all_learned` meets its contract: the first p processors have learned. Assumes nothing.
+-- `all_learned` meets its contract: the first k processors have learned. Assumes nothing.
 use Prim.Native.Nat.{_-_}
 use Rattle.steps.proofs.Learning.{AllLearning, learn-laws}
 use Rattle.steps.proofs.all_learned.Statement.{statement}
 use Rattle.steps.proofs.all_learned.Tie as tie
 
 abbrev Inv-loop : tie.InvT-loop
-Inv-loop clocks₀ n p₀ clocks p = AllLearning clocks₀ clocks n p
+Inv-loop clocks₀ n k₀ clocks k = AllLearning clocks₀ clocks n k
 
 abbrev μ-loop : tie.MeasureT-loop
-μ-loop clocks₀ n p₀ clocks p = n - p
+μ-loop clocks₀ n k₀ clocks k = n - k
 
 pub all-learned-spec : {M : Type 1} → statement M
 all-learned-spec =

@@ -5,7 +5,7 @@ use Rattle.steps.proofs.fetch_pages.Statement.{statement}
 use Rattle.steps.proofs.fetch_pages.Tie as tie
 
 abbrev Inv-loop : tie.InvT-loop
-Inv-loop p clocks₀ words₀ records marks n count₀ g₀ clocks words count g = PagesFetching clocks₀ words₀ clocks words records marks p n g count
+Inv-loop p clocks₀ words₀ records marks n count₀ g₀ clocks words count g = PagesFetching clocks₀ words₀ clocks words records marks (p .0) n g count
 
 abbrev μ-loop : tie.MeasureT-loop
 μ-loop p clocks₀ words₀ records marks n count₀ g₀ clocks words count g = n - g

@@ -6,4 +6,4 @@ use Rattle.clock.proofs.Clock.entry.Tie as tie
 pub entry-spec : {M : Type 1} → statement M
 entry-spec =
     tie.close
-    (tie.spec (λ c. search clock-laws) (λ c. search clock-laws) (λ c. search clock-laws) (λ c. search clock-laws) (λ c. search clock-laws) (λ c. search clock-laws))
+    (tie.spec (λ c. search clock-laws) (λ c. search clock-laws) (λ c. search clock-laws) (λ c. search clock-laws) (λ c. search clock-laws))

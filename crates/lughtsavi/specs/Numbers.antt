@@ -1,0 +1,49 @@
+-- What the functions for C and Rust answer where the engine or the diffs answer an enum: document 01's numbers, and what a step leaves in
+-- the slices lent to it. Assumes nothing.
+use Prim.Native.Nat.{ℕ, _+_}
+use mathlib.Core.Path.{_≡_}
+use mathlib.Core.Bool.{cond}
+use mathlib.Core.List.{List, [], _∷_}
+use lib.ListN.{length}
+use lib.Dec.{eqb}
+use Rattle.rules.specs.Refusals.{Step, Answer}
+use Rattle.diff.specs.declared.Written.{Written}
+use Rattle.diff.specs.declared.Written.the-variants.{Length, Refused}
+use Rattle.engine.specs.Promises.{Areas, answerOf, areasAfter}
+use Rattle.engine.specs.Outcomes.{outcomeRefusal, told}
+use Rattle.engine.specs.declared.Outcome.{Outcome}
+
+-- ---- a step
+
+-- what is lent to a step: the words for its answer, and the four areas
+pub record Slices : Type 0 where
+  pub answer : List ℕ
+  pub areas : Areas
+
+-- the slices of these contents
+unfoldable pub slices : List ℕ → Areas → Slices
+slices out a = record { answer = out; areas = a }
+
+-- an answer in words, in the order of the run program's line: "refusal or 0, value, count"
+unfoldable pub answerWords : Answer → List ℕ
+answerWords a = a .refusal ∷ a .value ∷ a .count ∷ []
+
+-- what a step returns: 1 where the answer has not three words, else the refusal of its answer
+unfoldable pub stepReturn : List ℕ → Areas → Step → ℕ
+stepReturn out a t = cond (eqb (length out) 3) (answerOf a t .refusal) 1
+
+-- the slices after a step: its answer and the areas that it leaves; all as they were where the answer has not three words
+unfoldable pub slicesAfter : List ℕ → Areas → Step → Slices
+slicesAfter out a t = cond (eqb (length out) 3) (slices (answerWords (answerOf a t)) (areasAfter a t)) (slices out a)
+
+-- n is the outcome's refusal, and the words are its three numbers
+pub record ToldAs (o : Outcome) (n : ℕ) (out : List ℕ) : Type 0 where
+  pub returned : n ≡ outcomeRefusal o
+  pub laid : out ≡ answerWords (told o)
+
+-- ---- a diff written
+
+-- the length in bytes, or 256 + the refusal: a length is at most 131
+unfoldable pub writtenNumber : Written → ℕ
+writtenNumber (Length n) = n
+writtenNumber (Refused n) = 256 + n

@@ -1,0 +1,4 @@
+pub mod Reading
+pub mod Laying
+pub mod Stepping
+pub mod Running

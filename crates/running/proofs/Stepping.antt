@@ -1,0 +1,121 @@
+-- The steps behind the opening: one record, and the loop over all. One law for each way of the code, and `stepping-laws`. Assumes nothing.
+use Prim.Native.Nat.{ℕ, suc, _+_, _-_, _*_, _≤_, _<_}
+use native.Mathlib.Omega.{arith}
+use mathlib.Core.Path.{_≡_, refl, sym, ap, _∙_}
+use mathlib.Core.List.{List, [], _∷_}
+use lib.ListN.{length, drop}
+use lib.Seq.{sets, length-sets, drop-drop}
+use borrow.Author.Needs.{needs}
+use Rattle.rules.specs.Refusals.{Answer, Step, nextInOrder}
+use Rattle.rules.specs.Runs.{answersInOrder, stateInOrder}
+use Rattle.rules.specs.State.{mainframe, State}
+use Rattle.rules.proofs.Kept.{next-keeps-order}
+use Rattle.memory.specs.Areas.{stateIn}
+use Rattle.refusals.specs.Needed.{Ready}
+use Rattle.engine.specs.declared.Outcome.{Outcome}
+use Rattle.engine.specs.Outcomes.{told, SteppedAs}
+use Rattle.engine.proofs.Stepping.{told-in-order}
+use Rattle.running.specs.Records.{stepFrom, stepsIn, answerWords}
+use Rattle.running.specs.Needed.{StepThere, OutcomeLaid, RecordThere, StepLaid, StepsThere, StepsLaid}
+
+-- ---- one record
+
+pub step-there : (bs : List ℕ) (i : ℕ) (out c w r m : List ℕ) → RecordThere bs i out c w r m → StepThere bs (8 * i) c w r m
+step-there bs i out c w r m h = record { ready = h .ready; there = h .there }
+
+-- the outcome of a step tells the rules' answer
+pub step-laid : (bs : List ℕ) (i : ℕ) (s : State) (x : Outcome) (out out′ c w r m : List ℕ) → SteppedAs s (stepFrom (drop (8 * i) bs)) x c w r m
+    → OutcomeLaid out (3 * i) x out′ → StepLaid bs i s out out′ c w r m
+step-laid bs i s x out out′ c w r m d l =
+    record {
+      laid =
+          l .is
+          ∙ ap (λ (a : Answer). sets out (3 * i) (answerWords (a ∷ [])))
+          (ap (λ (y : Outcome). told y) (d .outcome) ∙ told-in-order mainframe s (stepFrom (drop (8 * i) bs)));
+      areas = d .areas;
+    }
+
+-- ---- the loop
+
+-- before record i of n: the areas are in order, and the records from i on, run on the state that they hold, bring the words and the state to
+-- where all the steps bring them from the words out₀ and the state s₀
+pub record StepsLeft (bs : List ℕ) (n : ℕ) (s₀ : State) (out₀ out c w r m : List ℕ) (i : ℕ) : Type 0 where
+  pub ready : Ready c w r m
+  pub upto : i ≤ n
+  pub there : 8 * n ≤ length bs
+  pub room : 3 * n ≤ length out
+  pub as-long : length out ≡ length out₀
+  pub laid : sets out (3 * i) (answerWords (answersInOrder mainframe (stateIn mainframe c w r m) (stepsIn (n - i) (drop (8 * i) bs))))
+      ≡ sets out₀ 3 (answerWords (answersInOrder mainframe s₀ (stepsIn (n - 1) (drop 8 bs))))
+  pub state : stateInOrder mainframe (stateIn mainframe c w r m) (stepsIn (n - i) (drop (8 * i) bs)) ≡ stateInOrder mainframe s₀ (stepsIn (n - 1) (drop 8 bs))
+
+pub steps-begin : (bs : List ℕ) (n : ℕ) (out c w r m : List ℕ) → StepsThere bs n out c w r m
+    → StepsLeft bs n (stateIn mainframe c w r m) out out c w r m 1
+steps-begin bs n out c w r m h = record { ready = h .ready; upto = h .opening; there = h .there; room = h .room; as-long = refl; laid = refl; state = refl }
+
+-- the steps from record i on are its own and those from the next record on
+steps-from : (bs : List ℕ) (n i : ℕ) → i < n → stepsIn (n - i) (drop (8 * i) bs) ≡ stepFrom (drop (8 * i) bs) ∷ stepsIn (n - (i + 1)) (drop (8 * (i + 1)) bs)
+unfolding stepsIn
+steps-from bs n i l =
+    ap (λ (k : ℕ). stepsIn k (drop (8 * i) bs)) e
+    ∙ ap (λ (t : List ℕ). stepFrom (drop (8 * i) bs) ∷ stepsIn (n - (i + 1)) t) (drop-drop 8 (8 * i) bs ∙ ap (λ (k : ℕ). drop k bs) f)
+  where
+    e : n - i ≡ suc (n - (i + 1))
+    e = omega arith
+
+    f : 8 * i + 8 ≡ 8 * (i + 1)
+    f = omega arith
+
+module _ (bs : List ℕ) (n : ℕ) (s₀ : State) (out₀ out c w r m : List ℕ) (i : ℕ) (h : StepsLeft bs n s₀ out₀ out c w r m i) where
+  pub record-there : i < n → RecordThere bs i out c w r m
+  record-there l = record { ready = h .ready; there = omega (arith, h .there, l); room = omega (arith, h .room, l) }
+
+  module _ (out′ c′ w′ r′ m′ : List ℕ) (l : i < n) (d : StepLaid bs i (stateIn mainframe c w r m) out out′ c′ w′ r′ m′) where
+    s : State
+    s = stateIn mainframe c w r m
+
+    t : Step
+    t = stepFrom (drop (8 * i) bs)
+
+    rest : List Step
+    rest = stepsIn (n - (i + 1)) (drop (8 * (i + 1)) bs)
+
+    -- the answers from record i on: its own is laid, and the others behind it
+    one-laid : sets out (3 * i) (answerWords (answersInOrder mainframe s (stepsIn (n - i) (drop (8 * i) bs))))
+        ≡ sets out′ (3 * (i + 1)) (answerWords (answersInOrder mainframe (stateIn mainframe c′ w′ r′ m′) rest))
+    unfolding answerWords answersInOrder s t rest
+    one-laid =
+        ap (λ (ts : List Step). sets out (3 * i) (answerWords (answersInOrder mainframe s ts))) (steps-from bs n i l)
+        ∙ ap (λ (ws : List ℕ). sets ws (suc (suc (suc (3 * i)))) (answerWords (answersInOrder mainframe (nextInOrder mainframe s t) rest))) (sym (d .laid))
+        ∙ ap (λ (k : ℕ). sets out′ k (answerWords (answersInOrder mainframe (nextInOrder mainframe s t) rest))) e
+        ∙ ap (λ (x : State). sets out′ (3 * (i + 1)) (answerWords (answersInOrder mainframe x rest))) (sym (d .areas .is))
+      where
+        e : suc (suc (suc (3 * i))) ≡ 3 * (i + 1)
+        e = omega arith
+
+    one-taken : stateInOrder mainframe s (stepsIn (n - i) (drop (8 * i) bs)) ≡ stateInOrder mainframe (stateIn mainframe c′ w′ r′ m′) rest
+    unfolding stateInOrder s t rest
+    one-taken =
+        ap (λ (ts : List Step). stateInOrder mainframe s ts) (steps-from bs n i l) ∙ ap (λ (x : State). stateInOrder mainframe x rest) (sym (d .areas .is))
+
+    pub steps-more : StepsLeft bs n s₀ out₀ out′ c′ w′ r′ m′ (i + 1)
+    unfolding s t rest
+    steps-more =
+        record {
+          ready = record { lent = d .areas .lent; in-order = rw (d .areas .is) (next-keeps-order mainframe s t (h .ready .in-order)) };
+          upto = omega (arith, l);
+          there = h .there;
+          room = rw (d .laid, length-sets) (h .room);
+          as-long = rw (d .laid, length-sets) (h .as-long);
+          laid = sym one-laid ∙ h .laid;
+          state = sym one-taken ∙ h .state;
+        }
+
+  pub steps-all : n ≤ i → StepsLaid bs n s₀ out₀ out c w r m
+  unfolding stepsIn answersInOrder answerWords stateInOrder
+  steps-all l = record { laid = rw e at (h .laid); areas = record { lent = h .ready .lent; is = rw e at (h .state) } }
+    where
+      e : n - i ≡ 0
+      e = omega arith
+
+pub ruleset stepping-laws = (step-there, step-laid, steps-begin, record-there, steps-more, steps-all, needs)

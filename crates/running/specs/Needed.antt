@@ -1,0 +1,81 @@
+-- What the functions of this crate ask of one another, and what the inner ones promise. Assumes nothing.
+use Prim.Native.Nat.{ℕ, _+_, _-_, _*_, _≤_}
+use mathlib.Core.Path.{_≡_}
+use mathlib.Core.List.{List, [], _∷_}
+use lib.ListN.{length, take, drop}
+use lib.Seq.{sets}
+use Rattle.rules.specs.Refusals.{refusedAs, answerInOrder, nextInOrder}
+use Rattle.rules.specs.Runs.{answersInOrder, stateInOrder}
+use Rattle.rules.specs.State.{mainframe, State}
+use Rattle.refusals.specs.Needed.{Ready}
+use Rattle.closing.specs.Parts.{Holds}
+use Rattle.engine.specs.declared.Outcome.{Outcome}
+use Rattle.engine.specs.Outcomes.{told}
+use Rattle.engine.specs.Promises.{Areas, stepOf, areasOpened}
+use Rattle.running.specs.Records.{stepFrom, stepsIn, answerWords}
+use Rattle.running.specs.Runs.{recordsRun, firstRefusal}
+
+-- ---- one record
+
+-- eight bytes stand from a place on, and the areas hold a state in order
+pub record StepThere (bytes : List ℕ) (at : ℕ) (c w r m : List ℕ) : Type 0 where
+  pub ready : Ready c w r m
+  pub there : at + 8 ≤ length bytes
+
+-- the four fields are those of the record from a place on
+pub record FieldsAre (bytes : List ℕ) (at kind processor object value : ℕ) : Type 0 where
+  pub is : stepOf kind processor object value ≡ stepFrom (drop at bytes)
+
+-- the three words from a place on tell an outcome, and the other words are as they were
+pub record OutcomeLaid (out : List ℕ) (at : ℕ) (o : Outcome) (out′ : List ℕ) : Type 0 where
+  pub is : out′ ≡ sets out at (answerWords (told o ∷ []))
+
+-- record i stands in the bytes, the words have room for its answer, and the areas hold a state in order
+pub record RecordThere (bytes : List ℕ) (i : ℕ) (out c w r m : List ℕ) : Type 0 where
+  pub ready : Ready c w r m
+  pub there : 8 * i + 8 ≤ length bytes
+  pub room : 3 * i + 3 ≤ length out
+
+-- the step of record i was taken on the state s: its answer is laid, and the areas hold the state that it leaves
+pub record StepLaid (bytes : List ℕ) (i : ℕ) (s : State) (out out′ c w r m : List ℕ) : Type 0 where
+  pub laid : out′ ≡ sets out (3 * i) (answerWords (answerInOrder mainframe s (stepFrom (drop (8 * i) bytes)) ∷ []))
+  pub areas : Holds c w r m (nextInOrder mainframe s (stepFrom (drop (8 * i) bytes)))
+
+-- ---- how many records
+
+-- n is how many records are run for so many bytes and words
+pub record CountIs (bytes words n : ℕ) : Type 0 where
+  pub is : n ≡ recordsRun bytes words
+
+-- n records are run of the bytes, with their answers in the words: the opening, and the steps behind it
+pub record RecordsThere (bytes out : List ℕ) (n : ℕ) : Type 0 where
+  pub count : n ≡ recordsRun (length bytes) (length out)
+  pub opening : 1 ≤ n
+
+-- ---- the opening
+
+-- a record stands in the bytes, and the words have room for its answer
+pub record OpeningThere (bytes out : List ℕ) : Type 0 where
+  pub there : 8 ≤ length bytes
+  pub room : 3 ≤ length out
+
+-- the opening was answered with the refusal r: the answer is laid, and the areas are those that the opening leaves
+pub record OpeningLaid (bytes out : List ℕ) (a : Areas) (r : ℕ) (out′ : List ℕ) (a′ : Areas) : Type 0 where
+  pub refusal : r ≡ firstRefusal bytes a
+  pub laid : out′ ≡ sets out 0 (answerWords (refusedAs r ∷ []))
+  pub areas : a′ ≡ areasOpened (take 8 bytes) a
+
+-- ---- the steps
+
+-- n records stand in the bytes, the opening first, the words have room for their answers, and the areas hold a state in order
+pub record StepsThere (bytes : List ℕ) (n : ℕ) (out c w r m : List ℕ) : Type 0 where
+  pub ready : Ready c w r m
+  pub opening : 1 ≤ n
+  pub there : 8 * n ≤ length bytes
+  pub room : 3 * n ≤ length out
+
+-- the steps of n records behind the opening were run on the state s: their answers are laid behind the opening's, and the areas hold the
+-- state that they leave
+pub record StepsLaid (bytes : List ℕ) (n : ℕ) (s : State) (out out′ c w r m : List ℕ) : Type 0 where
+  pub laid : out′ ≡ sets out 3 (answerWords (answersInOrder mainframe s (stepsIn (n - 1) (drop 8 bytes))))
+  pub areas : Holds c w r m (stateInOrder mainframe s (stepsIn (n - 1) (drop 8 bytes)))

@@ -1,0 +1,149 @@
+-- Small files and Listing A, computed: the lines of the whole file, and those that feeding it byte by byte prints. Rests on Whole. Assumes
+-- nothing.
+use Prim.Native.Nat.{ℕ, min}
+use mathlib.Core.Path.{_≡_, refl, sym, ap, _∙_}
+use mathlib.Core.Bool.{true}
+use mathlib.Core.List.{List, [], _∷_, _++_}
+use lib.ListN.{drop, replicate}
+use Rattle.rules.specs.InOrder.{slotSize, inRange, countsInRange}
+use Rattle.rules.specs.Opening.{openingRefusal}
+use Rattle.rules.specs.Refusals.{Step, Answer}
+use Rattle.rules.specs.Runs.{answers}
+use Rattle.rules.specs.State.{mainframe, State}
+use Rattle.rules.proofs.Listing.{start, listing}
+use Rattle.rules.proofs.FromStart.{listing-a}
+use Rattle.memory.specs.Areas.{clockRows, wordRows, markPlaces, sizesRight}
+use Rattle.engine.specs.Promises.{Areas, areas, rightSizes, openingOf, openRefusal, areasOpened}
+use Rattle.running.specs.Records.{stepFrom, stepsIn}
+use Rattle.lines.specs.Decimal.{digitsWithin, digits}
+use Rattle.lines.specs.Lines.{lineBytes}
+use Rattle.stepfile.specs.Files.{mostSteps, refusalLine, answerLines, stepCount, endLine, openedBy, stepLines, fileLines}
+use Rattle.stepfile.specs.Feeding.{begun, openingTaken, recordTaken, heldOn, byteTaken, bytesTaken, after, lastLine}
+use Rattle.stepfile.specs.Promises.{progressOf, finishLine}
+use Rattle.stepfile.proofs.Whole.{whole-lines}
+
+-- areas of the fixed sizes, all 0
+unfoldable blank : Areas
+blank = areas (replicate 4744 0) (replicate 4096 0) (replicate 17280 0) (replicate 93 0)
+
+blank-sizes : rightSizes blank ≡ true
+unfolding rightSizes blank areas sizesRight clockRows wordRows markPlaces slotSize mainframe
+blank-sizes = refl
+
+-- all lines that feeding prints; who unfolds it unfolds what feeding computes with, but no step
+unfoldable fed : List ℕ → List ℕ
+unfolding blank areas after bytesTaken byteTaken heldOn recordTaken openingTaken openRefusal areasOpened rightSizes sizesRight clockRows wordRows markPlaces slotSize begun progressOf finishLine lastLine openingRefusal countsInRange inRange mainframe openingOf refusalLine lineBytes digits digitsWithin
+fed bytes = after blank bytes .lines ++ finishLine (progressOf (after blank bytes))
+
+-- ---- a file that ends before its opening, or within it: "0 15 0 0"
+
+unfoldable line-15 : List ℕ
+line-15 = 48 ∷ 32 ∷ 49 ∷ 53 ∷ 32 ∷ 48 ∷ 32 ∷ 48 ∷ 10 ∷ []
+
+empty-file : fileLines [] ≡ line-15
+unfolding fileLines refusalLine lineBytes digits digitsWithin line-15
+empty-file = refl
+
+empty-fed : fed [] ≡ line-15
+unfolding fed line-15
+empty-fed = refl
+
+three-bytes : fileLines (0 ∷ 2 ∷ 1 ∷ []) ≡ line-15
+unfolding fileLines refusalLine lineBytes digits digitsWithin line-15
+three-bytes = refl
+
+three-fed : fed (0 ∷ 2 ∷ 1 ∷ []) ≡ line-15
+unfolding fed line-15
+three-fed = refl
+
+-- ---- an opening with nine processors, and two bytes behind it: "0 2 0 0", and nothing more
+
+unfoldable badOpening : List ℕ
+badOpening = 0 ∷ 9 ∷ 1 ∷ 1 ∷ 0 ∷ 0 ∷ 0 ∷ 0 ∷ 1 ∷ 1 ∷ []
+
+unfoldable line-2 : List ℕ
+line-2 = 48 ∷ 32 ∷ 50 ∷ 32 ∷ 48 ∷ 32 ∷ 48 ∷ 10 ∷ []
+
+bad-opening : fileLines badOpening ≡ line-2
+unfolding badOpening fileLines openingRefusal countsInRange inRange mainframe openingOf refusalLine lineBytes digits digitsWithin line-2
+bad-opening = refl
+
+bad-opening-fed : fed badOpening ≡ line-2
+unfolding badOpening fed line-2
+bad-opening-fed = refl
+
+-- ---- an opening and a record cut after three bytes: "0 0 0 0", "1 15 0 0"
+
+unfoldable cutRecord : List ℕ
+cutRecord = 0 ∷ 2 ∷ 1 ∷ 1 ∷ 0 ∷ 0 ∷ 0 ∷ 0 ∷ 3 ∷ 1 ∷ 0 ∷ []
+
+unfoldable lines-0-15 : List ℕ
+lines-0-15 = 48 ∷ 32 ∷ 48 ∷ 32 ∷ 48 ∷ 32 ∷ 48 ∷ 10 ∷ 49 ∷ 32 ∷ 49 ∷ 53 ∷ 32 ∷ 48 ∷ 32 ∷ 48 ∷ 10 ∷ []
+
+cut-record : fileLines cutRecord ≡ lines-0-15
+unfolding cutRecord fileLines stepLines stepCount mostSteps endLine stepsIn answers answerLines openingRefusal countsInRange inRange mainframe openingOf refusalLine lineBytes digits digitsWithin lines-0-15
+cut-record = refl
+
+cut-record-fed : fed cutRecord ≡ lines-0-15
+unfolding cutRecord fed lines-0-15
+cut-record-fed = refl
+
+-- ---- Listing A, a row a record
+
+unfoldable listingBytes : List ℕ
+listingBytes =
+    0 ∷ 2 ∷ 1 ∷ 1 ∷ 0 ∷ 0 ∷ 0 ∷ 0
+    ∷ 3 ∷ 1 ∷ 0 ∷ 0 ∷ 0 ∷ 0 ∷ 0 ∷ 0
+    ∷ 2 ∷ 1 ∷ 3 ∷ 0 ∷ 188 ∷ 2 ∷ 0 ∷ 0
+    ∷ 1 ∷ 2 ∷ 3 ∷ 0 ∷ 0 ∷ 0 ∷ 0 ∷ 0
+    ∷ 3 ∷ 2 ∷ 0 ∷ 0 ∷ 0 ∷ 0 ∷ 0 ∷ 0
+    ∷ 4 ∷ 1 ∷ 0 ∷ 0 ∷ 0 ∷ 0 ∷ 0 ∷ 0
+    ∷ 3 ∷ 2 ∷ 0 ∷ 0 ∷ 0 ∷ 0 ∷ 0 ∷ 0
+    ∷ 1 ∷ 2 ∷ 3 ∷ 0 ∷ 0 ∷ 0 ∷ 0 ∷ 0
+    ∷ 1 ∷ 2 ∷ 3 ∷ 0 ∷ 0 ∷ 0 ∷ 0 ∷ 0
+    ∷ 5 ∷ 1 ∷ 0 ∷ 0 ∷ 0 ∷ 0 ∷ 0 ∷ 0
+    ∷ 1 ∷ 1 ∷ 3 ∷ 0 ∷ 0 ∷ 0 ∷ 0 ∷ 0
+    ∷ 6 ∷ 2 ∷ 0 ∷ 0 ∷ 0 ∷ 0 ∷ 0 ∷ 0
+    ∷ 5 ∷ 2 ∷ 0 ∷ 0 ∷ 0 ∷ 0 ∷ 0 ∷ 0
+    ∷ []
+
+-- "0 0 0 0" to "12 0 0 0", a row a line
+unfoldable listingLines : List ℕ
+listingLines =
+    48 ∷ 32 ∷ 48 ∷ 32 ∷ 48 ∷ 32 ∷ 48 ∷ 10
+    ∷ 49 ∷ 32 ∷ 48 ∷ 32 ∷ 48 ∷ 32 ∷ 48 ∷ 10
+    ∷ 50 ∷ 32 ∷ 48 ∷ 32 ∷ 48 ∷ 32 ∷ 48 ∷ 10
+    ∷ 51 ∷ 32 ∷ 48 ∷ 32 ∷ 48 ∷ 32 ∷ 48 ∷ 10
+    ∷ 52 ∷ 32 ∷ 55 ∷ 32 ∷ 48 ∷ 32 ∷ 48 ∷ 10
+    ∷ 53 ∷ 32 ∷ 48 ∷ 32 ∷ 48 ∷ 32 ∷ 48 ∷ 10
+    ∷ 54 ∷ 32 ∷ 48 ∷ 32 ∷ 48 ∷ 32 ∷ 48 ∷ 10
+    ∷ 55 ∷ 32 ∷ 48 ∷ 32 ∷ 55 ∷ 48 ∷ 48 ∷ 32 ∷ 49 ∷ 10
+    ∷ 56 ∷ 32 ∷ 48 ∷ 32 ∷ 55 ∷ 48 ∷ 48 ∷ 32 ∷ 48 ∷ 10
+    ∷ 57 ∷ 32 ∷ 48 ∷ 32 ∷ 48 ∷ 32 ∷ 48 ∷ 10
+    ∷ 49 ∷ 48 ∷ 32 ∷ 54 ∷ 32 ∷ 48 ∷ 32 ∷ 48 ∷ 10
+    ∷ 49 ∷ 49 ∷ 32 ∷ 48 ∷ 32 ∷ 48 ∷ 32 ∷ 48 ∷ 10
+    ∷ 49 ∷ 50 ∷ 32 ∷ 48 ∷ 32 ∷ 48 ∷ 32 ∷ 48 ∷ 10
+    ∷ []
+
+listing-state : openedBy listingBytes ≡ start 2 1 1
+unfolding openedBy openingOf listingBytes start
+listing-state = refl
+
+listing-steps : stepsIn (min (stepCount listingBytes) mostSteps) (drop 8 listingBytes) ≡ listing
+unfolding stepsIn stepFrom stepCount mostSteps listingBytes listing
+listing-steps = refl
+
+-- the lines of the answers that the rules give (rules/proofs/FromStart.antt)
+listing-file : fileLines listingBytes ≡ listingLines
+unfolding fileLines stepLines stepCount mostSteps endLine answerLines openingRefusal countsInRange inRange mainframe openingOf refusalLine lineBytes digits digitsWithin listingBytes listingLines
+listing-file =
+    ap (λ (s : State). refusalLine 0 0 ++ (answerLines 1 (answers mainframe s (stepsIn (min (stepCount listingBytes) mostSteps) (drop 8 listingBytes))) ++ endLine listingBytes)) listing-state
+    ∙ ap (λ (ts : List Step). refusalLine 0 0 ++ (answerLines 1 (answers mainframe (start 2 1 1) ts) ++ endLine listingBytes)) listing-steps
+    ∙ ap (λ (xs : List Answer). refusalLine 0 0 ++ (answerLines 1 xs ++ endLine listingBytes)) listing-a
+
+-- and feeding its bytes prints them
+listing-fed : fed listingBytes ≡ listingLines
+unfolding fed
+listing-fed =
+    sym (whole-lines blank (after blank listingBytes .areas) listingBytes (progressOf (after blank listingBytes)) blank-sizes (record { progress = refl; areas = refl }))
+    ∙ listing-file

@@ -1,0 +1,250 @@
+-- A file cut anywhere: what its parts lead to, one after the other, is what they lead to together; and eight bytes at once are a record.
+-- Assumes nothing.
+use Prim.Native.Nat.{ℕ, zero, suc, _+_, _-_, _≤_, _<_}
+use native.Mathlib.Omega.{arith}
+use mathlib.Core.Path.{_≡_, refl, sym, ap, _∙_}
+use mathlib.Core.Bool.{Bool, true, false, cond}
+use mathlib.Core.List.{List, [], _∷_, _++_, append-assoc, append-nil}
+use lib.ListN.{length, getD, take, drop, replicate, length-append, take-append-drop}
+use lib.Seq.{take-append-seam, drop-append-seam, drop-drop, drop-cons, length-take-le}
+use lib.Dec.{leb, eqb}
+use borrow.Author.Tests.{le-leb, lt-ltb, leb-true, eqb-false, ne-eqb, eq-eqb}
+use Rattle.engine.specs.Promises.{Areas}
+use Rattle.stepfile.specs.Files.{mostSteps}
+use Rattle.stepfile.specs.Feeding.{Feed, begun, openingTaken, stepTaken, tooManyTaken, recordTaken, heldOn, byteTaken, bytesTaken, after}
+use Rattle.stepfile.specs.Promises.{allZero, sound, progressOf, standing, Reached}
+use Rattle.stepfile.specs.declared.Progress.{Progress}
+
+-- ---- parts of a file, one after the other
+
+-- two parts together are one after the other
+pub taken-together : (f : Feed) (xs ys : List ℕ) → bytesTaken f (xs ++ ys) ≡ bytesTaken (bytesTaken f xs) ys
+unfolding bytesTaken
+taken-together f [] ys = refl
+taken-together f (x ∷ xs) ys = taken-together (byteTaken f x) xs ys
+
+-- after 2 or 16 nothing changes any more
+pub taken-stopped : (f : Feed) (xs : List ℕ) → f .stopped ≡ true → bytesTaken f xs ≡ f
+unfolding bytesTaken byteTaken
+taken-stopped f [] e = refl
+taken-stopped f (x ∷ xs) e =
+    ap (λ (b : Bool). bytesTaken (cond b f (cond (eqb (length (f .held)) 7) (recordTaken f (f .held ++ x ∷ [])) (heldOn f (f .held ++ x ∷ [])))) xs) e
+    ∙ taken-stopped f xs e
+
+-- one byte more
+pub one-taken : (f : Feed) (chunk : List ℕ) (i : ℕ) → i < length chunk
+    → bytesTaken f (drop i chunk) ≡ bytesTaken (byteTaken f (getD chunk i 0)) (drop (i + 1) chunk)
+unfolding bytesTaken
+one-taken f chunk i h =
+    ap (λ (xs : List ℕ). bytesTaken f xs) (drop-cons chunk i 0 h)
+    ∙ ap (λ (j : ℕ). bytesTaken (byteTaken f (getD chunk i 0)) (drop j chunk)) next
+  where
+    next : suc i ≡ i + 1
+    next = omega arith
+
+-- ---- lines are only appended
+
+-- what stands, with these lines in front of its own
+unfoldable pub behind : List ℕ → Feed → Feed
+behind l f = record { number = f .number; held = f .held; stopped = f .stopped; areas = f .areas; lines = l ++ f .lines }
+
+-- what stands, with nothing printed yet
+unfoldable pub unprinted : Feed → Feed
+unprinted f = record { number = f .number; held = f .held; stopped = f .stopped; areas = f .areas; lines = [] }
+
+pub behind-own : (f : Feed) → behind (f .lines) (unprinted f) ≡ f
+unfolding behind unprinted
+behind-own f = ap (λ (l : List ℕ). record { number = f .number; held = f .held; stopped = f .stopped; areas = f .areas; lines = l }) (append-nil (f .lines))
+
+module _ (l : List ℕ) (f : Feed) where
+  lines-behind : (number : ℕ) (stopped : Bool) (a : Areas) (x : List ℕ)
+      → _≡_ {A = Feed} (record { number = number; held = []; stopped = stopped; areas = a; lines = l ++ f .lines ++ x })
+      (record { number = number; held = []; stopped = stopped; areas = a; lines = l ++ (f .lines ++ x) })
+  lines-behind number stopped a x =
+      ap (λ (y : List ℕ). record { number = number; held = []; stopped = stopped; areas = a; lines = y }) (append-assoc l (f .lines) x)
+
+  record-behind : (bytes : List ℕ) → recordTaken (behind l f) bytes ≡ behind l (recordTaken f bytes)
+  unfolding recordTaken openingTaken stepTaken tooManyTaken behind
+  record-behind bytes = go (eqb (f .number) 0) (leb (f .number) mostSteps)
+    where
+      go : (a b : Bool) → cond a (openingTaken (behind l f) bytes) (cond b (stepTaken (behind l f) bytes) (tooManyTaken (behind l f)))
+          ≡ behind l (cond a (openingTaken f bytes) (cond b (stepTaken f bytes) (tooManyTaken f)))
+      go true b = lines-behind _ _ _ _
+      go false true = lines-behind _ _ _ _
+      go false false = lines-behind _ _ _ _
+
+  byte-behind : (b : ℕ) → byteTaken (behind l f) b ≡ behind l (byteTaken f b)
+  unfolding byteTaken behind heldOn
+  byte-behind b = go (f .stopped) (eqb (length (f .held)) 7)
+    where
+      go : (x y : Bool) → cond x (behind l f) (cond y (recordTaken (behind l f) (f .held ++ b ∷ [])) (heldOn (behind l f) (f .held ++ b ∷ [])))
+          ≡ behind l (cond x f (cond y (recordTaken f (f .held ++ b ∷ [])) (heldOn f (f .held ++ b ∷ []))))
+      go true y = refl
+      go false true = record-behind (f .held ++ b ∷ [])
+      go false false = refl
+
+-- lines in front stay in front
+pub taken-behind : (l : List ℕ) (f : Feed) (xs : List ℕ) → bytesTaken (behind l f) xs ≡ behind l (bytesTaken f xs)
+unfolding bytesTaken
+taken-behind l f [] = refl
+taken-behind l f (x ∷ xs) = ap (λ (g : Feed). bytesTaken g xs) (byte-behind l f x) ∙ taken-behind l (byteTaken f x) xs
+
+-- what bytes lead to is what they lead to with nothing printed, behind the lines so far
+pub taken-unprinted : (f : Feed) (xs : List ℕ) → bytesTaken f xs ≡ behind (f .lines) (bytesTaken (unprinted f) xs)
+taken-unprinted f xs = ap (λ (g : Feed). bytesTaken g xs) (sym (behind-own f)) ∙ taken-behind (f .lines) (unprinted f) xs
+
+-- ---- bytes of one record
+
+-- what was held does not matter for a whole record
+record-of-held : (f : Feed) (h bytes : List ℕ) → recordTaken (heldOn f h) bytes ≡ recordTaken f bytes
+unfolding recordTaken heldOn openingTaken stepTaken tooManyTaken
+record-of-held f h bytes = refl
+
+module _ (f : Feed) (b : ℕ) (e : f .stopped ≡ false) where
+  pub byte-held : (length (f .held) ≡ 7 → ⊥) → byteTaken f b ≡ heldOn f (f .held ++ b ∷ [])
+  unfolding byteTaken
+  byte-held n =
+      ap (λ (t : Bool). cond t f (cond (eqb (length (f .held)) 7) (recordTaken f (f .held ++ b ∷ [])) (heldOn f (f .held ++ b ∷ [])))) e
+      ∙ ap (λ (t : Bool). cond t (recordTaken f (f .held ++ b ∷ [])) (heldOn f (f .held ++ b ∷ []))) (ne-eqb (length (f .held)) 7 n)
+
+  pub byte-completes : length (f .held) ≡ 7 → byteTaken f b ≡ recordTaken f (f .held ++ b ∷ [])
+  unfolding byteTaken
+  byte-completes n =
+      ap (λ (t : Bool). cond t f (cond (eqb (length (f .held)) 7) (recordTaken f (f .held ++ b ∷ [])) (heldOn f (f .held ++ b ∷ [])))) e
+      ∙ ap (λ (t : Bool). cond t (recordTaken f (f .held ++ b ∷ [])) (heldOn f (f .held ++ b ∷ []))) (eq-eqb (length (f .held)) 7 n)
+
+-- too few bytes for a record are held
+pub taken-held : (f : Feed) (xs : List ℕ) → f .stopped ≡ false → length (f .held) + length xs < 8 → bytesTaken f xs ≡ heldOn f (f .held ++ xs)
+unfolding bytesTaken heldOn
+taken-held f [] e h = rw (append-nil (f .held), ← e)
+taken-held f (x ∷ xs) e h =
+    ap (λ (g : Feed). bytesTaken g xs) (byte-held f x e (omega (arith, h)))
+    ∙ taken-held (heldOn f (f .held ++ x ∷ [])) xs refl (omega (arith, h, length-append (f .held) (x ∷ [])))
+    ∙ ap (λ (y : List ℕ). heldOn f y) (append-assoc (f .held) (x ∷ []) xs)
+
+-- the bytes that complete a record
+pub taken-record : (f : Feed) (xs : List ℕ) → f .stopped ≡ false → length (f .held) < 8 → length (f .held) + length xs ≡ 8
+    → bytesTaken f xs ≡ recordTaken f (f .held ++ xs)
+unfolding bytesTaken heldOn
+taken-record f [] e h n = absurd (omega (arith, h, n))
+taken-record f (x ∷ []) e h n = byte-completes f x e (omega (arith, n))
+taken-record f (x ∷ y ∷ xs) e h n =
+    ap (λ (g : Feed). bytesTaken g (y ∷ xs)) (byte-held f x e (omega (arith, n)))
+    ∙ taken-record (heldOn f (f .held ++ x ∷ [])) (y ∷ xs) refl (omega (arith, n, length-append (f .held) (x ∷ []))) (omega (arith, n, length-append (f .held) (x ∷ [])))
+    ∙ record-of-held f (f .held ++ x ∷ []) (f .held ++ x ∷ [] ++ y ∷ xs)
+    ∙ ap (λ (z : List ℕ). recordTaken f z) (append-assoc (f .held) (x ∷ []) (y ∷ xs))
+
+-- eight bytes at once, where none is held
+pub eight-first : (f : Feed) (xs : List ℕ) → f .held ≡ [] → f .stopped ≡ false → 8 ≤ length xs → bytesTaken f xs ≡ bytesTaken (recordTaken f (take 8 xs)) (drop 8 xs)
+eight-first f xs e s h =
+    ap (λ (ys : List ℕ). bytesTaken f ys) (sym (take-append-drop 8 xs))
+    ∙ taken-together f (take 8 xs) (drop 8 xs)
+    ∙ ap (λ (g : Feed). bytesTaken g (drop 8 xs))
+    (taken-record f (take 8 xs) s (omega (arith, ap length e)) (omega (arith, ap length e, length-take-le 8 xs h))
+    ∙ ap (λ (l : List ℕ). recordTaken f (l ++ take 8 xs)) e)
+
+-- the same from a place of a chunk on
+pub eight-taken : (f : Feed) (chunk : List ℕ) (i : ℕ) → f .held ≡ [] → f .stopped ≡ false → 8 ≤ length (drop i chunk)
+    → bytesTaken f (drop i chunk) ≡ bytesTaken (recordTaken f (take 8 (drop i chunk))) (drop (i + 8) chunk)
+eight-taken f chunk i e s h =
+    eight-first f (drop i chunk) e s h ∙ ap (λ (xs : List ℕ). bytesTaken (recordTaken f (take 8 (drop i chunk))) xs) (drop-drop 8 i chunk)
+
+-- the same with the eight bytes written out
+pub eight-bytes : (f : Feed) (b0 b1 b2 b3 b4 b5 b6 b7 : ℕ) (rest : List ℕ) → f .held ≡ [] → f .stopped ≡ false
+    → bytesTaken f (b0 ∷ b1 ∷ b2 ∷ b3 ∷ b4 ∷ b5 ∷ b6 ∷ b7 ∷ rest) ≡ bytesTaken (recordTaken f (b0 ∷ b1 ∷ b2 ∷ b3 ∷ b4 ∷ b5 ∷ b6 ∷ b7 ∷ [])) rest
+eight-bytes f b0 b1 b2 b3 b4 b5 b6 b7 rest e s = eight-first f (b0 ∷ b1 ∷ b2 ∷ b3 ∷ b4 ∷ b5 ∷ b6 ∷ b7 ∷ rest) e s (omega arith)
+
+-- ---- what feeding makes
+
+-- fewer than eight bytes are held, and the next number is at most 1,000,001
+pub record Fed (f : Feed) : Type 0 where
+  pub held : length (f .held) < 8
+  pub number : f .number ≤ mostSteps + 1
+
+begun-fed : (a : Areas) → Fed (begun a)
+unfolding begun
+begun-fed a = record { held = omega arith; number = omega arith }
+
+record-fed : (f : Feed) (bytes : List ℕ) → Fed f → Fed (recordTaken f bytes)
+unfolding recordTaken openingTaken stepTaken tooManyTaken
+record-fed f bytes h = go (eqb (f .number) 0) (leb (f .number) mostSteps) refl
+  where
+    go : (x y : Bool) → leb (f .number) mostSteps ≡ y → Fed (cond x (openingTaken f bytes) (cond y (stepTaken f bytes) (tooManyTaken f)))
+    go true y e = record { held = omega arith; number = omega arith }
+    go false true e = record { held = omega arith; number = omega (arith, leb-true (f .number) mostSteps e) }
+    go false false e = record { held = omega arith; number = h .number }
+
+byte-fed : (f : Feed) (b : ℕ) → Fed f → Fed (byteTaken f b)
+unfolding byteTaken heldOn
+byte-fed f b h = go (f .stopped) (eqb (length (f .held)) 7) refl
+  where
+    go : (x y : Bool) → eqb (length (f .held)) 7 ≡ y
+        → Fed (cond x f (cond y (recordTaken f (f .held ++ b ∷ [])) (heldOn f (f .held ++ b ∷ []))))
+    go true y e = h
+    go false true e = record-fed f (f .held ++ b ∷ []) h
+    go false false e =
+        record { held = omega (arith, h .held, eqb-false (length (f .held)) 7 e, length-append (f .held) (b ∷ [])); number = h .number }
+
+pub taken-fed : (f : Feed) (xs : List ℕ) → Fed f → Fed (bytesTaken f xs)
+unfolding bytesTaken
+taken-fed f [] h = h
+taken-fed f (x ∷ xs) h = taken-fed (byteTaken f x) xs (byte-fed f x h)
+
+pub after-fed : (a : Areas) (xs : List ℕ) → Fed (after a xs)
+unfolding after
+after-fed a xs = taken-fed (begun a) xs (begun-fed a)
+
+zeros-zero : (n : ℕ) → allZero (replicate n 0) ≡ true
+unfolding allZero
+zeros-zero zero = refl
+zeros-zero (suc n) = zeros-zero n
+
+-- the progress of what feeding makes is sound
+pub fed-sound : (f : Feed) → Fed f → sound (progressOf f) ≡ true
+unfolding sound progressOf
+fed-sound f h =
+    rw (le-leb (f .number) (mostSteps + 1) (h .number), lt-ltb (length (f .held)) 8 (h .held), drop-append-seam (f .held) (replicate (8 - length (f .held)) 0))
+    (zeros-zero (8 - length (f .held)))
+
+pub after-sound : (a : Areas) (xs : List ℕ) → sound (progressOf (after a xs)) ≡ true
+after-sound a xs = fed-sound (after a xs) (after-fed a xs)
+
+-- ---- from a progress on
+
+-- what stands at the progress of what stands
+pub standing-again : (f : Feed) → standing (progressOf f) (f .areas) ≡ unprinted f
+unfolding standing progressOf unprinted
+standing-again f = rw (take-append-seam (f .held) (replicate (8 - length (f .held)) 0))
+
+-- no byte has been fed
+pub started : (a₀ : Areas) → Reached a₀ [] (record { number = 0; stopped = false; held = 0; bytes = replicate 8 0 }) a₀
+unfolding after bytesTaken begun progressOf
+started a₀ = record { progress = refl; areas = refl }
+
+module _ (a₀ a : Areas) (before chunk : List ℕ) (p : Progress) (h : Reached a₀ before p a) where
+  -- what stands before the chunk
+  there : standing p a ≡ unprinted (after a₀ before)
+  there =
+      ap (λ (q : Progress). standing q a) (h .progress) ∙ ap (λ (b : Areas). standing (progressOf (after a₀ before)) b) (h .areas)
+      ∙ standing-again (after a₀ before)
+
+  -- what stands behind it
+  pub cut-taken : after a₀ (before ++ chunk) ≡ behind (after a₀ before .lines) (bytesTaken (standing p a) chunk)
+  unfolding after
+  cut-taken =
+      taken-together (begun a₀) before chunk ∙ taken-unprinted (after a₀ before) chunk
+      ∙ ap (λ (g : Feed). behind (after a₀ before .lines) (bytesTaken g chunk)) (sym there)
+
+  -- the chunk leads to what all bytes so far lead to
+  pub cut-reached : Reached a₀ (before ++ chunk) (progressOf (bytesTaken (standing p a) chunk)) (bytesTaken (standing p a) chunk .areas)
+  unfolding behind progressOf
+  cut-reached = record { progress = ap (λ (g : Feed). progressOf g) (sym cut-taken); areas = ap (λ (g : Feed). g .areas) (sym cut-taken) }
+
+  -- and adds its lines
+  pub cut-lines : after a₀ (before ++ chunk) .lines ≡ after a₀ before .lines ++ bytesTaken (standing p a) chunk .lines
+  unfolding behind
+  cut-lines = ap (λ (g : Feed). g .lines) cut-taken
+
+  -- the progress is one that feeding makes
+  pub reached-sound : sound p ≡ true
+  reached-sound = ap (λ (q : Progress). sound q) (h .progress) ∙ after-sound a₀ before

@@ -1,0 +1,270 @@
+-- A file fed byte by byte prints the lines of the whole file: those of its opening, of its steps as the rules answer them, and of its end.
+-- Rests on Cutting and Carried. Assumes nothing.
+use Prim.Native.Nat.{ℕ, zero, suc, _+_, _-_, _*_, _%_, _≤_, _<_, min}
+use native.Mathlib.Omega.{arith}
+use mathlib.Core.Path.{_≡_, refl, sym, ap, _∙_}
+use mathlib.Core.Bool.{Bool, true, false, cond, _&&_}
+use mathlib.Core.List.{List, [], _∷_, _++_, append-assoc, append-nil}
+use lib.ListN.{length, take, drop, replicate, length-drop}
+use lib.Seq.{take-append-seam, getD-take, length-take-le}
+use lib.Dec.{ltb, leb, eqb}
+use borrow.Author.Tests.{ltb-true, ltb-false, eqb-true, eqb-false, le-leb, lt-leb, lt-ltb, le-ltb, ne-eqb}
+use Rattle.rules.specs.InOrder.{countsInRange}
+use Rattle.rules.specs.Opening.{openingRefusal}
+use Rattle.rules.specs.Refusals.{Step, Answer, answer, next}
+use Rattle.rules.specs.Runs.{answers}
+use Rattle.rules.specs.State.{mainframe, State}
+use Rattle.engine.specs.Promises.{Areas, holding, rightSizes, openingOf, openRefusal, areasOpened, answerOf, areasAfter}
+use Rattle.running.specs.Records.{stepFrom, stepsIn}
+use Rattle.lines.specs.Lines.{lineBytes}
+use Rattle.stepfile.specs.Files.{mostSteps, refusalLine, answerLines, stepCount, endLine, openedBy, stepLines, fileLines}
+use Rattle.stepfile.specs.Feeding.{Feed, begun, openingTaken, stepTaken, tooManyTaken, recordTaken, heldOn, bytesTaken, after, lastLine}
+use Rattle.stepfile.specs.Promises.{progressOf, finishLine, Reached}
+use Rattle.stepfile.specs.declared.Progress.{Progress}
+use Rattle.stepfile.proofs.Cutting.{taken-stopped, taken-held, eight-first}
+use Rattle.stepfile.proofs.Carried.{Carried, opened-carried, next-carried, carried-answer, carried-after}
+
+-- ---- what stands between two records, and the lines at the end
+
+-- the next record's number, the areas and the lines; no byte is held
+unfoldable between : ℕ → Areas → List ℕ → Feed
+between n a l = record { number = n; held = []; stopped = false; areas = a; lines = l }
+
+-- all lines, if the file ends here
+unfoldable ended : Feed → List ℕ
+ended f = f .lines ++ lastLine (f .number) (f .held) (f .stopped)
+
+ended-finish : (f : Feed) → f .lines ++ finishLine (progressOf f) ≡ ended f
+unfolding ended finishLine progressOf
+ended-finish f = ap (λ (h : List ℕ). f .lines ++ lastLine (f .number) h (f .stopped)) (take-append-seam (f .held) (replicate (8 - length (f .held)) 0))
+
+-- ---- a step's record
+
+-- the step in eight bytes is the step in a longer list that starts with them
+first-step : (xs : List ℕ) → stepFrom (take 8 xs) ≡ stepFrom xs
+unfolding stepFrom
+first-step xs =
+    rw (getD-take 8 xs 0 0 (omega arith), getD-take 8 xs 1 0 (omega arith), getD-take 8 xs 2 0 (omega arith), getD-take 8 xs 3 0 (omega arith), getD-take 8 xs 4 0 (omega arith), getD-take 8 xs 5 0 (omega arith), getD-take 8 xs 6 0 (omega arith), getD-take 8 xs 7 0 (omega arith))
+
+-- the line of an answer
+unfoldable answerLine : ℕ → Answer → List ℕ
+answerLine n a = lineBytes n (a .refusal) (a .value) (a .count)
+
+-- a step up to the 1,000,000th is answered by the rules
+step-between : (k : ℕ) (s : State) (l xs : List ℕ) → suc k ≤ mostSteps → Carried s
+    → recordTaken (between (suc k) (holding s) l) (take 8 xs)
+    ≡ between (suc (suc k)) (holding (next mainframe s (stepFrom xs))) (l ++ answerLine (suc k) (answer mainframe s (stepFrom xs)))
+unfolding recordTaken stepTaken between answerLine
+step-between k s l xs h c =
+    ap (λ (b : Bool). cond b (openingTaken f bytes) (cond (leb (suc k) mostSteps) (stepTaken f bytes) (tooManyTaken f))) (ne-eqb (suc k) 0 (omega arith))
+    ∙ ap (λ (b : Bool). cond b (stepTaken f bytes) (tooManyTaken f)) (le-leb (suc k) mostSteps h)
+    ∙ ap (λ (t : Step). taken (answerOf (holding s) t) (areasAfter (holding s) t)) (first-step xs)
+    ∙ ap (λ (a : Answer). taken a (areasAfter (holding s) (stepFrom xs))) (carried-answer s c (stepFrom xs))
+    ∙ ap (λ (a : Areas). taken (answer mainframe s (stepFrom xs)) a) (carried-after s c (stepFrom xs))
+  where
+    f : Feed
+    f = between (suc k) (holding s) l
+
+    bytes : List ℕ
+    bytes = take 8 xs
+
+    taken : Answer → Areas → Feed
+    taken x a = between (suc (suc k)) a (l ++ answerLine (suc k) x)
+
+-- one more is too many
+too-many-between : (k : ℕ) (a : Areas) (l bytes : List ℕ) → mostSteps ≤ k
+    → recordTaken (between (suc k) a l) bytes ≡ record { number = suc k; held = []; stopped = true; areas = a; lines = l ++ refusalLine (suc k) 16 }
+unfolding recordTaken tooManyTaken between
+too-many-between k a l bytes h =
+    ap (λ (b : Bool). cond b (openingTaken f bytes) (cond (leb (suc k) mostSteps) (stepTaken f bytes) (tooManyTaken f))) (ne-eqb (suc k) 0 (omega arith))
+    ∙ ap (λ (b : Bool). cond b (stepTaken f bytes) (tooManyTaken f)) (lt-leb (suc k) mostSteps (omega (arith, h)))
+  where
+    f : Feed
+    f = between (suc k) a l
+
+-- ---- the rest of a file behind k steps
+
+-- its end, where n whole records and r bytes are left, and m steps may still be run
+unfoldable restEnd : ℕ → ℕ → ℕ → ℕ → List ℕ
+restEnd k n m r = cond (ltb m n) (refusalLine (k + m + 1) 16) (cond (eqb r 0) [] (refusalLine (k + n + 1) 15))
+
+-- its lines
+unfoldable restLines : ℕ → State → ℕ → ℕ → ℕ → List ℕ → List ℕ
+restLines k s n m r xs = answerLines (suc k) (answers mainframe s (stepsIn (min n m) xs)) ++ restEnd k n m r
+
+-- fewer than eight bytes
+few-end : (k m : ℕ) (xs : List ℕ) → lastLine (suc k) xs false ≡ restEnd k 0 m (length xs)
+unfolding lastLine restEnd
+few-end k m [] = rw (ne-eqb (suc k) 0 (omega arith), le-ltb m 0 (omega arith))
+few-end k m (x ∷ xs) =
+    rw (le-ltb m 0 (omega arith), ne-eqb (suc (length xs)) 0 (omega arith)) (ap (λ (n : ℕ). refusalLine n 15) number)
+  where
+    number : suc k ≡ k + 0 + 1
+    number = omega arith
+
+-- one step further
+end-further : (k n m r : ℕ) → restEnd (suc k) n m r ≡ restEnd k (suc n) (suc m) r
+unfolding restEnd
+end-further k n m r = rw (shift m, shift n, further (ltb m n) refl)
+  where
+    shift : (j : ℕ) → suc k + j + 1 ≡ k + suc j + 1
+    shift j = omega arith
+
+    further : (b : Bool) → ltb m n ≡ b → ltb m n ≡ ltb (suc m) (suc n)
+    further true e = e ∙ sym (lt-ltb (suc m) (suc n) (omega (arith, ltb-true m n e)))
+    further false e = e ∙ sym (le-ltb (suc m) (suc n) (omega (arith, ltb-false m n e)))
+
+-- the line of a step in front of the others
+lines-further : (k n m r : ℕ) (s : State) (xs : List ℕ)
+    → answerLine (suc k) (answer mainframe s (stepFrom xs)) ++ restLines (suc k) (next mainframe s (stepFrom xs)) n m r (drop 8 xs) ≡ restLines k s (suc n) (suc m) r xs
+unfolding restLines answerLine answerLines answers stepsIn
+lines-further k n m r s xs =
+    sym (append-assoc line others (restEnd (suc k) n m r))
+    ∙ ap (λ (e : List ℕ). line ++ others ++ e) (end-further k n m r)
+    ∙ ap (λ (j : ℕ). answerLines (suc k) (answers mainframe s (stepsIn j xs)) ++ restEnd k (suc n) (suc m) r) both
+  where
+    line : List ℕ
+    line = answerLine (suc k) (answer mainframe s (stepFrom xs))
+
+    others : List ℕ
+    others = answerLines (suc (suc k)) (answers mainframe (next mainframe s (stepFrom xs)) (stepsIn (min n m) (drop 8 xs)))
+
+    both : suc (min n m) ≡ min (suc n) (suc m)
+    both = omega arith
+
+rest-lines : (n m k : ℕ) (s : State) (l xs : List ℕ) (r : ℕ) → length xs ≡ 8 * n + r → r < 8 → k + m ≡ mostSteps → Carried s
+    → ended (bytesTaken (between (suc k) (holding s) l) xs) ≡ l ++ restLines k s n m r xs
+unfolding ended between heldOn restLines answerLines answers stepsIn lastLine restEnd
+rest-lines zero m k s l xs r e b t c =
+    ap (λ (g : Feed). ended g) (taken-held (between (suc k) (holding s) l) xs refl (omega (arith, e, b)))
+    ∙ ap (λ (x : List ℕ). l ++ x) (few-end k m xs ∙ ap (λ (j : ℕ). restEnd k 0 m j) few)
+    ∙ ap (λ (j : ℕ). l ++ (answerLines (suc k) (answers mainframe s (stepsIn j xs)) ++ restEnd k 0 m r)) none
+  where
+    few : length xs ≡ r
+    few = omega (arith, e)
+
+    none : 0 ≡ min 0 m
+    none = omega arith
+rest-lines (suc n) zero k s l xs r e b t c =
+    ap (λ (g : Feed). ended g)
+    (eight-first (between (suc k) (holding s) l) xs refl refl (omega (arith, e))
+    ∙ ap (λ (g : Feed). bytesTaken g (drop 8 xs)) (too-many-between k (holding s) l (take 8 xs) (omega (arith, t)))
+    ∙ taken-stopped stopped (drop 8 xs) refl)
+    ∙ append-nil (l ++ refusalLine (suc k) 16)
+    ∙ ap (λ (j : ℕ). l ++ refusalLine j 16) number
+    ∙ ap (λ (d : Bool). l ++ cond d (refusalLine (k + 0 + 1) 16) (cond (eqb r 0) [] (refusalLine (k + suc n + 1) 15))) (sym (lt-ltb 0 (suc n) (omega arith)))
+    ∙ ap (λ (j : ℕ). l ++ (answerLines (suc k) (answers mainframe s (stepsIn j xs)) ++ restEnd k (suc n) 0 r)) none
+  where
+    stopped : Feed
+    stopped = record { number = suc k; held = []; stopped = true; areas = holding s; lines = l ++ refusalLine (suc k) 16 }
+
+    number : suc k ≡ k + 0 + 1
+    number = omega arith
+
+    none : 0 ≡ min (suc n) 0
+    none = omega arith
+rest-lines (suc n) (suc m) k s l xs r e b t c =
+    ap (λ (g : Feed). ended g)
+    (eight-first (between (suc k) (holding s) l) xs refl refl (omega (arith, e))
+    ∙ ap (λ (g : Feed). bytesTaken g (drop 8 xs)) (step-between k s l xs (omega (arith, t)) c))
+    ∙ rest-lines n m (suc k) (next mainframe s (stepFrom xs)) (l ++ line) (drop 8 xs) r (omega (arith, e, length-drop 8 xs)) b (omega (arith, t)) (next-carried s (stepFrom xs) c)
+    ∙ append-assoc l line (restLines (suc k) (next mainframe s (stepFrom xs)) n m r (drop 8 xs))
+    ∙ ap (λ (x : List ℕ). l ++ x) (lines-further k n m r s xs)
+  where
+    line : List ℕ
+    line = answerLine (suc k) (answer mainframe s (stepFrom xs))
+
+-- ---- the opening
+
+module _ (a₀ : Areas) (file : List ℕ) (sizes : rightSizes a₀ ≡ true) (long : 8 ≤ length file) where
+  -- the refusal of its first eight bytes is the rules' refusal of the opening
+  opening-asked : openRefusal (take 8 file) a₀ ≡ openingRefusal mainframe (openingOf (take 8 file))
+  unfolding openRefusal
+  opening-asked = rw (sizes, length-take-le 8 file long)
+
+  -- what stands behind it
+  opening-taken : after a₀ file ≡ bytesTaken (openingTaken (begun a₀) (take 8 file)) (drop 8 file)
+  unfolding after begun recordTaken
+  opening-taken = eight-first (begun a₀) file refl refl long
+
+  -- accepted: the opened state lies in the areas
+  accepted-between : openingRefusal mainframe (openingOf (take 8 file)) ≡ 0
+      → openingTaken (begun a₀) (take 8 file) ≡ between 1 (holding (openedBy file)) (refusalLine 0 0)
+  unfolding openingTaken areasOpened begun between openedBy
+  accepted-between e = rw (opening-asked ∙ e)
+
+  -- refused: the run has stopped
+  refused-stopped : openingRefusal mainframe (openingOf (take 8 file)) ≡ 2
+      → openingTaken (begun a₀) (take 8 file) ≡ record { number = 1; held = []; stopped = true; areas = a₀; lines = refusalLine 0 2 }
+  unfolding openingTaken areasOpened begun
+  refused-stopped e = rw (opening-asked ∙ e)
+
+  counted : length (drop 8 file) ≡ 8 * stepCount file + length file % 8
+  unfolding stepCount
+  counted = omega (arith, length-drop 8 file, long)
+
+  -- the lines of the whole file
+  lines-accepted : openingRefusal mainframe (openingOf (take 8 file)) ≡ 0 → ended (after a₀ file) ≡ refusalLine 0 0 ++ stepLines file
+  unfolding stepLines restLines restEnd endLine openedBy
+  lines-accepted e =
+      ap (λ (g : Feed). ended g) (opening-taken ∙ ap (λ (g : Feed). bytesTaken g (drop 8 file)) (accepted-between e))
+      ∙ rest-lines (stepCount file) mostSteps 0 (openedBy file) (refusalLine 0 0) (drop 8 file) (length file % 8) counted (omega arith) (omega arith)
+      (opened-carried (openingOf (take 8 file)) e)
+      ∙ ap (λ (j : ℕ). lines j (0 + stepCount file + 1)) (from-zero mostSteps)
+      ∙ ap (λ (j : ℕ). lines (mostSteps + 1) j) (from-zero (stepCount file))
+    where
+      from-zero : (j : ℕ) → 0 + j + 1 ≡ j + 1
+      from-zero j = omega arith
+
+      lines : ℕ → ℕ → List ℕ
+      lines i j =
+          refusalLine 0 0
+          ++ (answerLines 1 (answers mainframe (openedBy file) (stepsIn (min (stepCount file) mostSteps) (drop 8 file)))
+          ++ cond (ltb mostSteps (stepCount file)) (refusalLine i 16) (cond (eqb (length file % 8) 0) [] (refusalLine j 15)))
+
+  lines-refused : openingRefusal mainframe (openingOf (take 8 file)) ≡ 2 → ended (after a₀ file) ≡ refusalLine 0 2
+  unfolding ended lastLine
+  lines-refused e =
+      ap (λ (g : Feed). ended g)
+      (opening-taken ∙ ap (λ (g : Feed). bytesTaken g (drop 8 file)) (refused-stopped e) ∙ taken-stopped stopped (drop 8 file) refl)
+      ∙ append-nil (refusalLine 0 2)
+    where
+      stopped : Feed
+      stopped = record { number = 1; held = []; stopped = true; areas = a₀; lines = refusalLine 0 2 }
+
+-- the rules refuse an opening with 2 only
+refused-two : (file : List ℕ) → eqb (openingRefusal mainframe (openingOf file)) 0 ≡ false → openingRefusal mainframe (openingOf file) ≡ 2
+unfolding openingRefusal
+refused-two file = go (eqb (openingOf file .first) 0 && countsInRange mainframe (openingOf file .counts) && eqb (openingOf file .rest) 0)
+  where
+    go : (b : Bool) → eqb (cond b 0 2) 0 ≡ false → _≡_ {A = ℕ} (cond b 0 2) 2
+    go true e = absurd (eqb-false 0 0 e refl)
+    go false e = refl
+
+-- ---- the whole file
+
+-- a file that ends before or within its opening
+short-lines : (a₀ : Areas) (file : List ℕ) → length file < 8 → ended (after a₀ file) ≡ refusalLine 0 15
+unfolding after begun ended heldOn lastLine
+short-lines a₀ file h = ap (λ (g : Feed). ended g) (taken-held (begun a₀) file refl (omega (arith, h))) ∙ last file
+  where
+    last : (xs : List ℕ) → lastLine 0 xs false ≡ refusalLine 0 15
+    last [] = refl
+    last (x ∷ xs) = refl
+
+lines-of-whole : (a₀ : Areas) (file : List ℕ) → rightSizes a₀ ≡ true → fileLines file ≡ ended (after a₀ file)
+unfolding fileLines
+lines-of-whole a₀ file sizes = go (ltb (length file) 8) (eqb (openingRefusal mainframe (openingOf (take 8 file))) 0) refl refl
+  where
+    go : (b d : Bool) → ltb (length file) 8 ≡ b → eqb (openingRefusal mainframe (openingOf (take 8 file))) 0 ≡ d
+        → cond b (refusalLine 0 15) (cond d (refusalLine 0 0 ++ stepLines file) (refusalLine 0 2)) ≡ ended (after a₀ file)
+    go true d e h = sym (short-lines a₀ file (ltb-true (length file) 8 e))
+    go false true e h =
+        sym (lines-accepted a₀ file sizes (ltb-false (length file) 8 e) (eqb-true (openingRefusal mainframe (openingOf (take 8 file))) 0 h))
+    go false false e h = sym (lines-refused a₀ file sizes (ltb-false (length file) 8 e) (refused-two (take 8 file) h))
+
+-- the lines printed while a file is fed, and the one at its end, are the lines of the whole file
+pub whole-lines : (a₀ a : Areas) (file : List ℕ) (p : Progress) → rightSizes a₀ ≡ true → Reached a₀ file p a → fileLines file ≡ after a₀ file .lines ++ finishLine p
+whole-lines a₀ a file p sizes h =
+    lines-of-whole a₀ file sizes ∙ sym (ended-finish (after a₀ file))
+    ∙ ap (λ (q : Progress). after a₀ file .lines ++ finishLine q) (sym (h .progress))

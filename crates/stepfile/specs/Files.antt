@@ -1,0 +1,53 @@
+-- Document 01, "The step file and run program": the lines that are printed for a whole file. Assumes nothing.
+use Prim.Native.Nat.{ℕ, suc, _+_, _-_, _/_, _%_, min}
+use mathlib.Core.Bool.{cond}
+use mathlib.Core.List.{List, [], _∷_, _++_}
+use lib.ListN.{length, take, drop}
+use lib.Dec.{ltb, eqb}
+use Rattle.rules.specs.Opening.{openingRefusal, opened}
+use Rattle.rules.specs.Refusals.{Answer}
+use Rattle.rules.specs.Runs.{answers}
+use Rattle.rules.specs.State.{mainframe, State}
+use Rattle.engine.specs.Promises.{openingOf}
+use Rattle.running.specs.Records.{stepsIn}
+use Rattle.lines.specs.Lines.{lineBytes}
+
+-- "the 1,000,000th step record": so many steps are run
+unfoldable pub mostSteps : ℕ
+mostSteps = 1000000
+
+-- the line of record n with a refusal (0 for an accepted opening): "Value 0, count 0"
+unfoldable pub refusalLine : ℕ → ℕ → List ℕ
+refusalLine n refusal = lineBytes n refusal 0 0
+
+-- "a line a record": the lines of answers, numbered from n on
+unfoldable pub answerLines : ℕ → List Answer → List ℕ
+answerLines n [] = []
+answerLines n (a ∷ rest) = lineBytes n (a .refusal) (a .value) (a .count) ++ answerLines (suc n) rest
+
+-- how many whole records stand behind the opening
+unfoldable pub stepCount : List ℕ → ℕ
+stepCount bytes = (length bytes - 8) / 8
+
+-- how a file ends: 16 where "a whole record follows the 1,000,000th step record", 15 where "it ends within a record"; "The 15 or 16 line has
+-- the number the next record would have had"
+unfoldable pub endLine : List ℕ → List ℕ
+endLine bytes =
+    cond (ltb mostSteps (stepCount bytes)) (refusalLine (mostSteps + 1) 16)
+    (cond (eqb (length bytes % 8) 0) []
+    (refusalLine (stepCount bytes + 1) 15))
+
+-- the state that the opening leaves
+unfoldable pub openedBy : List ℕ → State
+openedBy bytes = opened mainframe (openingOf (take 8 bytes) .counts)
+
+-- the lines of the steps and the end, behind an accepted opening
+unfoldable pub stepLines : List ℕ → List ℕ
+stepLines bytes = answerLines 1 (answers mainframe (openedBy bytes) (stepsIn (min (stepCount bytes) mostSteps) (drop 8 bytes))) ++ endLine bytes
+
+-- the lines of a file: 15 where it ends "before the opening" or within it; "After 2, 15 or 16 it stops"
+unfoldable pub fileLines : List ℕ → List ℕ
+fileLines bytes =
+    cond (ltb (length bytes) 8) (refusalLine 0 15)
+    (cond (eqb (openingRefusal mainframe (openingOf (take 8 bytes))) 0) (refusalLine 0 0 ++ stepLines bytes)
+    (refusalLine 0 2))

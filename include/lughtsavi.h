@@ -1,0 +1,137 @@
+/*
+ * The Lughtsavi engine and its diffs, for callers in C, C++ and Rust.
+ *
+ * Link target/staticlib/liblughtsavi.a (written by `rt staticlib lughtsavi`; x86-64 Linux). It allocates nothing and keeps nothing
+ * between calls: the whole state of a mainframe lies in four areas that the caller lends to each call. The code is proved to answer
+ * and to leave in the lent memory exactly what document 01 says, for every content and every length of what is lent; the contracts
+ * are in crates/lughtsavi/src/lib.rt.
+ *
+ * A slice is passed as two arguments: a pointer to its first element, and the number of its elements (words for uint32_t, not bytes).
+ * The caller owes what a Rust caller owes:
+ *   - the pointer is not null, also where the length is 0; it is aligned for its element, and that many elements can be read and,
+ *     where it is not const, written;
+ *   - memory that is not const overlaps no other slice of the same call, and no other thread uses it during the call.
+ * A slice that has not the length named below is no error of the caller: the functions test it and refuse.
+ */
+#ifndef LUGHTSAVI_H
+#define LUGHTSAVI_H
+
+#include <stdbool.h>
+#include <stddef.h>
+#include <stdint.h>
+
+#ifdef __cplusplus
+extern "C" {
+#endif
+
+/* The lengths of the slices, in elements. */
+#define LUGHTSAVI_CLOCKS 4744   /* uint8_t: vector clocks */
+#define LUGHTSAVI_WORDS 4096    /* uint32_t: each processor's copies of the pages, then the twins */
+#define LUGHTSAVI_RECORDS 17280 /* uint8_t: the change records */
+#define LUGHTSAVI_MARKS 93      /* uint8_t: counts, holders, arrived and dirty marks */
+#define LUGHTSAVI_OPENING 8     /* uint8_t: 0, processors, pages, locks, 0, 0, 0, 0 */
+#define LUGHTSAVI_ANSWER 3      /* uint32_t: refusal, value, count */
+#define LUGHTSAVI_PAGE 32       /* uint32_t: the words of a page */
+#define LUGHTSAVI_DIFF 131      /* uint8_t: no diff is longer */
+
+/* What lughtsavi_diff_write adds to a refusal. */
+#define LUGHTSAVI_REFUSED 256
+
+/* The kinds of step. The object is a word (read, write) or a lock (acquire, release), else 0; only a write has a value, else 0. */
+enum lughtsavi_kind {
+    LUGHTSAVI_READ = 1,
+    LUGHTSAVI_WRITE = 2,
+    LUGHTSAVI_ACQUIRE = 3,
+    LUGHTSAVI_RELEASE = 4,
+    LUGHTSAVI_ARRIVE = 5,
+    LUGHTSAVI_WANT_COLLECTION = 6
+};
+
+/* The refusals, by document 01's numbers. Where several apply, the first that a call meets is given. */
+enum lughtsavi_refusal {
+    LUGHTSAVI_ACCEPTED = 0,
+    LUGHTSAVI_OUT_OF_ORDER = 1,     /* the areas are not in order; for an opening: an area of a wrong size;
+                                       for a step also: an answer that has not three words */
+    LUGHTSAVI_BAD_OPENING = 2,      /* not eight bytes, first byte not 0, a count out of range (processors 1 to 8, pages 1 to 8,
+                                       locks 1 to 16), or bytes 4 to 7 not all 0 */
+    LUGHTSAVI_UNKNOWN_KIND = 3,     /* kind not 1 to 6 */
+    LUGHTSAVI_NO_PROCESSOR = 4,     /* processor absent */
+    LUGHTSAVI_NO_OBJECT = 5,        /* word or lock absent, or an unused field not 0 */
+    LUGHTSAVI_HAS_ARRIVED = 6,      /* the processor has arrived, and the round is not complete */
+    LUGHTSAVI_LOCK_HELD = 7,        /* acquire: the lock is held, by this processor too */
+    LUGHTSAVI_NOT_HOLDER = 8,       /* release: this processor is not the holder */
+    LUGHTSAVI_NO_INTERVAL_LEFT = 9, /* write to a clean page: the processor's own entry is 63 */
+    LUGHTSAVI_NO_RECORD_LEFT = 10,  /* write to a clean page: records plus dirty pages are 128 */
+    LUGHTSAVI_DIFF_LENGTH = 11,     /* no bytes, more than 16 pairs, bytes end within the pairs, or the total length is not exact */
+    LUGHTSAVI_DIFF_PAIR = 12,       /* a pair breaks its rule */
+    LUGHTSAVI_DIFF_ROOM = 13,       /* the destination is shorter than the diff */
+    LUGHTSAVI_PAGE_LENGTH = 14      /* a page lent is not 32 words */
+};
+
+/*
+ * Opens a mainframe of the processors, pages and locks that the opening names.
+ * Answers 0, and the areas hold exactly the opened state, whatever they held before.
+ * Refuses by 1, then 2; the areas are then left untouched.
+ */
+uint8_t lughtsavi_open(
+    const uint8_t *opening, size_t opening_len,
+    uint8_t *clocks, size_t clocks_len,
+    uint32_t *words, size_t words_len,
+    uint8_t *records, size_t records_len,
+    uint8_t *marks, size_t marks_len);
+
+/*
+ * Answers whether the areas have their lengths and hold a state in order: whether a step on them would not be refused by 1.
+ * It refuses nothing and writes nothing. An opening and every step leave areas in order, so a caller who alone writes
+ * them need not ask.
+ */
+bool lughtsavi_in_order(
+    const uint8_t *clocks, size_t clocks_len,
+    const uint32_t *words, size_t words_len,
+    const uint8_t *records, size_t records_len,
+    const uint8_t *marks, size_t marks_len);
+
+/*
+ * One step of a processor. Processors are numbered from 1; words and locks from 0.
+ * Answers 0 where the step was done: `answer` is 0, value, count, and the areas hold the state after the step. Only a read has a value
+ * other than 0; the count is the change records that the step applied to copies.
+ * Refuses by 1, then 3 to 10: it returns the refusal, `answer` is refusal, 0, 0, and the areas are left untouched.
+ * Where `answer` has not three words it returns 1, and `answer` too is left untouched.
+ */
+uint8_t lughtsavi_step(
+    uint32_t kind, uint32_t processor, uint32_t object, uint32_t value,
+    uint32_t *answer, size_t answer_len,
+    uint8_t *clocks, size_t clocks_len,
+    uint32_t *words, size_t words_len,
+    uint8_t *records, size_t records_len,
+    uint8_t *marks, size_t marks_len);
+
+/*
+ * Writes what turns the page `old_page` into the page `new_page` as a diff, from the first byte of `out` on.
+ * Answers its length in bytes, 1 to 131; the bytes of `out` beyond it are left untouched.
+ * Refuses by 14, then 13: it answers 256 + the refusal, and `out` is left untouched. The pages are only read.
+ */
+uint32_t lughtsavi_diff_write(
+    const uint32_t *old_page, size_t old_page_len,
+    const uint32_t *new_page, size_t new_page_len,
+    uint8_t *out, size_t out_len);
+
+/*
+ * Answers whether the bytes are exactly one diff: 0, or the refusal 11 or 12. It writes nothing.
+ */
+uint8_t lughtsavi_diff_check(const uint8_t *bytes, size_t bytes_len);
+
+/*
+ * Carries a diff out on a page.
+ * Answers 0, and the words of its runs are set in the page; the page's other words are left untouched.
+ * Refuses by 14, then 11 or 12: the page is then left untouched. The bytes are only read.
+ */
+uint8_t lughtsavi_diff_apply(
+    const uint8_t *bytes, size_t bytes_len,
+    uint32_t *page, size_t page_len);
+
+#ifdef __cplusplus
+}
+#endif
+
+#endif

@@ -1,0 +1,68 @@
+//! What a step on a state in order must be answered, as far as it can be read
+//! off the state before: the refusal, and the count of a fetch. Written from
+//! document 01's table and "Pending".
+
+use crate::areas::*;
+use crate::library::Step;
+use crate::state::State;
+
+pub const READ: u32 = 1;
+pub const WRITE: u32 = 2;
+pub const ACQUIRE: u32 = 3;
+pub const RELEASE: u32 = 4;
+pub const ARRIVE: u32 = 5;
+pub const WANT: u32 = 6;
+
+/// The refusal or 0, "the first that applies ... and only then".
+pub fn refusal(s: State, step: Step) -> u8 {
+    let (p, object) = (step.processor as usize, step.object as usize);
+    if !(READ..=WANT).contains(&step.kind) {
+        return 3;
+    }
+    if !s.has_processor(p) {
+        return 4;
+    }
+    let object_fits = match step.kind {
+        READ | WRITE => s.has_page(object / PAGE_WORDS),
+        ACQUIRE | RELEASE => s.has_lock(object),
+        _ => object == 0,
+    };
+    if !object_fits || step.kind != WRITE && step.value != 0 {
+        return 5;
+    }
+    if s.arrived(p) {
+        return 6;
+    }
+    match step.kind {
+        ACQUIRE if s.holder(object) != 0 => 7,
+        RELEASE if s.holder(object) != p => 8,
+        WRITE if s.dirty(p, object / PAGE_WORDS) => 0,
+        WRITE if s.own(p) == INTERVALS => 9,
+        WRITE if s.standing() + s.dirty_pages() == SLOTS => 10,
+        _ => 0,
+    }
+}
+
+/// The count of an accepted step, or nothing where it takes more than the
+/// state before: an arrival with collection wanted.
+pub fn count(s: State, step: Step) -> Option<usize> {
+    let p = step.processor as usize;
+    match step.kind {
+        READ | WRITE => Some(pending(s, p, step.object as usize / PAGE_WORDS)),
+        ARRIVE if s.wish() => None,
+        _ => Some(0),
+    }
+}
+
+/// "records of g by another card q, with interval above q's entry in the
+/// applied clock and not above q's entry in p's clock"
+fn pending(s: State, p: usize, page: usize) -> usize {
+    let (applied, known) = (applied_row(p, page), processor_row(p));
+    let is_pending = s.records().filter(|r| {
+        r.page == page
+            && r.processor != p
+            && r.interval > s.entry(applied, r.processor)
+            && r.interval <= s.entry(known, r.processor)
+    });
+    is_pending.count()
+}

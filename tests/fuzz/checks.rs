@@ -1,0 +1,194 @@
+//! What is checked of every call. Each check gives what is wrong in words.
+
+use crate::answers::{self, READ};
+use crate::areas::{copy_at, Areas, PAGE_WORDS};
+use crate::library::{self, Step};
+use crate::order;
+use crate::random::Random;
+use crate::state::State;
+
+/// What the checks have met, for the report.
+#[derive(Default)]
+pub struct Met {
+    /// Steps by refusal, 0 to 10.
+    pub refusals: [u64; 11],
+    /// States that broke this clause of "in order" and no other.
+    pub alone: [u64; order::CLAUSES.len()],
+    /// States whose order was asked: in order, not in order.
+    pub in_order: u64,
+    pub out_of_order: u64,
+}
+
+/// `in_order` agrees with document 01's list, and writes nothing. Gives
+/// whether the state is in order.
+pub fn check_order(areas: &Areas, met: &mut Met) -> Result<bool, String> {
+    let due = order::in_order(areas.shown());
+    if library::in_order(areas.shown()) != due {
+        let broken = broken_names(areas);
+        return Err(format!("in_order says {}; broken: {broken:?}", !due));
+    }
+    if due {
+        met.in_order += 1;
+    } else {
+        met.out_of_order += 1;
+        if order::sizes_hold(areas.shown()) {
+            if let [clause] = order::broken(areas.shown())[..] {
+                met.alone[clause] += 1;
+            }
+        }
+    }
+    Ok(due)
+}
+
+fn broken_names(areas: &Areas) -> Vec<&'static str> {
+    match order::sizes_hold(areas.shown()) {
+        true => order::broken(areas.shown())
+            .iter()
+            .map(|n| order::CLAUSES[*n].0)
+            .collect(),
+        false => vec!["sizes"],
+    }
+}
+
+/// Asks for the order of the areas, takes the step and looks at everything
+/// that it answers and leaves. `before` is room for a copy.
+pub fn check_step(
+    random: &mut Random,
+    areas: &mut Areas,
+    before: &mut Areas,
+    step: Step,
+    met: &mut Met,
+) -> Result<(), String> {
+    before.copy_from(areas);
+    let in_order = check_order(areas, met)?;
+    same(areas, before, "in_order writes")?;
+    let due = match in_order {
+        true => answers::refusal(State(before.shown()), step),
+        false => 1,
+    };
+    let mut answer = [random.word(), random.word(), random.word()];
+    let refusal = library::step(step, &mut answer, areas.lend());
+    if refusal != due || answer[0] != due.into() {
+        return Err(format!(
+            "{step:?}: refusal {refusal}, answer {answer:?}, due {due}"
+        ));
+    }
+    met.refusals[usize::from(due)] += 1;
+    let [_, value, count] = answer;
+    if due == 0 {
+        accepted(areas, before, step, value, count).map_err(|e| format!("{step:?}: {e}"))
+    } else if [value, count] != [0, 0] {
+        Err(format!("{step:?}: refused {refusal} with {value} {count}"))
+    } else {
+        same(
+            areas,
+            before,
+            &format!("{step:?}: refusal {refusal} writes"),
+        )
+    }
+}
+
+fn same(areas: &Areas, before: &Areas, wrong: &str) -> Result<(), String> {
+    match areas == before {
+        true => Ok(()),
+        false => Err(wrong.to_string()),
+    }
+}
+
+/// An accepted step leaves a state in order and touches nothing outside; its
+/// value is the word that stands in the copy, its count the pending records.
+fn accepted(
+    areas: &Areas,
+    before: &Areas,
+    step: Step,
+    value: u32,
+    count: u32,
+) -> Result<(), String> {
+    if !areas.same_margins(before) {
+        return Err("writes outside the areas".to_string());
+    }
+    let (ours, theirs) = (
+        order::in_order(areas.shown()),
+        library::in_order(areas.shown()),
+    );
+    if !ours || !theirs {
+        let broken = broken_names(areas);
+        return Err(format!(
+            "leaves no order; in_order says {theirs}; broken: {broken:?}"
+        ));
+    }
+    let word = match step.kind {
+        READ => word_of(areas, step),
+        _ => 0,
+    };
+    let due = answers::count(State(before.shown()), step);
+    if value != word || due.is_some_and(|due| due != count as usize) {
+        return Err(format!("answers {value} {count}, due {word} {due:?}"));
+    }
+    Ok(())
+}
+
+/// The word of a read in the reader's copy.
+fn word_of(areas: &Areas, step: Step) -> u32 {
+    let (p, object) = (step.processor as usize, step.object as usize);
+    let at = copy_at(p, object / PAGE_WORDS) + object % PAGE_WORDS;
+    areas.words.part()[at]
+}
+
+/// A step whose answer has not three words: 1, and nothing is written.
+pub fn check_short_answer(
+    random: &mut Random,
+    areas: &mut Areas,
+    before: &mut Areas,
+    step: Step,
+) -> Result<(), String> {
+    before.copy_from(areas);
+    let mut answer = vec![7; random.pick(&[0, 1, 2, 4, 5])];
+    let refusal = library::step(step, &mut answer, areas.lend());
+    if refusal != 1 || answer.iter().any(|word| *word != 7) {
+        return Err(format!("answer of {} words: {refusal}", answer.len()));
+    }
+    same(areas, before, "a step with a short answer writes")
+}
+
+/// An opening on areas of any sizes and contents.
+pub fn check_opening(opening: &[u8], areas: &mut Areas, before: &mut Areas) -> Result<(), String> {
+    before.copy_from(areas);
+    let due = match order::sizes_hold(areas.shown()) {
+        true if opening_fits(opening) => 0,
+        true => 2,
+        false => 1,
+    };
+    let refusal = library::open(opening, areas.lend());
+    if refusal != due {
+        return Err(format!("opening {opening:?}: {refusal}, due {due}"));
+    }
+    if due != 0 {
+        return same(areas, before, "a refused opening writes");
+    }
+    if !areas.same_margins(before) {
+        return Err("an opening writes outside the areas".to_string());
+    }
+    opened(opening, areas)
+}
+
+/// "The opening record holds 0, cards, pages, locks, four zeros."
+fn opening_fits(opening: &[u8]) -> bool {
+    matches!(opening, [0, 1..=8, 1..=8, 1..=16, 0, 0, 0, 0])
+}
+
+/// The counts are the opening's, and all else that a state has is 0.
+fn opened(opening: &[u8], areas: &Areas) -> Result<(), String> {
+    let shown = areas.shown();
+    let counts = shown.marks[..3] == opening[1..4];
+    let marks = shown.marks[3..].iter().all(|mark| *mark == 0);
+    let clocks = shown.clocks.iter().all(|entry| *entry == 0);
+    let copies = shown.words[..shown.words.len() / 2]
+        .iter()
+        .all(|word| *word == 0);
+    if counts && marks && clocks && copies && library::in_order(shown) && order::in_order(shown) {
+        Ok(())
+    } else {
+        Err(format!("opening {opening:?}: not the opened state"))
+    }
+}

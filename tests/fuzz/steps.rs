@@ -1,0 +1,126 @@
+//! Random steps: mostly ones that fit the state, some with any fields.
+
+use crate::answers::{ACQUIRE, ARRIVE, READ, RELEASE, WANT, WRITE};
+use crate::areas::*;
+use crate::library::Step;
+use crate::random::Random;
+use crate::state::State;
+
+/// How often of 100 each kind comes in a run: read, write, lock, arrive; the
+/// rest wants collection.
+#[derive(Clone, Copy)]
+pub struct Habits([usize; 4]);
+
+/// Runs that fill the records, mixed runs, runs of many rounds.
+const HABITS: [Habits; 4] = [
+    Habits([15, 45, 40, 0]),
+    Habits([30, 35, 32, 2]),
+    Habits([25, 35, 30, 8]),
+    Habits([30, 30, 10, 25]),
+];
+
+pub fn any_habits(random: &mut Random) -> Habits {
+    random.pick(&HABITS)
+}
+
+/// A step for a state of the right sizes, whatever is in it.
+pub fn any_step(random: &mut Random, s: State, habits: Habits) -> Step {
+    if random.percent(8) {
+        return wild_step(random, s);
+    }
+    let Habits([read, write, lock, arrive]) = habits;
+    let turn = random.below(100);
+    if turn < read {
+        use_word(random, s, READ)
+    } else if turn < read + write {
+        use_word(random, s, WRITE)
+    } else if turn < read + write + lock {
+        use_lock(random, s)
+    } else if turn < read + write + lock + arrive {
+        step(ARRIVE, any_processor(random, s), 0, 0)
+    } else {
+        step(WANT, any_processor(random, s), 0, 0)
+    }
+}
+
+fn step(kind: u32, processor: usize, object: usize, value: u32) -> Step {
+    let (processor, object) = (processor as u32, object as u32);
+    Step {
+        kind,
+        processor,
+        object,
+        value,
+    }
+}
+
+/// A present processor, most often one that has not arrived.
+fn any_processor(random: &mut Random, s: State) -> usize {
+    let mut p = 1;
+    for _ in 0..4 {
+        p = random.within(1, s.processors().clamp(1, PROCESSORS));
+        if !s.arrived(p) {
+            break;
+        }
+    }
+    p
+}
+
+/// A word, often one of the first four on its page.
+fn use_word(random: &mut Random, s: State, kind: u32) -> Step {
+    let page = random.below(s.pages().clamp(1, PAGES));
+    let few = if random.percent(60) { 4 } else { PAGE_WORDS };
+    let word = PAGE_WORDS * page + random.below(few);
+    let value = match kind {
+        WRITE if random.percent(20) => random.below(3) as u32,
+        WRITE => random.word(),
+        _ => 0,
+    };
+    step(kind, any_processor(random, s), word, value)
+}
+
+/// Mostly a held lock is freed by its holder and a free one taken.
+fn use_lock(random: &mut Random, s: State) -> Step {
+    let lock = random.below(s.locks().clamp(1, LOCKS));
+    if random.percent(8) {
+        let kind = random.pick(&[ACQUIRE, RELEASE]);
+        return step(kind, any_processor(random, s), lock, 0);
+    }
+    match s.holder(lock) {
+        0 => step(ACQUIRE, any_processor(random, s), lock, 0),
+        holder => step(RELEASE, holder, lock, 0),
+    }
+}
+
+/// Fields at the edges of their ranges, or anywhere.
+fn wild_step(random: &mut Random, s: State) -> Step {
+    let (processors, locks) = (s.processors() as u32, s.locks() as u32);
+    let words = 32 * s.pages() as u32;
+    let edges = [
+        0,
+        1,
+        processors,
+        processors + 1,
+        locks.saturating_sub(1),
+        locks,
+        words.saturating_sub(1),
+        words,
+        255,
+        256,
+        257,
+        65535,
+        65536,
+        65537,
+        u32::MAX,
+    ];
+    let mut field = |most: usize| match random.below(10) {
+        0 => random.word(),
+        1..=3 => random.pick(&edges),
+        _ => random.below(most) as u32,
+    };
+    Step {
+        kind: field(8),
+        processor: field(10),
+        object: field(20),
+        value: field(2),
+    }
+}

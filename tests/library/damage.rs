@@ -1,0 +1,292 @@
+//! The reached state, damaged: it is not in order, and a step of any kind answers 1, 0, 0 and leaves every byte.
+
+use crate::library::{in_order, step, Areas, CLOCKS, MARKS, RECORDS, WORDS};
+use crate::openings::of_wrong_sizes;
+use crate::steps::refused_as;
+use crate::Tally;
+
+pub fn check(tally: &mut Tally, reached: &Areas) {
+    for (name, damaged) in damages(reached) {
+        not_in_order(tally, &name, &damaged);
+    }
+    for (name, damaged) in of_wrong_sizes(reached) {
+        not_in_order(tally, &name, &damaged);
+    }
+    every_byte(tally, reached);
+    harmless(tally, reached);
+}
+
+// ---- where things lie (crates/memory/specs/Areas.antt)
+
+/// The entry of processor q in a row of clocks; row 0 is the barrier's, row p processor p's.
+fn entry(row: usize, q: usize) -> usize {
+    8 * row + q - 1
+}
+
+fn lock_row(l: usize) -> usize {
+    9 + l
+}
+
+fn applied_row(p: usize, g: usize) -> usize {
+    25 + (p - 1) * 8 + g
+}
+
+fn interval_row(p: usize, i: usize) -> usize {
+    89 + (p - 1) * 63 + i - 1
+}
+
+/// The first word of a processor's copy of a page.
+fn copy(p: usize, g: usize) -> usize {
+    32 * ((p - 1) * 8 + g)
+}
+
+fn twin(p: usize, g: usize) -> usize {
+    WORDS / 2 + copy(p, g)
+}
+
+fn slot(i: usize) -> usize {
+    135 * i
+}
+
+fn arrived(p: usize) -> usize {
+    4 + p
+}
+
+fn holder(l: usize) -> usize {
+    13 + l
+}
+
+fn dirty(p: usize, g: usize) -> usize {
+    29 + (p - 1) * 8 + g
+}
+
+// ---- damage
+
+/// The reached state with one condition of "in order" broken.
+fn damages(reached: &Areas) -> Vec<(String, Areas)> {
+    let mut all = Vec::new();
+    let clocks: [(&str, usize, u8); 17] = [
+        ("an entry for an absent processor", entry(1, 4), 1),
+        ("a clock of an absent processor", entry(4, 1), 1),
+        ("a clock of an absent lock", entry(lock_row(2), 1), 1),
+        (
+            "an applied clock of an absent page",
+            entry(applied_row(1, 2), 1),
+            1,
+        ),
+        (
+            "an applied clock of an absent processor",
+            entry(applied_row(8, 0), 1),
+            1,
+        ),
+        (
+            "an interval's clock of an absent processor",
+            entry(interval_row(4, 1), 1),
+            1,
+        ),
+        (
+            "a clock kept for an interval not made",
+            entry(interval_row(1, 2), 1),
+            1,
+        ),
+        (
+            "the last interval's clock",
+            entry(interval_row(8, 63), 8),
+            1,
+        ),
+        ("a processor's entry above the own entry", entry(2, 1), 2),
+        ("the barrier's entry above the own entry", entry(0, 1), 2),
+        (
+            "a lock's entry above the own entry",
+            entry(lock_row(0), 1),
+            2,
+        ),
+        (
+            "an interval's entry above the own entry",
+            entry(interval_row(1, 1), 1),
+            2,
+        ),
+        ("an own entry of 64", entry(1, 1), 64),
+        ("an own entry below what others know", entry(1, 1), 0),
+        (
+            "an applied clock above its processor's clock",
+            entry(applied_row(3, 0), 1),
+            1,
+        ),
+        ("own entry 63 with a dirty page", entry(2, 2), 63),
+        (
+            "an applied clock above the own entry",
+            entry(applied_row(2, 0), 1),
+            255,
+        ),
+    ];
+    for (name, place, byte) in clocks {
+        let mut areas = reached.clone();
+        areas.clocks[place] = byte;
+        all.push((name.to_string(), areas));
+    }
+    let words = [
+        ("a word of an absent page", copy(1, 2)),
+        ("the last word of an absent page", copy(2, 7) + 31),
+        ("a word of an absent processor", copy(4, 0)),
+        ("the last word of an absent processor", copy(8, 7) + 31),
+    ];
+    for (name, place) in words {
+        let mut areas = reached.clone();
+        areas.words[place] = 0x8000_0000;
+        all.push((name.to_string(), areas));
+    }
+    let records: [(&str, usize, u8); 13] = [
+        ("a record of nobody", slot(0), 0),
+        ("a record of an absent processor", slot(0), 4),
+        ("a record of a processor that made no interval", slot(0), 2),
+        ("a record's interval 0", slot(0) + 1, 0),
+        ("a record's interval above the own entry", slot(0) + 1, 2),
+        ("a record's interval of 255", slot(1) + 1, 255),
+        ("a record of an absent page", slot(0) + 2, 2),
+        (
+            "two records of one processor, interval and page",
+            slot(1) + 2,
+            0,
+        ),
+        ("a diff's length beyond its slot", slot(0) + 3, 132),
+        ("a diff's length that is not exact", slot(0) + 3, 8),
+        ("a diff of 17 runs", slot(0) + 4, 17),
+        ("a diff whose pair leaves the page", slot(0) + 5, 32),
+        ("a diff whose run is empty", slot(1) + 6, 0),
+    ];
+    for (name, place, byte) in records {
+        let mut areas = reached.clone();
+        areas.records[place] = byte;
+        all.push((name.to_string(), areas));
+    }
+    let marks: [(&str, usize, u8); 17] = [
+        ("no processors", 0, 0),
+        ("nine processors", 0, 9),
+        ("fewer processors than are used", 0, 2),
+        ("no pages", 1, 0),
+        ("nine pages", 1, 9),
+        ("fewer pages than are used", 1, 1),
+        ("no locks", 2, 0),
+        ("seventeen locks", 2, 17),
+        ("a record standing that is none", 3, 3),
+        ("129 records standing", 3, 129),
+        ("an absent processor has arrived", arrived(4), 1),
+        ("an absent lock has a holder", holder(2), 1),
+        ("a lock held by an absent processor", holder(0), 4),
+        ("a lock held by processor 255", holder(1), 255),
+        ("an absent page is dirty", dirty(1, 2), 1),
+        ("a page of an absent processor is dirty", dirty(4, 0), 1),
+        ("the last dirty mark", dirty(8, 7), 1),
+    ];
+    for (name, place, byte) in marks {
+        let mut areas = reached.clone();
+        areas.marks[place] = byte;
+        all.push((name.to_string(), areas));
+    }
+    let mut areas = reached.clone();
+    areas.marks[arrived(1)] = 1;
+    areas.marks[arrived(2)] = 1;
+    all.push(("all have arrived".to_string(), areas));
+    all
+}
+
+/// Areas that are not in order: a step of any kind answers 1, 0, 0 and leaves every byte.
+fn not_in_order(tally: &mut Tally, name: &str, damaged: &Areas) {
+    tally.check(&format!("{name}: not in order"), !in_order(damaged));
+    let steps = [
+        (1, 1, 0, 0),
+        (2, 1, 0, 5),
+        (3, 1, 1, 0),
+        (4, 2, 0, 0),
+        (5, 1, 0, 0),
+        (6, 1, 0, 0),
+        (0, 0, 0, 0),
+    ];
+    let refused = steps.iter().all(|&fields| {
+        let mut areas = damaged.clone();
+        refused_as(1, fields, &mut areas) && areas == *damaged
+    });
+    tally.check(&format!("{name}: 1, untouched"), refused);
+}
+
+/// Every byte and word of every area, one after the other, with all its bits turned: a step is refused by 1 exactly where the areas are
+/// not in order, and then leaves every byte.
+fn every_byte(tally: &mut Tally, reached: &Areas) {
+    sweep(tally, "clocks", CLOCKS, reached, |areas, i| {
+        areas.clocks[i] ^= 0xff
+    });
+    sweep(tally, "words", WORDS, reached, |areas, i| {
+        areas.words[i] ^= 0xffff_ffff
+    });
+    sweep(tally, "records", RECORDS, reached, |areas, i| {
+        areas.records[i] ^= 0xff
+    });
+    sweep(tally, "marks", MARKS, reached, |areas, i| {
+        areas.marks[i] ^= 0xff
+    });
+}
+
+fn sweep(
+    tally: &mut Tally,
+    name: &str,
+    length: usize,
+    reached: &Areas,
+    turn: fn(&mut Areas, usize),
+) {
+    let mut found = 0;
+    let mut agree = true;
+    let mut untouched = true;
+    for i in 0..length {
+        let mut damaged = reached.clone();
+        turn(&mut damaged, i);
+        let mut areas = damaged.clone();
+        let fine = in_order(&areas);
+        untouched &= areas == damaged;
+        let mut answer = [77; 3];
+        let refused = step((2, 2, 33, 5), &mut answer, &mut areas) == 1;
+        agree &= refused != fine;
+        if refused {
+            found += 1;
+            untouched &= areas == damaged && answer == [1, 0, 0];
+        } else {
+            agree &= in_order(&areas);
+        }
+    }
+    tally.check(
+        &format!("each of {name} turned: some are not in order"),
+        found > 0,
+    );
+    tally.check(
+        &format!("each of {name} turned: 1 where not in order, and only then"),
+        agree,
+    );
+    tally.check(&format!("each of {name} turned: untouched"), untouched);
+}
+
+/// Changes of which "in order" says nothing: the step is done.
+fn harmless(tally: &mut Tally, reached: &Areas) {
+    let changes: [(&str, fn(&mut Areas)); 6] = [
+        ("a word of a copy", |a| a.words[copy(3, 1)] = 1),
+        ("a twin of a clean page", |a| a.words[twin(1, 0)] = 1),
+        ("a slot behind the standing records", |a| {
+            a.records[slot(2)] = 255
+        }),
+        ("the rest of a slot", |a| a.records[slot(0) + 134] = 255),
+        ("a wish of 255", |a| a.marks[4] = 255),
+        ("own entry 62 with a dirty page", |a| {
+            a.clocks[entry(2, 2)] = 62
+        }),
+    ];
+    for (name, change) in changes {
+        let mut areas = reached.clone();
+        change(&mut areas);
+        let fine = in_order(&areas);
+        let mut answer = [77; 3];
+        let refusal = step((6, 1, 0, 0), &mut answer, &mut areas);
+        tally.check(
+            &format!("{name}: in order"),
+            fine && refusal == 0 && answer == [0, 0, 0] && in_order(&areas),
+        );
+    }
+}

@@ -1,0 +1,33 @@
+//! The numbers of include/lughtsavi.h are those that this test uses.
+
+use crate::library::{CLOCKS, MARKS, RECORDS, WORDS};
+use crate::Tally;
+
+const HEADER: &str = include_str!("../../include/lughtsavi.h");
+
+pub fn check(tally: &mut Tally) {
+    let lengths = [
+        ("LUGHTSAVI_CLOCKS", CLOCKS),
+        ("LUGHTSAVI_WORDS", WORDS),
+        ("LUGHTSAVI_RECORDS", RECORDS),
+        ("LUGHTSAVI_MARKS", MARKS),
+        ("LUGHTSAVI_OPENING", 8),
+        ("LUGHTSAVI_ANSWER", 3),
+        ("LUGHTSAVI_PAGE", 32),
+        ("LUGHTSAVI_DIFF", 131),
+        ("LUGHTSAVI_REFUSED", 256),
+    ];
+    for (name, length) in lengths {
+        tally.check(&format!("header: {name}"), defined(name) == Some(length));
+    }
+}
+
+/// The number that the header defines a name as.
+fn defined(name: &str) -> Option<usize> {
+    HEADER
+        .lines()
+        .filter_map(|line| line.strip_prefix("#define "))
+        .map(|rest| rest.split_whitespace().collect::<Vec<_>>())
+        .find(|parts| parts[0] == name)
+        .and_then(|parts| parts.get(1)?.parse().ok())
+}

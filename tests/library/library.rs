@@ -1,0 +1,166 @@
+//! The functions of the static library as include/lughtsavi.h declares them, each called with slices.
+
+extern "C" {
+    fn lughtsavi_open(
+        opening: *const u8,
+        opening_len: usize,
+        clocks: *mut u8,
+        clocks_len: usize,
+        words: *mut u32,
+        words_len: usize,
+        records: *mut u8,
+        records_len: usize,
+        marks: *mut u8,
+        marks_len: usize,
+    ) -> u8;
+    fn lughtsavi_in_order(
+        clocks: *const u8,
+        clocks_len: usize,
+        words: *const u32,
+        words_len: usize,
+        records: *const u8,
+        records_len: usize,
+        marks: *const u8,
+        marks_len: usize,
+    ) -> bool;
+    fn lughtsavi_step(
+        kind: u32,
+        processor: u32,
+        object: u32,
+        value: u32,
+        answer: *mut u32,
+        answer_len: usize,
+        clocks: *mut u8,
+        clocks_len: usize,
+        words: *mut u32,
+        words_len: usize,
+        records: *mut u8,
+        records_len: usize,
+        marks: *mut u8,
+        marks_len: usize,
+    ) -> u8;
+    fn lughtsavi_diff_write(
+        old_page: *const u32,
+        old_page_len: usize,
+        new_page: *const u32,
+        new_page_len: usize,
+        out: *mut u8,
+        out_len: usize,
+    ) -> u32;
+    fn lughtsavi_diff_check(bytes: *const u8, bytes_len: usize) -> u8;
+    fn lughtsavi_diff_apply(
+        bytes: *const u8,
+        bytes_len: usize,
+        page: *mut u32,
+        page_len: usize,
+    ) -> u8;
+}
+
+/// The lengths of the areas, in elements.
+pub const CLOCKS: usize = 4744;
+pub const WORDS: usize = 4096;
+pub const RECORDS: usize = 17280;
+pub const MARKS: usize = 93;
+
+/// The four areas.
+#[derive(Clone, PartialEq)]
+pub struct Areas {
+    pub clocks: Vec<u8>,
+    pub words: Vec<u32>,
+    pub records: Vec<u8>,
+    pub marks: Vec<u8>,
+}
+
+impl Areas {
+    /// Areas of the right sizes, full of bytes that no state has.
+    pub fn garbage(seed: u32) -> Areas {
+        let mut x = seed;
+        let mut next = || {
+            x = x.wrapping_mul(1_664_525).wrapping_add(1_013_904_223);
+            x ^ (x >> 16)
+        };
+        Areas {
+            clocks: (0..CLOCKS).map(|_| next() as u8).collect(),
+            words: (0..WORDS).map(|_| next()).collect(),
+            records: (0..RECORDS).map(|_| next() as u8).collect(),
+            marks: (0..MARKS).map(|_| next() as u8).collect(),
+        }
+    }
+}
+
+/// A step's four fields: kind, processor, object, value.
+pub type Step = (u32, u32, u32, u32);
+
+pub fn open(opening: &[u8], a: &mut Areas) -> u8 {
+    unsafe {
+        lughtsavi_open(
+            opening.as_ptr(),
+            opening.len(),
+            a.clocks.as_mut_ptr(),
+            a.clocks.len(),
+            a.words.as_mut_ptr(),
+            a.words.len(),
+            a.records.as_mut_ptr(),
+            a.records.len(),
+            a.marks.as_mut_ptr(),
+            a.marks.len(),
+        )
+    }
+}
+
+pub fn in_order(a: &Areas) -> bool {
+    unsafe {
+        lughtsavi_in_order(
+            a.clocks.as_ptr(),
+            a.clocks.len(),
+            a.words.as_ptr(),
+            a.words.len(),
+            a.records.as_ptr(),
+            a.records.len(),
+            a.marks.as_ptr(),
+            a.marks.len(),
+        )
+    }
+}
+
+pub fn step((kind, processor, object, value): Step, answer: &mut [u32], a: &mut Areas) -> u8 {
+    unsafe {
+        lughtsavi_step(
+            kind,
+            processor,
+            object,
+            value,
+            answer.as_mut_ptr(),
+            answer.len(),
+            a.clocks.as_mut_ptr(),
+            a.clocks.len(),
+            a.words.as_mut_ptr(),
+            a.words.len(),
+            a.records.as_mut_ptr(),
+            a.records.len(),
+            a.marks.as_mut_ptr(),
+            a.marks.len(),
+        )
+    }
+}
+
+pub fn diff_write(old: &[u32], new: &[u32], out: &mut [u8]) -> u32 {
+    unsafe {
+        lughtsavi_diff_write(
+            old.as_ptr(),
+            old.len(),
+            new.as_ptr(),
+            new.len(),
+            out.as_mut_ptr(),
+            out.len(),
+        )
+    }
+}
+
+pub fn diff_check(bytes: &[u8]) -> u8 {
+    unsafe { lughtsavi_diff_check(bytes.as_ptr(), bytes.len()) }
+}
+
+pub fn diff_apply(bytes: &[u8], page: &mut [u32]) -> u8 {
+    unsafe { lughtsavi_diff_apply(bytes.as_ptr(), bytes.len(), page.as_mut_ptr(), page.len()) }
+}

@@ -1,0 +1,104 @@
+//! A state reached by steps, and steps that are refused in it: every byte is left as it was.
+
+use crate::library::{in_order, open, step, Areas, Step};
+use crate::Tally;
+
+pub fn check(tally: &mut Tally, reached: &Areas) {
+    answers_of_wrong_lengths(tally, reached);
+    refused_steps(tally, reached);
+}
+
+/// Three processors, two pages, two locks: processor 1 has made an interval with a record for each page, processor 2 holds lock 0, knows
+/// that interval and has page 0 dirty, processor 3 has arrived.
+pub fn reached(tally: &mut Tally) -> Areas {
+    let mut areas = Areas::garbage(5);
+    let opened = open(&[0, 3, 2, 2, 0, 0, 0, 0], &mut areas);
+    tally.check("reached state: opened", opened == 0);
+    let steps: [(Step, [u32; 3]); 8] = [
+        ((3, 1, 0, 0), [0, 0, 0]),
+        ((2, 1, 0, 7), [0, 0, 0]),
+        ((2, 1, 40, 0xffff_fffe), [0, 0, 0]),
+        ((4, 1, 0, 0), [0, 0, 0]),
+        ((3, 2, 0, 0), [0, 0, 0]),
+        ((1, 2, 40, 0), [0, 0xffff_fffe, 1]),
+        ((2, 2, 1, 9), [0, 0, 1]),
+        ((5, 3, 0, 0), [0, 0, 0]),
+    ];
+    for (fields, expected) in steps {
+        let mut answer = [77; 3];
+        let refusal = step(fields, &mut answer, &mut areas);
+        tally.check(
+            &format!("reached state: step {fields:?}"),
+            refusal == 0 && answer == expected && in_order(&areas),
+        );
+    }
+    areas
+}
+
+/// An answer that has not three words: 1, and it too is left as it was, on areas in order or not.
+fn answers_of_wrong_lengths(tally: &mut Tally, reached: &Areas) {
+    let mut damaged = reached.clone();
+    damaged.marks[0] = 9;
+    for before in [reached, &damaged] {
+        for length in [0, 1, 2, 4, 5] {
+            let mut areas = before.clone();
+            let mut answer = vec![77; length];
+            let refusal = step((2, 1, 0, 5), &mut answer, &mut areas);
+            tally.check(
+                &format!("an answer of {length} words: 1, untouched"),
+                refusal == 1 && answer == vec![77; length] && areas == *before,
+            );
+        }
+    }
+}
+
+/// The refusals 3 to 8, each in its place of the table: every byte is left as it was.
+fn refused_steps(tally: &mut Tally, reached: &Areas) {
+    let steps: [(u8, Step); 31] = [
+        (3, (0, 1, 0, 0)),
+        (3, (7, 1, 0, 0)),
+        (3, (257, 1, 0, 0)),
+        (3, (u32::MAX, u32::MAX, u32::MAX, u32::MAX)),
+        (4, (1, 0, 0, 0)),
+        (4, (2, 4, 0, 5)),
+        (4, (3, 257, 0, 0)),
+        (4, (6, u32::MAX, 1, 1)),
+        (5, (1, 1, 64, 0)),
+        (5, (1, 1, 0, 1)),
+        (5, (1, 1, 65_536, 0)),
+        (5, (2, 1, 64, 5)),
+        (5, (2, 1, u32::MAX, 5)),
+        (5, (3, 1, 2, 0)),
+        (5, (3, 1, 1, 1)),
+        (5, (4, 2, 2, 0)),
+        (5, (4, 2, 0, 1)),
+        (5, (5, 1, 1, 0)),
+        (5, (5, 1, 0, 1)),
+        (5, (6, 3, 1, 0)),
+        (5, (6, 3, 0, 1)),
+        (6, (1, 3, 0, 0)),
+        (6, (2, 3, 0, 5)),
+        (6, (3, 3, 0, 0)),
+        (6, (4, 3, 0, 0)),
+        (6, (5, 3, 0, 0)),
+        (6, (6, 3, 0, 0)),
+        (7, (3, 1, 0, 0)),
+        (7, (3, 2, 0, 0)),
+        (8, (4, 1, 0, 0)),
+        (8, (4, 2, 1, 0)),
+    ];
+    for (refusal, fields) in steps {
+        let mut areas = reached.clone();
+        tally.check(
+            &format!("step {fields:?}: {refusal}, untouched"),
+            refused_as(refusal, fields, &mut areas) && areas == *reached,
+        );
+    }
+}
+
+/// Whether a step returns the refusal and answers refusal, 0, 0.
+pub fn refused_as(refusal: u8, fields: Step, areas: &mut Areas) -> bool {
+    let mut answer = [77; 3];
+    let returned = step(fields, &mut answer, areas);
+    returned == refusal && answer == [u32::from(refusal), 0, 0]
+}
