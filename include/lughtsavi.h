@@ -107,6 +107,22 @@ uint8_t lughtsavi_step(
     uint8_t *marks, size_t marks_len);
 
 /*
+ * Runs an opening and the step records behind it, in one call. A record is eight bytes: kind, processor, object (two bytes, low first), value
+ * (four, low first); the opening is 0, processors, pages, locks and four zeros.
+ * For each record three words are written into `answers`: refusal or 0, value, count.
+ * Answers how many records were run, the opening among them: as many whole records as `bytes` has and as `answers` has room for; bytes and
+ * words beyond these are not looked at. Where the opening is refused (1 or 2) it alone is answered, and the areas are left untouched.
+ * A refused step leaves the areas untouched, and the run goes on.
+ */
+size_t lughtsavi_run(
+    const uint8_t *bytes, size_t bytes_len,
+    uint32_t *answers, size_t answers_len,
+    uint8_t *clocks, size_t clocks_len,
+    uint32_t *words, size_t words_len,
+    uint8_t *records, size_t records_len,
+    uint8_t *marks, size_t marks_len);
+
+/*
  * Writes what turns the page `old_page` into the page `new_page` as a diff, from the first byte of `out` on.
  * Answers its length in bytes, 1 to 131; the bytes of `out` beyond it are left untouched.
  * Refuses by 14, then 13: it answers 256 + the refusal, and `out` is left untouched. The pages are only read.

@@ -10,6 +10,19 @@ const FOLDER: &str = "tests/files";
 
 pub fn check(tally: &mut Tally) {
     listing_a(tally);
+    let names = names();
+    tally.check("the step files are there", names.len() > 1);
+    for name in names {
+        let same = match (run(&name), lines(&name)) {
+            (Some(run), Some(lines)) => run.kept && run.lines == lines,
+            _ => false,
+        };
+        tally.check(&format!("{name}: its lines"), same);
+    }
+}
+
+/// The names of the step files.
+pub fn names() -> Vec<String> {
     let mut names: Vec<String> = fs::read_dir(FOLDER)
         .map(|entries| {
             entries
@@ -19,14 +32,12 @@ pub fn check(tally: &mut Tally) {
         })
         .unwrap_or_default();
     names.sort();
-    tally.check("the step files are there", names.len() > 1);
-    for name in names {
-        let same = match (run(&name), lines(&name)) {
-            (Some(run), Some(lines)) => run.kept && run.lines == lines,
-            _ => false,
-        };
-        tally.check(&format!("{name}: its lines"), same);
-    }
+    names
+}
+
+/// The bytes of a step file.
+pub fn read_file(name: &str) -> Option<Vec<u8>> {
+    fs::read(Path::new(FOLDER).join(format!("{name}.steps"))).ok()
 }
 
 fn listing_a(tally: &mut Tally) {
@@ -58,7 +69,7 @@ struct Run {
 }
 
 fn run(name: &str) -> Option<Run> {
-    let bytes = fs::read(Path::new(FOLDER).join(format!("{name}.steps"))).ok()?;
+    let bytes = read_file(name)?;
     let mut records = bytes.chunks_exact(8);
     let mut areas = Areas::garbage(1);
     let mut run = Run {

@@ -39,6 +39,20 @@ extern "C" {
         marks: *mut u8,
         marks_len: usize,
     ) -> u8;
+    fn lughtsavi_run(
+        bytes: *const u8,
+        bytes_len: usize,
+        answers: *mut u32,
+        answers_len: usize,
+        clocks: *mut u8,
+        clocks_len: usize,
+        words: *mut u32,
+        words_len: usize,
+        records: *mut u8,
+        records_len: usize,
+        marks: *mut u8,
+        marks_len: usize,
+    ) -> usize;
     fn lughtsavi_diff_write(
         old_page: *const u32,
         old_page_len: usize,
@@ -132,6 +146,25 @@ pub fn step((kind, processor, object, value): Step, answer: &mut [u32], a: &mut 
             value,
             answer.as_mut_ptr(),
             answer.len(),
+            a.clocks.as_mut_ptr(),
+            a.clocks.len(),
+            a.words.as_mut_ptr(),
+            a.words.len(),
+            a.records.as_mut_ptr(),
+            a.records.len(),
+            a.marks.as_mut_ptr(),
+            a.marks.len(),
+        )
+    }
+}
+
+pub fn run(bytes: &[u8], answers: &mut [u32], a: &mut Areas) -> usize {
+    unsafe {
+        lughtsavi_run(
+            bytes.as_ptr(),
+            bytes.len(),
+            answers.as_mut_ptr(),
+            answers.len(),
             a.clocks.as_mut_ptr(),
             a.clocks.len(),
             a.words.as_mut_ptr(),

@@ -7,6 +7,7 @@ mod files;
 mod header;
 mod library;
 mod openings;
+mod runs;
 mod steps;
 
 use std::process::ExitCode;
@@ -37,6 +38,7 @@ fn main() -> ExitCode {
     header::check(&mut tally);
     files::check(&mut tally);
     openings::check(&mut tally);
+    runs::check(&mut tally);
     let reached = steps::reached(&mut tally);
     steps::check(&mut tally, &reached);
     damage::check(&mut tally, &reached);

@@ -9,6 +9,7 @@ ghost use Rattle.diff.specs.Reading.{readRefusal};
 ghost use Rattle.diff.specs.Answers.{writeAnswer, outAfter, applyRefusal, pageAfter};
 ghost use Rattle.checking.specs.Areas.{areasInOrder};
 ghost use Rattle.engine.specs.Promises.{areas, stepOf, openRefusal, areasOpened};
+ghost use Rattle.running.specs.Runs.{Ran};
 ghost use Rattle.lughtsavi.specs.Numbers.{stepReturn, slices, slicesAfter, ToldAs, writtenNumber};
 use diff::Written;
 use engine::Outcome;
@@ -100,6 +101,23 @@ fn lay(answer: &mut [u32], refusal: u32, value: u32, count: u32)
     answer[0] = refusal;
     answer[1] = value;
     answer[2] = count;
+}
+
+// Runs an opening and the step records behind it, eight bytes each, and writes three words for each record into `answers`: refusal, value,
+// count. Says how many records were run: as many whole ones as there are and as the answers have room for, the opening alone where that is
+// refused. Happens-before-1 judges every read that it answers.
+#[no_mangle]
+pub extern "C" fn lughtsavi_run(
+    bytes: &[u8],
+    answers: &mut [u32],
+    clocks: &mut [u8],
+    words: &mut [u32],
+    records: &mut [u8],
+    marks: &mut [u8],
+) -> usize
+    ensures { λ r. ⌜ Ran (now (bytes .entry)) (now (answers .entry)) (areas (now (clocks .entry)) (now (words .entry)) (now (records .entry)) (now (marks .entry))) r (now (answers .exit)) (areas (now (clocks .exit)) (now (words .exit)) (now (records .exit)) (now (marks .exit))) ⌝ }
+{
+    running::run(bytes, answers, clocks, words, records, marks)
 }
 
 // Writes what turns the page `old` into the page `new` as a diff at the start of `out`: its length in bytes, or 256 + the refusal.
