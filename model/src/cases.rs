@@ -188,7 +188,7 @@ fn room_given_back() -> Case {
 }
 
 fn opening_cases() -> Vec<Case> {
-    let bad: [(&str, [u8; 8], &str); 8] = [
+    let bad: [(&str, [u8; 8], &str); 11] = [
         (
             "2",
             [1, 2, 1, 1, 0, 0, 0, 0],
@@ -200,6 +200,9 @@ fn opening_cases() -> Vec<Case> {
         ("2-pages-9", [0, 1, 9, 1, 0, 0, 0, 0], "nine pages"),
         ("2-locks-0", [0, 1, 1, 0, 0, 0, 0, 0], "no locks"),
         ("2-locks-17", [0, 1, 1, 17, 0, 0, 0, 0], "seventeen locks"),
+        ("2-byte-4", [0, 1, 1, 1, 1, 0, 0, 0], "byte 4 is not 0"),
+        ("2-byte-5", [0, 1, 1, 1, 0, 1, 0, 0], "byte 5 is not 0"),
+        ("2-byte-6", [0, 1, 1, 1, 0, 0, 1, 0], "byte 6 is not 0"),
         ("2-tail", [0, 1, 1, 1, 0, 0, 0, 1], "byte 7 is not 0"),
     ];
     let refused = bad
@@ -502,9 +505,13 @@ fn further_cases() -> Vec<Case> {
     vec![
         news_twice(),
         equal_sums(),
+        equal_sums_of_unequal_intervals(),
         larger_sum(),
+        twin_after_fetch(),
         collect_count(),
         collect_with_lock_held(),
+        collect_with_lock_free(),
+        collect_then_round(),
         wish_is_kept(),
         old_lock(),
         long_chain(),
@@ -535,6 +542,27 @@ fn equal_sums() -> Case {
     c
 }
 
+fn equal_sums_of_unequal_intervals() -> Case {
+    let shows =
+        "Equal sums, card 1's second interval and card 2's first: the card decides, not the interval.";
+    let mut c = Case::open("equal-sums-interval", [4, 1, 2], shows);
+    c.ok(&[
+        write(1, 0, 10),
+        acquire(1, 0),
+        write(1, 0, 11),
+        release(1, 0),
+    ]);
+    c.ok(&[acquire(3, 1), write(3, 5, 30), release(3, 1)]);
+    c.ok(&[acquire(2, 1)]);
+    c.gives(write(2, 0, 20), 0, 1);
+    c.ok(&[release(2, 1)]);
+    c.ok(&[arrive(1), arrive(2), arrive(3), arrive(4)]);
+    c.gives(read(4, 0), 20, 4);
+    c.gives(read(1, 0), 20, 2);
+    c.gives(read(2, 0), 11, 2);
+    c
+}
+
 fn larger_sum() -> Case {
     let shows =
         "A race over more intervals: a larger sum goes after a smaller one, whatever the card.";
@@ -550,6 +578,20 @@ fn larger_sum() -> Case {
     c.gives(read(3, 0), 11, 3);
     c.gives(read(2, 0), 11, 2);
     c.gives(read(1, 0), 20, 1);
+    c
+}
+
+fn twin_after_fetch() -> Case {
+    let shows = "A write fetches before it takes the twin: card 2's record has its own word alone, not card 1's old one.";
+    let mut c = Case::open("twin-after-fetch", [3, 1, 2], shows);
+    c.ok(&[acquire(1, 0), write(1, 0, 11), release(1, 0), acquire(2, 0)]);
+    c.gives(write(2, 1, 22), 0, 1);
+    c.ok(&[release(2, 0), write(1, 0, 12), acquire(1, 1), release(1, 1)]);
+    c.ok(&[arrive(1), arrive(2), arrive(3)]);
+    c.gives(read(3, 0), 12, 3);
+    c.gives(read(3, 1), 22, 0);
+    c.gives(read(1, 1), 22, 1);
+    c.gives(read(1, 0), 12, 0);
     c
 }
 
@@ -576,6 +618,33 @@ fn collect_with_lock_held() -> Case {
     c.refused(acquire(2, 0), 7);
     c.ok(&[write(1, 0, 5), release(1, 0), acquire(2, 0)]);
     c.gives(read(2, 0), 5, 1);
+    c
+}
+
+fn collect_with_lock_free() -> Case {
+    let shows = "A collecting round sets the clock of a free lock to zeros: it brings no news of card 1's new interval 1.";
+    let mut c = Case::open("collect-lock-free", [2, 1, 2], shows);
+    c.ok(&[acquire(1, 0), write(1, 0, 4), release(1, 0)]);
+    c.ok(&[want(1), arrive(1)]);
+    c.gives(arrive(2), 0, 1);
+    c.ok(&[write(1, 0, 5), acquire(1, 1), acquire(2, 0)]);
+    c.gives(read(2, 0), 4, 0);
+    c.ok(&[release(1, 1), acquire(2, 1)]);
+    c.gives(read(2, 0), 5, 1);
+    c
+}
+
+fn collect_then_round() -> Case {
+    let shows = "A round after a collecting one brings nothing back: card 1's 63 intervals are gone, and it may write.";
+    let mut c = Case::open("collect-then-round", [2, 1, 1], shows);
+    make_intervals(&mut c, 62);
+    c.ok(&[write(1, 0, 63), acquire(1, 0), release(1, 0)]);
+    c.refused(write(1, 0, 64), 9);
+    c.ok(&[want(2), arrive(1)]);
+    c.gives(arrive(2), 0, 63);
+    c.ok(&[arrive(2), arrive(1)]);
+    c.ok(&[write(1, 0, 64), arrive(1), arrive(2)]);
+    c.gives(read(2, 0), 64, 1);
     c
 }
 

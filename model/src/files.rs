@@ -56,7 +56,9 @@ writes such a file: an opening, 1,000,000 step records and one whole record
 more. Its last two lines are those of records 1000000 (an answer) and
 1000001, `1000001 16 0 0`. With `model gen mixed 1 1000000` the last line is
 that of record 1000000. With one to seven bytes after that file it ends within
-a record and the last line is `1000001 15 0 0`.
+a record and the last line is `1000001 15 0 0`. `model compare PROGRAM` runs
+such files, and those cut at each byte of the opening and of a record, beside
+the files here.
 ";
 
 /// The first line in which two runs differ, in words.

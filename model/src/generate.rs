@@ -1,13 +1,14 @@
 //! `model gen PROFILE SEED STEPS`: seeded step files.
 
+use crate::blend::blend;
 use crate::model::{ACQUIRE, ARRIVE, READ, RELEASE, WANT, WRITE};
 use crate::rng::Rng;
 use crate::script::Script;
 use std::collections::VecDeque;
 
 /// The profiles; each is described at its function.
-pub const PROFILES: [&str; 7] = [
-    "mixed", "locks", "rounds", "soak", "racy", "damaged", "chains",
+pub const PROFILES: [&str; 8] = [
+    "mixed", "locks", "rounds", "soak", "racy", "damaged", "chains", "blend",
 ];
 
 /// A file of an opening and `steps` step records (damaged ones may differ).
@@ -21,6 +22,7 @@ pub fn generate(profile: &str, seed: u64, steps: usize) -> Option<Vec<u8>> {
         "racy" => Some(racy(rng, steps)),
         "damaged" => Some(damaged(rng, seed, steps)),
         "chains" => Some(chains(rng, steps)),
+        "blend" => Some(blend(rng, steps)),
         _ => None,
     }
 }
@@ -62,7 +64,7 @@ fn mixed_turn(s: &mut Script) {
 }
 
 /// A word that is often one of a few on its page.
-fn hot_word(s: &mut Script) -> u16 {
+pub fn hot_word(s: &mut Script) -> u16 {
     let word = s.any_word();
     if s.rng.percent(60) {
         word / 32 * 32 + word % 3
@@ -82,7 +84,7 @@ fn some_arrive(s: &mut Script, card: u8) {
 }
 
 /// A step with at least one field that should not be.
-fn nonsense(s: &mut Script, card: u8) {
+pub fn nonsense(s: &mut Script, card: u8) {
     let high_word = s.pages * 32 + s.rng.below(40) as u16;
     let high_lock = s.locks + s.rng.below(4) as u16;
     let number = s.rng.next();
@@ -122,7 +124,7 @@ fn locks(mut rng: Rng, steps: usize) -> Vec<u8> {
     s.finish()
 }
 
-fn guarded_turn(s: &mut Script) {
+pub fn guarded_turn(s: &mut Script) {
     let card = s.any_card();
     let held = s.held_by(card);
     if held.is_empty() || s.rng.percent(4) {
@@ -145,7 +147,7 @@ fn guarded_word(s: &mut Script, held: &[u16]) -> u16 {
     lock + nth * s.locks
 }
 
-fn read_or_write(s: &mut Script, card: u8, word: u16, write_percent: usize) {
+pub fn read_or_write(s: &mut Script, card: u8, word: u16, write_percent: usize) {
     if s.rng.percent(write_percent) {
         s.write(card, word);
     } else {
@@ -172,7 +174,7 @@ fn rounds(mut rng: Rng, steps: usize) -> Vec<u8> {
 }
 
 /// Each word with its owner in this round, or nobody.
-fn deal_words(s: &mut Script, words: &[u16]) -> Vec<(u16, Option<u8>)> {
+pub fn deal_words(s: &mut Script, words: &[u16]) -> Vec<(u16, Option<u8>)> {
     let mut owner: Vec<Option<u8>> = (1..=s.cards).map(Some).collect();
     owner.push(None);
     let mut words = words.to_vec();
@@ -182,7 +184,7 @@ fn deal_words(s: &mut Script, words: &[u16]) -> Vec<(u16, Option<u8>)> {
     dealt.collect()
 }
 
-fn dealt_turn(s: &mut Script, deal: &[(u16, Option<u8>)]) {
+pub fn dealt_turn(s: &mut Script, deal: &[(u16, Option<u8>)]) {
     let (word, owner) = s.rng.pick(deal);
     match owner {
         Some(card) => read_or_write(s, card, word, 65),
@@ -280,7 +282,7 @@ fn racy_turn(s: &mut Script, words: &[u16]) {
 }
 
 /// Some words that travel together from card to card.
-struct Baton {
+pub struct Baton {
     words: Vec<u16>,
     owner: u8,
     /// Steps planned: kind, card, object.
@@ -307,7 +309,7 @@ fn chains(mut rng: Rng, steps: usize) -> Vec<u8> {
 
 /// Deals the words so that neighbours belong to different batons: false
 /// sharing on each page.
-fn deal_batons(s: &mut Script) -> Vec<Baton> {
+pub fn deal_batons(s: &mut Script) -> Vec<Baton> {
     let count = s.rng.within(2, 6) as u16;
     let mut batons = Vec::new();
     for first in 0..count {
@@ -326,7 +328,7 @@ fn deal_batons(s: &mut Script) -> Vec<Baton> {
 
 /// One planned step of one baton; a refused acquire or release stays
 /// planned, so the baton waits.
-fn baton_turn(s: &mut Script, batons: &mut [Baton]) {
+pub fn baton_turn(s: &mut Script, batons: &mut [Baton]) {
     let nth = s.rng.below(batons.len());
     let baton = &mut batons[nth];
     if baton.plan.is_empty() {

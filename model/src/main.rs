@@ -2,9 +2,15 @@
 
 #![forbid(unsafe_code)]
 
+mod agree;
+mod blend;
 mod case;
 mod cases;
 mod clock;
+mod compare;
+#[cfg(test)]
+mod compare_tests;
+mod coverage;
 mod diff;
 mod fault;
 mod files;
@@ -12,6 +18,9 @@ mod generate;
 mod in_order;
 mod judge;
 mod model;
+mod options;
+mod plan;
+mod program;
 mod rng;
 mod script;
 mod stepfile;
@@ -19,6 +28,7 @@ mod sweep;
 #[cfg(test)]
 mod tests;
 
+use options::{number, Options};
 use std::env;
 use std::fs;
 use std::io::{self, Read, Write};
@@ -35,6 +45,10 @@ model check-files DIR                 runs and compares them
 model faults DIR                      the named files under each fault
 model sweep SEEDS STEPS               all profiles, run and judged
 model sweep-faults SEEDS STEPS        all profiles under each fault
+model compare PROGRAM [OPTIONS]       a run program against the model
+model coverage [OPTIONS]              what happens in the files compared on
+    options: [DIR] [--files N] [--seed S] [--seconds T], else
+    tests/files, 2100 generated files, seeds from 1, 60 s for each run
 model change check HEX                0 or the refusal
 model change write TWIN COPY ROOM     two pages in hex; the change in hex
 model change apply PAGE HEX           a page in hex; the page after
@@ -43,6 +57,9 @@ model change apply PAGE HEX           a page in hex; the page after
 fn main() -> ExitCode {
     let args: Vec<String> = env::args().skip(1).collect();
     let args: Vec<&str> = args.iter().map(String::as_str).collect();
+    if let ["compare", program, options @ ..] = &args[..] {
+        return compared(program, options);
+    }
     match command(&args) {
         Ok(output) => print_out(&output),
         Err(wrong) => {
@@ -50,6 +67,24 @@ fn main() -> ExitCode {
             ExitCode::FAILURE
         }
     }
+}
+
+/// The last line counts the comparisons, also if none could be made.
+fn compared(program: &str, options: &[&str]) -> ExitCode {
+    let options = Options::parse(options);
+    let tally = options.and_then(|options| compare::compare(Path::new(program), &options));
+    let (passed, failed) = match tally {
+        Ok(tally) => (tally.passed, tally.failed),
+        Err(wrong) => {
+            println!("compare: {wrong}");
+            (0, 1)
+        }
+    };
+    println!("{passed} passed, {failed} failed");
+    if failed == 0 {
+        return ExitCode::SUCCESS;
+    }
+    ExitCode::FAILURE
 }
 
 fn print_out(output: &[u8]) -> ExitCode {
@@ -74,6 +109,7 @@ fn command(args: &[&str]) -> Result<Vec<u8>, String> {
         ["sweep-faults", seeds, steps] => {
             sweep::sweep_faults(number(seeds)?, number(steps)? as usize)
         }
+        ["coverage", options @ ..] => coverage::coverage(&Options::parse(options)?)?,
         ["change", "check", bytes] => change_line(diff::check(&from_hex(bytes)?), ""),
         ["change", "write", twin, copy, room] => change_write(twin, copy, room)?,
         ["change", "apply", page, bytes] => change_apply(page, bytes)?,
@@ -87,10 +123,6 @@ fn input() -> Result<Vec<u8>, String> {
     let read = io::stdin().lock().read_to_end(&mut bytes);
     read.map_err(|e| e.to_string())?;
     Ok(bytes)
-}
-
-fn number(text: &str) -> Result<u64, String> {
-    text.parse().map_err(|_| format!("{text} is no number"))
 }
 
 fn run_faulty(name: &str) -> Result<String, String> {

@@ -1,0 +1,95 @@
+//! The profile blend: stretches of the other race-free profiles on one
+//! mainframe, with steps that must be refused in between. Long files are made
+//! of it, since every read in them has one value that is due.
+
+use crate::generate::{
+    baton_turn, deal_batons, deal_words, dealt_turn, guarded_turn, hot_word, nonsense,
+    read_or_write,
+};
+use crate::rng::Rng;
+use crate::script::Script;
+
+/// Each stretch ends with a round of all cards. What was done before the
+/// round is ordered before all that comes after it, so there is no race as
+/// long as there is none within a stretch.
+pub fn blend(mut rng: Rng, steps: usize) -> Vec<u8> {
+    let counts = [rng.within(3, 8), rng.within(2, 8), rng.within(2, 16)];
+    let mut s = Script::new(rng, counts, steps);
+    while !s.full() {
+        match s.rng.below(4) {
+            0 => stretch(&mut s, &mut guarded_turn),
+            1 => dealt_stretch(&mut s),
+            2 => baton_stretch(&mut s),
+            _ => full_stretch(&mut s),
+        }
+    }
+    s.finish()
+}
+
+/// Turns of one kind, a round, often with a collection, and all locks freed.
+fn stretch(s: &mut Script, turn: &mut dyn FnMut(&mut Script)) {
+    for _ in 0..s.rng.within(20, 200) {
+        turn(s);
+        if s.rng.percent(3) {
+            let card = s.any_card();
+            nonsense(s, card);
+        }
+    }
+    if s.rng.percent(40) || s.standing() > 90 {
+        s.want();
+    }
+    s.round(turn);
+    free_locks(s);
+}
+
+fn free_locks(s: &mut Script) {
+    for lock in 0..s.locks {
+        if let Some(card) = s.holder(lock) {
+            s.release(card, lock);
+        }
+    }
+}
+
+fn dealt_stretch(s: &mut Script) {
+    let words: Vec<u16> = (0..24).map(|_| hot_word(s)).collect();
+    let deal = deal_words(s, &words);
+    stretch(s, &mut |s| dealt_turn(s, &deal));
+}
+
+fn baton_stretch(s: &mut Script) {
+    let mut batons = deal_batons(s);
+    stretch(s, &mut |s| baton_turn(s, &mut batons));
+}
+
+/// Cards write words of their own and close until one meets 9 or 10; then
+/// some turns with the space used up.
+fn full_stretch(s: &mut Script) {
+    let cards = if s.rng.percent(50) { s.cards } else { 1 };
+    let pages = s.rng.within(1, s.pages.into()) as u16;
+    let mut full = false;
+    while !full && !s.full() {
+        let card = s.rng.within(1, cards.into()) as u8;
+        for page in 0..pages {
+            let word = own_word(s, card, page);
+            full |= s.write(card, word).refusal >= 9;
+        }
+        s.close_by_lock(card);
+    }
+    stretch(s, &mut own_turn);
+}
+
+/// Each eighth word of a page is one card's own: false sharing of each page.
+fn own_word(s: &mut Script, card: u8, page: u16) -> u16 {
+    page * 32 + 8 * s.rng.below(4) as u16 + u16::from(card) - 1
+}
+
+fn own_turn(s: &mut Script) {
+    let card = s.any_card();
+    if s.rng.percent(15) {
+        s.close_by_lock(card);
+        return;
+    }
+    let page = s.rng.below(s.pages.into()) as u16;
+    let word = own_word(s, card, page);
+    read_or_write(s, card, word, 50);
+}

@@ -1,0 +1,185 @@
+//! `model coverage`: what happens in the files on which programs are
+//! compared, by the model's lines, and in how many of them each fault shows.
+
+use crate::fault::FAULTS;
+use crate::generate::PROFILES;
+use crate::model::{ARRIVE, READ, WRITE};
+use crate::options::Options;
+use crate::plan::{plan, Source};
+use crate::stepfile::{record_at, run, Line};
+use std::thread;
+
+/// What was seen in some files.
+#[derive(Clone, Copy, Default)]
+pub struct Seen {
+    files: usize,
+    one_card: usize,
+    eight_cards: usize,
+    eight_pages: usize,
+    sixteen_locks: usize,
+    /// Files with both 9 and 10.
+    full_twice: usize,
+    lines: usize,
+    /// How often each refusal 0 to 16 was printed.
+    pub refusals: [usize; 17],
+    reads: usize,
+    pub read_counts: usize,
+    read_counts_of_three: usize,
+    pub read_values: usize,
+    read_large_values: usize,
+    write_counts: usize,
+    pub collections: usize,
+    /// Files with other lines under each fault.
+    pub faults: [usize; FAULTS.len()],
+}
+
+impl Seen {
+    pub fn add_file(&mut self, file: &[u8], lines: &[Line]) {
+        self.files += 1;
+        self.add_opening(file, lines);
+        let before = self.refusals;
+        for line in lines {
+            self.add_line(file, line);
+        }
+        let rose = |refusal: usize| self.refusals[refusal] > before[refusal];
+        self.full_twice += usize::from(rose(9) && rose(10));
+    }
+
+    fn add_opening(&mut self, file: &[u8], lines: &[Line]) {
+        let opened = lines.first().is_some_and(|line| line.answer.refusal == 0);
+        let Some([_, cards, pages, locks, ..]) = record_at(file, 0).filter(|_| opened) else {
+            return;
+        };
+        self.one_card += usize::from(cards == 1);
+        self.eight_cards += usize::from(cards == 8);
+        self.eight_pages += usize::from(pages == 8);
+        self.sixteen_locks += usize::from(locks == 16);
+    }
+
+    fn add_line(&mut self, file: &[u8], line: &Line) {
+        let answer = line.answer;
+        self.lines += 1;
+        self.refusals[answer.refusal as usize] += 1;
+        let kind = record_at(file, line.number).map(|record| record[0]);
+        if line.number == 0 || answer.refusal != 0 {
+            return;
+        }
+        let counted = usize::from(answer.count > 0);
+        match kind {
+            Some(READ) => {
+                self.reads += 1;
+                self.read_counts += counted;
+                self.read_counts_of_three += usize::from(answer.count >= 3);
+                self.read_values += usize::from(answer.value != 0);
+                self.read_large_values += usize::from(answer.value > 0xffff);
+            }
+            Some(WRITE) => self.write_counts += counted,
+            Some(ARRIVE) => self.collections += counted,
+            _ => {}
+        }
+    }
+
+    pub fn add_faults(&mut self, file: &[u8], right: &[Line]) {
+        for (files, (_, fault)) in self.faults.iter_mut().zip(FAULTS) {
+            *files += usize::from(run(file, Some(fault)) != right);
+        }
+    }
+}
+
+/// A column of the table for each profile, one before for the named files
+/// and one for the ends of files.
+const COLUMNS: usize = PROFILES.len() + 2;
+
+fn column(source: &Source) -> usize {
+    match source {
+        Source::Named(_) => 0,
+        Source::End(_) => 1,
+        Source::Generated(recipe) => {
+            let profile = PROFILES.iter().position(|name| *name == recipe.profile);
+            2 + profile.unwrap_or(0)
+        }
+    }
+}
+
+pub fn coverage(options: &Options) -> Result<String, String> {
+    let plan = plan(&options.dir, options.files, options.seed)?;
+    let halves = thread::scope(|scope| {
+        let halves = [0, 1].map(|half| {
+            let mine = plan.iter().skip(half).step_by(2);
+            scope.spawn(|| look_over(mine))
+        });
+        halves.map(|half| half.join().unwrap_or(Err("a thread failed".to_string())))
+    });
+    let [one, other] = halves;
+    Ok(table(&one?, &other?))
+}
+
+fn look_over<'a>(sources: impl Iterator<Item = &'a Source>) -> Result<[Seen; COLUMNS], String> {
+    let mut seen = [Seen::default(); COLUMNS];
+    for source in sources {
+        let file = source.bytes()?;
+        let lines = run(&file, None);
+        let column = &mut seen[column(source)];
+        column.add_file(&file, &lines);
+        // The ends are long; the faults are asked of all the others.
+        if !matches!(source, Source::End(_)) {
+            column.add_faults(&file, &lines);
+        }
+    }
+    Ok(seen)
+}
+
+/// A row: what it shows, and the number in it.
+type Row = (String, Box<dyn Fn(&Seen) -> usize>);
+
+fn row(name: &str, number: impl Fn(&Seen) -> usize + 'static) -> Row {
+    (name.to_string(), Box::new(number))
+}
+
+fn rows() -> Vec<Row> {
+    let mut rows = vec![
+        row("files", |s| s.files),
+        row("  with 1 card", |s| s.one_card),
+        row("  with 8 cards", |s| s.eight_cards),
+        row("  with 8 pages", |s| s.eight_pages),
+        row("  with 16 locks", |s| s.sixteen_locks),
+        row("  with both 9 and 10", |s| s.full_twice),
+        row("lines", |s| s.lines),
+        row("  refusal 0", |s| s.refusals[0]),
+    ];
+    for refusal in (2..=10).chain([15, 16]) {
+        let name = format!("  refusal {refusal}");
+        rows.push(row(&name, move |s| s.refusals[refusal]));
+    }
+    rows.extend([
+        row("reads accepted", |s| s.reads),
+        row("  count above 0", |s| s.read_counts),
+        row("  count above 2", |s| s.read_counts_of_three),
+        row("  value not 0", |s| s.read_values),
+        row("  value above 65535", |s| s.read_large_values),
+        row("writes, count above 0", |s| s.write_counts),
+        row("collections, count above 0", |s| s.collections),
+    ]);
+    for (at, (fault, _)) in FAULTS.iter().enumerate() {
+        let name = format!("files where {fault} shows");
+        rows.push(row(&name, move |s| s.faults[at]));
+    }
+    rows
+}
+
+fn table(one: &[Seen; COLUMNS], other: &[Seen; COLUMNS]) -> String {
+    let mut text = format!("{:<29}", "");
+    for name in ["named", "ends"].iter().chain(&PROFILES).chain(&["all"]) {
+        text.push_str(&format!(" {name:>8}"));
+    }
+    for (name, number) in rows() {
+        text.push_str(&format!("\n{name:<29}"));
+        let columns = one.iter().zip(other);
+        let numbers: Vec<usize> = columns.map(|(a, b)| number(a) + number(b)).collect();
+        let all: usize = numbers.iter().sum();
+        for number in numbers.iter().chain(&[all]) {
+            text.push_str(&format!(" {number:>8}"));
+        }
+    }
+    text + "\n(the faults are not asked of the ends of files)\n"
+}
