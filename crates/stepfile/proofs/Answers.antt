@@ -1,0 +1,105 @@
+-- What `feed` promises, from what its parts have done. One law for each way of the code, and `answer-laws`. Assumes nothing.
+use Prim.Native.Nat.{ℕ, _+_, _-_, _≤_, _<_}
+use native.Mathlib.Omega.{arith}
+use mathlib.Core.Path.{_≡_, refl, sym, ap, _∙_}
+use mathlib.Core.Bool.{Bool, true, false, cond, not, false≢true}
+use mathlib.Core.List.{List, [], _∷_, _++_}
+use lib.ListN.{length, take, drop, replicate, take-append-drop}
+use lib.Seq.{sets, sets-eq, length-take-le}
+use borrow.Author.Tests.{not-true, not-false}
+use borrow.Author.Needs.{needs}
+use Rattle.engine.specs.Promises.{Areas}
+use Rattle.engine.specs.Outcomes.{OrderIs}
+use Rattle.stepfile.specs.Feeding.{Feed, bytesTaken, after}
+use Rattle.stepfile.specs.Promises.{progressOf, standing, feedable, notTaken, feedAnswer, feedLines, feedAreas, Reached, Started, FedAs}
+use Rattle.stepfile.specs.declared.Progress.{Progress}
+use Rattle.stepfile.specs.declared.Taken.{Taken}
+use Rattle.stepfile.specs.Needed.{FeedableIs, AnswerIs, Holding, takenAs, Feedable, ChunkFed}
+use Rattle.stepfile.proofs.Cutting.{taken-stopped, started, cut-reached, cut-lines}
+use Rattle.stepfile.proofs.Sound.{few-records, few-held, holding-there, room-there}
+use Rattle.stepfile.proofs.Passing.{kept-all}
+
+-- no byte has been fed
+pub nothing-fed : Started (record { number = 0; stopped = false; held = 0; bytes = replicate 8 0 })
+nothing-fed = record { reached = λ a₀. started a₀ }
+
+-- bytes behind which all is as it was are stored at the start
+pub stored-front : (out out′ lines : List ℕ) → length lines ≤ length out → take (length lines) out′ ≡ lines → drop (length lines) out′ ≡ drop (length lines) out
+    → out′ ≡ sets out 0 lines
+stored-front out out′ lines l front rest =
+    let none : 0 + length lines ≡ length lines = omega arith in
+    sym (take-append-drop (length lines) out′) ∙ ap (λ (xs : List ℕ). xs ++ drop (length lines) out′) front
+    ∙ ap (λ (xs : List ℕ). lines ++ xs) rest
+    ∙ ap (λ (n : ℕ). lines ++ drop n out) (sym none)
+    ∙ sym (sets-eq lines out 0 (omega (arith, l)))
+
+module _ (p : Progress) (chunk out : List ℕ) (a : Areas) (b : Bool) (e : FeedableIs b p (length chunk) (length out)) where
+  -- nothing is done
+  pub not-fed : (t : Taken) → not b ≡ true → AnswerIs p false 0 t → FedAs p chunk out a t out a
+  unfolding feedAnswer feedLines feedAreas notTaken
+  not-fed t z d =
+      let no : feedable p (length chunk) (length out) ≡ false = sym (e .is) ∙ not-true b z in
+      let unfed : t .fed ≡ false = ap (λ (x : Taken). x .fed) (d .is) in
+      record {
+        answer = d .is ∙ sym (rw no refl);
+        lines = sym (rw no refl);
+        areas = sym (rw no refl);
+        cut = λ a₀ before f r. absurd (false≢true (sym unfed ∙ f));
+        added = λ a₀ before f r. absurd (false≢true (sym unfed ∙ f));
+      }
+
+  module _ (z : not b ≡ false) where
+    fed-there : feedable p (length chunk) (length out) ≡ true
+    fed-there = sym (e .is) ∙ not-false b z
+
+    -- the chunk is fed
+    pub fed-as : (t : Taken) (out′ : List ℕ) (a′ : Areas) → ChunkFed (bytesTaken (standing p a) chunk) 0 out t out′ a′ → FedAs p chunk out a t out′ a′
+    unfolding feedAnswer feedLines feedAreas takenAs
+    fed-as t out′ a′ d =
+        let progress : t .progress ≡ progressOf (bytesTaken (standing p a) chunk) = ap (λ (x : Taken). x .progress) (d .answer) in
+        let written : t .written ≡ length (bytesTaken (standing p a) chunk .lines) = ap (λ (x : Taken). x .written) (d .answer) in
+        record {
+          answer = d .answer ∙ sym (rw fed-there refl);
+          lines = stored-front out out′ (bytesTaken (standing p a) chunk .lines) (d .kept .within) (d .lines) (d .kept .rest) ∙ sym (rw fed-there refl);
+          areas = d .areas ∙ sym (rw fed-there refl);
+          cut = λ a₀ before u r. rw (progress, d .areas) (cut-reached a₀ a before chunk p r);
+          added = λ a₀ before u r.
+              cut-lines a₀ a before chunk p r
+              ∙ ap (λ (xs : List ℕ). after a₀ before .lines ++ xs) (sym (d .lines) ∙ ap (λ (n : ℕ). take n out′) (sym written));
+        }
+
+    -- what is asked then
+    pub feedable-there : FeedableIs true p (length chunk) (length out)
+    feedable-there = record { is = sym fed-there }
+
+module _ (p : Progress) (chunk out : List ℕ) (e : FeedableIs true p (length chunk) (length out)) where
+  -- a run that has stopped is left as it is
+  pub fed-stopped : (a : Areas) (t : Taken) → length (p .bytes) ≡ 8 → p .stopped ≡ true → AnswerIs p true 0 t → ChunkFed (bytesTaken (standing p a) chunk) 0 out t out a
+  unfolding standing progressOf takenAs
+  fed-stopped a t long s d =
+      rw (taken-stopped (standing p a) chunk s)
+      (record {
+        answer = d .is ∙ ap (λ (x : Progress). record { progress = x; fed = true; written = 0 }) (again p (holding-there p (length chunk) (length out) (sym (e .is)) long));
+        areas = refl;
+        lines = refl;
+        kept = kept-all out 0 (omega arith);
+      })
+    where
+      again : (q : Progress) → Holding (q .held) (q .bytes) → q ≡ progressOf (standing q a)
+      again q h =
+          let l : length (take (q .held) (q .bytes)) ≡ q .held = length-take-le (q .held) (q .bytes) (omega (arith, h .few, h .long)) in
+          sym (rw (l, ← h .zeros, take-append-drop (q .held) (q .bytes)))
+
+  -- what feeding on asks
+  pub feedable-on : (ready : Bool) (c w r m : List ℕ) → p .stopped ≡ false → length (p .bytes) ≡ 8 → OrderIs ready c w r m → Feedable p ready chunk out c w r m
+  feedable-on ready c w r m s long o =
+      record {
+        few = few-records p (length chunk) (length out) (sym (e .is));
+        going = s;
+        fewer = few-held p (length chunk) (length out) (sym (e .is));
+        holding = holding-there p (length chunk) (length out) (sym (e .is)) long;
+        room = room-there p (length chunk) (length out) (sym (e .is));
+        order = o;
+      }
+
+pub ruleset answer-laws = (nothing-fed, not-fed, fed-as, feedable-there, fed-stopped, feedable-on, needs)

@@ -1,0 +1,148 @@
+-- A chunk fed to a run that has not stopped: the record that has begun, then the rest. One law for each way of the code, and `chunk-laws`.
+-- Assumes nothing.
+use Prim.Native.Nat.{ℕ, _+_, _-_, _*_, _/_, _≤_, _<_}
+use native.Mathlib.Omega.{arith}
+use mathlib.Core.Path.{_≡_, refl, sym, ap, _∙_}
+use mathlib.Core.Bool.{Bool, true, false}
+use mathlib.Core.List.{List, [], _∷_, _++_, append-nil, append-assoc}
+use lib.ListN.{length, take, drop, length-append, take-append-drop, drop-of-length-le}
+use lib.Seq.{take-at, take-all, length-take-le}
+use borrow.Author.Needs.{needs}
+use Rattle.engine.specs.Promises.{Areas, areas}
+use Rattle.stepfile.specs.Feeding.{Feed, openingTaken, stepTaken, tooManyTaken, recordTaken, heldOn, bytesTaken}
+use Rattle.stepfile.specs.Promises.{progressOf, standing}
+use Rattle.stepfile.specs.declared.Progress.{Progress}
+use Rattle.stepfile.specs.declared.Taken.{Taken}
+use Rattle.stepfile.specs.declared.Stand.{Stand}
+use Rattle.stepfile.specs.declared.Held.{Held}
+use Rattle.stepfile.specs.Needed.{HeldAnswer, standsAt, Takeable, Took, Passable, Holdable, HeldAll, takenAs, firstStand, Feedable, Completes, ChunkFed}
+use Rattle.stepfile.proofs.Cutting.{taken-together, taken-held, taken-record}
+use Rattle.stepfile.proofs.Passing.{kept-all, kept-again, held-progress}
+
+-- a whole record is taken whatever was held before it
+record-from : (p : Progress) (ready : Bool) (out : List ℕ) (a : Areas) (bytes : List ℕ)
+    → recordTaken (standing p a) bytes ≡ recordTaken (standsAt (firstStand (p .number) ready) out a) bytes
+unfolding recordTaken openingTaken stepTaken tooManyTaken standing standsAt firstStand
+record-from p ready out a bytes = refl
+
+module _ (p : Progress) (ready : Bool) (chunk out c w r m : List ℕ) (h : Feedable p ready chunk out c w r m) where
+  pub holdable : Holdable (p .held) (p .bytes) chunk 0
+  holdable = record { holding = h .holding; within = omega arith }
+
+  begun-long : length (take (p .held) (p .bytes)) ≡ p .held
+  begun-long = length-take-le (p .held) (p .bytes) (omega (arith, h .fewer, h .holding .long))
+
+  module _ (q : Held) (d : HeldAll (p .held) (p .bytes) chunk 0 q) where
+    -- the chunk does not complete the record
+    pub chunk-held : (t : Taken) → q .count < 8 → HeldAnswer (p .number) (q .count) (q .bytes) 0 t
+        → ChunkFed (bytesTaken (standing p (areas c w r m)) chunk) 0 out t out (areas c w r m)
+    unfolding standing takenAs heldOn
+    chunk-held t l e =
+        let all : drop (q .next) chunk ≡ [] = drop-of-length-le chunk {i = q .next} (omega (arith, d .short l)) in
+        let bytes : take (p .held) (p .bytes) ++ chunk ≡ take (q .count) (q .bytes) =
+        sym (d .holds .same) ∙ ap (λ (xs : List ℕ). take (q .count) (q .bytes) ++ xs) all ∙ append-nil (take (q .count) (q .bytes)) in
+        let is : bytesTaken (standing p (areas c w r m)) chunk ≡ heldOn (standing p (areas c w r m)) (take (q .count) (q .bytes)) =
+        taken-held (standing p (areas c w r m)) chunk (h .going) (omega (arith, begun-long, d .holds .counted, d .short l, l))
+        ∙ ap (λ (xs : List ℕ). heldOn (standing p (areas c w r m)) xs) bytes in
+        rw is
+        (record {
+          answer =
+              e .is
+              ∙ ap (λ (x : Progress). record { progress = x; fed = true; written = 0 })
+              (held-progress (standing p (areas c w r m)) (q .count) (q .bytes) (d .holds .holding));
+          areas = refl;
+          lines = refl;
+          kept = kept-all out 0 (omega arith);
+        })
+
+    -- it does
+    pub completes : 8 ≤ q .count → Completes p ready q chunk out c w r m
+    completes l = record { feedable = h; held = d; eight = l }
+
+module _ (p : Progress) (ready : Bool) (q : Held) (chunk out c w r m : List ℕ) (h : Completes p ready q chunk out c w r m) where
+  -- the record that has begun
+  pub begun-takeable : Takeable (firstStand (p .number) ready) (q .bytes) 0 out c w r m
+  unfolding firstStand
+  begun-takeable =
+      record {
+        few = h .feedable .few;
+        there = omega (arith, h .held .holds .holding .long);
+        room = omega (arith, h .feedable .room);
+        order = h .feedable .order;
+      }
+
+  module _ (s : Stand) (out′ c′ w′ r′ m′ : List ℕ)
+      (k : Took (recordTaken (standsAt (firstStand (p .number) ready) out (areas c w r m)) (take 8 (drop 0 (q .bytes)))) (firstStand (p .number) ready) out s out′ c′ w′ r′ m′) where
+    pub rest-passable : Passable s chunk (q .next) out′ c′ w′ r′ m′
+    unfolding firstStand
+    rest-passable =
+        record {
+          few = k .few;
+          within = h .held .holds .within;
+          room = omega (arith, k .near, k .kept .long, h .feedable .room);
+          order = k .order;
+        }
+
+    eight : q .count ≡ 8
+    eight = omega (arith, h .eight, h .held .holds .holding .few)
+
+    begun : length (take (p .held) (p .bytes)) ≡ p .held
+    begun = begun-long p ready chunk out c w r m (h .feedable)
+
+    first : length (take (q .next) chunk) ≡ q .next
+    first = length-take-le (q .next) chunk (h .held .holds .within)
+
+    -- the bytes held and those taken are the record
+    whole : take (p .held) (p .bytes) ++ take (q .next) chunk ≡ take 8 (q .bytes)
+    whole =
+        let front : length (take (p .held) (p .bytes) ++ take (q .next) chunk) ≡ 8 =
+        length-append (take (p .held) (p .bytes)) (take (q .next) chunk) ∙ omega (arith, begun, first, h .held .holds .counted, eight) in
+        let same : take 8 (q .bytes) ++ drop (q .next) chunk ≡ take (p .held) (p .bytes) ++ chunk =
+        ap (λ (n : ℕ). take n (q .bytes) ++ drop (q .next) chunk) (sym eight) ∙ h .held .holds .same in
+        sym (take-at (take (p .held) (p .bytes) ++ take (q .next) chunk) (drop (q .next) chunk) 8 front)
+        ∙ ap (λ (xs : List ℕ). take 8 xs) (append-assoc (take (p .held) (p .bytes)) (take (q .next) chunk) (drop (q .next) chunk))
+        ∙ ap (λ (xs : List ℕ). take 8 (take (p .held) (p .bytes) ++ xs)) (take-append-drop (q .next) chunk)
+        ∙ ap (λ (xs : List ℕ). take 8 xs) (sym same)
+        ∙ take-at (take 8 (q .bytes)) (drop (q .next) chunk) 8 (length-take-le 8 (q .bytes) (omega (arith, h .held .holds .holding .long)))
+
+    -- what the chunk leads to is what its rest leads to behind the record
+    behind-first : bytesTaken (standsAt s out′ (areas c′ w′ r′ m′)) (drop (q .next) chunk) ≡ bytesTaken (standing p (areas c w r m)) chunk
+    unfolding standing
+    behind-first =
+        sym
+        (ap (λ (xs : List ℕ). bytesTaken (standing p (areas c w r m)) xs) (sym (take-append-drop (q .next) chunk))
+        ∙ taken-together (standing p (areas c w r m)) (take (q .next) chunk) (drop (q .next) chunk)
+        ∙ ap (λ (f : Feed). bytesTaken f (drop (q .next) chunk))
+        (taken-record (standing p (areas c w r m)) (take (q .next) chunk) (h .feedable .going) (omega (arith, begun, h .feedable .fewer))
+        (omega (arith, begun, first, h .held .holds .counted, eight))
+        ∙ ap (λ (xs : List ℕ). recordTaken (standing p (areas c w r m)) xs) whole
+        ∙ record-from p ready out (areas c w r m) (take 8 (q .bytes))
+        ∙ sym (k .is)))
+
+    pub chunk-taken : (t : Taken) (out″ : List ℕ) (a″ : Areas) → ChunkFed (bytesTaken (standsAt s out′ (areas c′ w′ r′ m′)) (drop (q .next) chunk)) (s .at) out′ t out″ a″
+        → ChunkFed (bytesTaken (standing p (areas c w r m)) chunk) 0 out t out″ a″
+    unfolding firstStand
+    chunk-taken t out″ a″ f =
+        rw (← behind-first)
+        (record {
+          answer = f .answer;
+          areas = f .areas;
+          lines = f .lines;
+          kept = kept-again out 0 out′ (s .at) out″ _ (k .kept) (f .kept);
+        })
+
+-- before the first record no line is written
+pub first-stand : (number : ℕ) (ready : Bool) → record { number = number; stopped = false; ready = ready; at = 0 } ≡ firstStand number ready
+unfolding firstStand
+first-stand number ready = refl
+
+-- the record that has begun, taken where no line is written
+module _ (s : Stand) (number : ℕ) (ready : Bool) (bytes out c w r m : List ℕ) (e : s ≡ firstStand number ready) where
+  pub first-takeable : Takeable (firstStand number ready) bytes 0 out c w r m → Takeable s bytes 0 out c w r m
+  first-takeable h = rw e h
+
+  pub first-taken : (s′ : Stand) (out′ c′ w′ r′ m′ : List ℕ) → Took (recordTaken (standsAt s out (areas c w r m)) (take 8 (drop 0 bytes))) s out s′ out′ c′ w′ r′ m′
+      → Took (recordTaken (standsAt (firstStand number ready) out (areas c w r m)) (take 8 (drop 0 bytes))) (firstStand number ready) out s′ out′ c′ w′ r′ m′
+  first-taken s′ out′ c′ w′ r′ m′ k = rw (← e) k
+
+pub ruleset chunk-laws = (holdable, chunk-held, completes, begun-takeable, rest-passable, chunk-taken, first-stand, first-takeable, first-taken, needs)

@@ -1,0 +1,122 @@
+-- What `finish` promises, from what its parts have done. One law for each way of the code, and `finishing-laws`. Assumes nothing.
+use Prim.Native.Nat.{ℕ, _+_, _-_, _*_, _/_, _≤_, _<_}
+use native.Mathlib.Omega.{arith}
+use mathlib.Core.Path.{_≡_, refl, sym, ap, _∙_}
+use mathlib.Core.Bool.{Bool, true, false, cond, not, _&&_, _||_, false≢true}
+use mathlib.Core.List.{List, [], _∷_, _++_}
+use lib.ListN.{length, take, drop}
+use lib.Seq.{sets, length-take-le}
+use lib.Dec.{ltb, eqb}
+use borrow.Author.Tests.{not-true, not-false, ltb-true, ltb-false, lt-ltb, le-ltb, eqb-true, eq-eqb, ne-eqb}
+use borrow.Author.Needs.{needs}
+use Rattle.engine.specs.Promises.{Areas, rightSizes}
+use Rattle.lines.specs.Lines.{lineBytes}
+use Rattle.lines.specs.Needed.{Room}
+use Rattle.stepfile.specs.Files.{fileLines, refusalLine}
+use Rattle.stepfile.specs.Feeding.{after, lastLine}
+use Rattle.stepfile.specs.Promises.{feedable, notTaken, Reached, finishLine, finishAnswer, finishLines, FinishedAs}
+use Rattle.stepfile.specs.declared.Progress.{Progress}
+use Rattle.stepfile.specs.declared.Taken.{Taken}
+use Rattle.stepfile.specs.Needed.{FeedableIs, AnswerIs, EndsShort, LinePut}
+use Rattle.stepfile.proofs.Sound.{few-held, room-there}
+use Rattle.stepfile.proofs.Answers.{stored-front}
+use Rattle.stepfile.proofs.Whole.{whole-lines}
+
+-- ---- whether a file that ends here ends within a record or before the opening
+
+module _ (p : Progress) where
+  pub stopped-before : p .stopped ≡ true → EndsShort false p
+  stopped-before z = record { is = rw z }
+
+  pub no-opening : p .stopped ≡ false → p .number ≡ 0 → EndsShort true p
+  no-opening z n = record { is = rw (z, eq-eqb (p .number) 0 n) }
+
+  pub within-record : p .stopped ≡ false → (p .number ≡ 0 → ⊥) → EndsShort (ltb 0 (p .held)) p
+  within-record z n = record { is = rw (z, ne-eqb (p .number) 0 n) }
+
+  -- the line at the end, if there is one
+  module _ (long : length (p .bytes) ≡ 8) (few : p .held < 8) where
+    last-line : (xs : List ℕ) → length xs ≡ p .held
+        → lastLine (p .number) xs (p .stopped) ≡ cond (not (p .stopped) && (eqb (p .number) 0 || ltb 0 (p .held))) (lineBytes (p .number) 15 0 0) []
+    unfolding lastLine refusalLine
+    last-line [] e = rw (le-ltb 0 (p .held) (omega (arith, e))) (go (p .stopped) (eqb (p .number) 0) refl)
+      where
+        go : (s n : Bool) → eqb (p .number) 0 ≡ n
+            → cond s [] (cond n (lineBytes 0 15 0 0) []) ≡ cond (not s && (n || false)) (lineBytes (p .number) 15 0 0) []
+        go true n z = refl
+        go false true z = ap (λ (k : ℕ). lineBytes k 15 0 0) (sym (eqb-true (p .number) 0 z))
+        go false false z = refl
+    last-line (x ∷ xs) e = rw (lt-ltb 0 (p .held) (omega (arith, e))) (go (p .stopped) (eqb (p .number) 0))
+      where
+        go : (s n : Bool) → cond s [] (lineBytes (p .number) 15 0 0) ≡ cond (not s && (n || true)) (lineBytes (p .number) 15 0 0) []
+        go true n = refl
+        go false true = refl
+        go false false = refl
+
+    finish-line : finishLine p ≡ cond (not (p .stopped) && (eqb (p .number) 0 || ltb 0 (p .held))) (lineBytes (p .number) 15 0 0) []
+    unfolding finishLine
+    finish-line = last-line (take (p .held) (p .bytes)) (length-take-le (p .held) (p .bytes) (omega (arith, long, few)))
+
+    module _ (b : Bool) (e : EndsShort b p) where
+      finish-none : not b ≡ true → finishLine p ≡ []
+      finish-none z = finish-line ∙ ap (λ (x : Bool). cond x (lineBytes (p .number) 15 0 0) []) (sym (e .is) ∙ not-true b z)
+
+      finish-one : not b ≡ false → finishLine p ≡ lineBytes (p .number) 15 0 0
+      finish-one z = finish-line ∙ ap (λ (x : Bool). cond x (lineBytes (p .number) 15 0 0) []) (sym (e .is) ∙ not-false b z)
+
+-- ---- the promise
+
+-- the line stands at the start of the bytes lent, and behind it all is as it was
+finished : (p : Progress) (out line : List ℕ) (t : Taken) (out′ : List ℕ) → feedable p 0 (length out) ≡ true → finishLine p ≡ line
+    → t ≡ record { progress = p; fed = true; written = length line } → out′ ≡ sets out 0 line → take (length line) out′ ≡ line → FinishedAs p out t out′
+unfolding finishAnswer finishLines
+finished p out line t out′ there e d s l =
+    let written : t .written ≡ length line = ap (λ (x : Taken). x .written) d in
+    record {
+      answer = d ∙ sym (rw (there, e));
+      lines = s ∙ sym (rw (there, e));
+      whole = λ a₀ a file sizes f r.
+          whole-lines a₀ a file p sizes r
+          ∙ ap (λ (xs : List ℕ). after a₀ file .lines ++ xs) (e ∙ sym l ∙ ap (λ (n : ℕ). take n out′) (sym written));
+    }
+
+module _ (p : Progress) (out : List ℕ) (b : Bool) (e : FeedableIs b p 0 (length out)) where
+  -- nothing is done
+  pub not-finished : (t : Taken) → not b ≡ true → AnswerIs p false 0 t → FinishedAs p out t out
+  unfolding finishAnswer finishLines notTaken
+  not-finished t z d =
+      let no : feedable p 0 (length out) ≡ false = sym (e .is) ∙ not-true b z in
+      let unfed : t .fed ≡ false = ap (λ (x : Taken). x .fed) (d .is) in
+      record {
+        answer = d .is ∙ sym (rw no refl);
+        lines = sym (rw no refl);
+        whole = λ a₀ a file sizes f r. absurd (false≢true (sym unfed ∙ f));
+      }
+
+  module _ (z : not b ≡ false) where
+    there : feedable p 0 (length out) ≡ true
+    there = sym (e .is) ∙ not-false b z
+
+    pub room-for-last : Room out 0 44
+    room-for-last = record { room = omega (arith, room-there p 0 (length out) there) }
+
+    module _ (short : Bool) (x : EndsShort short p) (long : length (p .bytes) ≡ 8) where
+      -- no line
+      pub finished-none : (t : Taken) → not short ≡ true → AnswerIs p true 0 t → FinishedAs p out t out
+      finished-none t n d = finished p out [] t out there (finish-none p long (few-held p 0 (length out) there) short x n) (d .is) refl refl
+
+      -- the line of 15
+      pub finished-short : (t : Taken) (out′ : List ℕ) (end : ℕ) → not short ≡ false → LinePut out 0 (lineBytes (p .number) 15 0 0) out′ end
+          → AnswerIs p true end t → FinishedAs p out t out′
+      finished-short t out′ end n d w =
+          let line : List ℕ = lineBytes (p .number) 15 0 0 in
+          let at : end ≡ length (lineBytes (p .number) 15 0 0) =
+          sym (length-take-le end out′ (omega (arith, d .kept .within, d .kept .long))) ∙ ap length (d .lines) in
+          let front : take (length (lineBytes (p .number) 15 0 0)) out′ ≡ lineBytes (p .number) 15 0 0 = ap (λ (j : ℕ). take j out′) (sym at) ∙ d .lines in
+          finished p out (lineBytes (p .number) 15 0 0) t out′ there (finish-one p long (few-held p 0 (length out) there) short x n)
+          (w .is ∙ ap (λ (j : ℕ). record { progress = p; fed = true; written = j }) at)
+          (stored-front out out′ (lineBytes (p .number) 15 0 0) (omega (arith, at, d .kept .within)) front
+          (ap (λ (j : ℕ). drop j out′) (sym at) ∙ d .kept .rest ∙ ap (λ (j : ℕ). drop j out) at))
+          front
+
+pub ruleset finishing-laws = (stopped-before, no-opening, within-record, not-finished, room-for-last, finished-none, finished-short, needs)

@@ -1,0 +1,65 @@
+-- Whether a chunk is fed, and the answer where nothing is done. One law for each way of the code, and `feedable-laws`. Assumes nothing.
+use Prim.Native.Nat.{ℕ, _+_, _*_, _/_, _≤_, _<_}
+use native.Mathlib.Omega.{arith}
+use mathlib.Core.Path.{_≡_, refl, sym, ap, _∙_}
+use mathlib.Core.Bool.{Bool, true, false, _&&_, and-eq-true-iff}
+use mathlib.Core.List.{List}
+use lib.ListN.{length, drop}
+use lib.Dec.{ltb, leb}
+use borrow.Author.Tests.{ltb-true, leb-true, lt-ltb, le-ltb, le-leb, lt-leb}
+use borrow.Author.Needs.{needs}
+use Rattle.stepfile.specs.Files.{mostSteps}
+use Rattle.stepfile.specs.Promises.{allZero, sound, feedable}
+use Rattle.stepfile.specs.declared.Progress.{Progress}
+use Rattle.stepfile.specs.Needed.{ZerosBehind, FeedableIs, Holding}
+use Rattle.stepfile.proofs.HeldBytes.{holding-of}
+
+module _ (p : Progress) (chunk room : ℕ) where
+  pub number-too-large : 1000001 < p .number → FeedableIs false p chunk room
+  unfolding feedable sound mostSteps
+  number-too-large l = record { is = rw (lt-leb (p .number) 1000001 l) }
+
+  and-false : (b : Bool) → (b && false) ≡ false
+  and-false true = refl
+  and-false false = refl
+
+  pub no-room : room / 44 ≤ chunk / 8 → FeedableIs false p chunk room
+  unfolding feedable
+  no-room l = record { is = sym (ap (λ (b : Bool). sound p && b) (le-ltb (chunk / 8) (room / 44) l) ∙ and-false (sound p)) }
+
+  and-true : (b : Bool) → b ≡ (b && true)
+  and-true true = refl
+  and-true false = refl
+
+  pub feedable-when : (b : Bool) → p .number ≤ 1000001 → chunk / 8 < room / 44 → ZerosBehind b (p .held) (p .bytes) → FeedableIs b p chunk room
+  unfolding feedable sound mostSteps
+  feedable-when b l m z =
+      record { is = rw (le-leb (p .number) 1000001 l, lt-ltb (chunk / 8) (room / 44) m) (z .is ∙ and-true (ltb (p .held) 8 && allZero (drop (p .held) (p .bytes)))) }
+
+  -- what a chunk that is fed has
+  module _ (e : feedable p chunk room ≡ true) where
+    is-sound : sound p ≡ true
+    unfolding feedable
+    is-sound = and-eq-true-iff (sound p) (ltb (chunk / 8) (room / 44)) .0 e .0
+
+    sound-both : ((leb (p .number) (mostSteps + 1) && ltb (p .held) 8) ≡ true) × (allZero (drop (p .held) (p .bytes)) ≡ true)
+    unfolding sound
+    sound-both = and-eq-true-iff (leb (p .number) (mostSteps + 1) && ltb (p .held) 8) (allZero (drop (p .held) (p .bytes))) .0 is-sound
+
+    pub few-records : p .number ≤ 1000001
+    unfolding mostSteps
+    few-records = leb-true (p .number) 1000001 (and-eq-true-iff (leb (p .number) (mostSteps + 1)) (ltb (p .held) 8) .0 (sound-both .0) .0)
+
+    pub few-held : p .held < 8
+    few-held = ltb-true (p .held) 8 (and-eq-true-iff (leb (p .number) (mostSteps + 1)) (ltb (p .held) 8) .0 (sound-both .0) .1)
+
+    pub holding-there : length (p .bytes) ≡ 8 → Holding (p .held) (p .bytes)
+    holding-there long = holding-of (p .held) (p .bytes) long (omega (arith, few-held)) (sound-both .1)
+
+    pub room-there : 44 * (chunk / 8) + 44 ≤ room
+    unfolding feedable
+    room-there =
+        let l : chunk / 8 < room / 44 = ltb-true (chunk / 8) (room / 44) (and-eq-true-iff (sound p) (ltb (chunk / 8) (room / 44)) .0 e .1) in
+        omega (arith, l)
+
+pub ruleset feedable-laws = (number-too-large, no-room, feedable-when, needs)
