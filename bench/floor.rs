@@ -1,16 +1,17 @@
 //! The floor: what any run program must do and nothing else. Reads a step file from standard input, takes each record apart, and prints
-//! a line `number 0 0 0` for each. The sums of the fields go to standard error, so that the compiler must keep the taking apart.
+//! a line `number 0 0 0` for each. The sums of the fields go to standard error, so that the compiler must keep the taking apart; the zeros
+//! are hidden from it, since a run program has to print any number in their place.
 
 #![forbid(unsafe_code)]
 
 use std::fs::File;
+use std::hint::black_box;
 use std::io::{self, Read, Write};
 use std::os::fd::AsFd;
 
 const CHUNK: usize = 65536;
-/// The longest line: ten digits and " 0 0 0\n".
-const LONGEST: usize = 17;
-const REST: &[u8; 7] = b" 0 0 0\n";
+/// The longest line: four numbers of ten digits, each with a byte behind.
+const LONGEST: usize = 44;
 
 /// "00" to "99", so that two digits are printed at a time.
 const PAIRS: [u8; 200] = pairs();
@@ -35,6 +36,7 @@ fn main() -> io::Result<()> {
     let mut chunk = vec![0; CHUNK];
     let mut held = 0;
     let mut number = 0;
+    let zero = black_box(0);
     loop {
         let read = input.read(&mut chunk[held..])?;
         if read == 0 {
@@ -43,7 +45,7 @@ fn main() -> io::Result<()> {
         held += read;
         for record in chunk[..held].chunks_exact(8) {
             add_fields(&mut sums, record);
-            lines.put(number)?;
+            lines.put([number, zero, zero, zero])?;
             number += 1;
         }
         let whole = held / 8 * 8;
@@ -82,14 +84,16 @@ impl Lines {
         }
     }
 
-    fn put(&mut self, number: u32) -> io::Result<()> {
+    fn put(&mut self, numbers: [u32; 4]) -> io::Result<()> {
         if self.used + LONGEST > CHUNK {
             self.write()?;
         }
-        let end = self.used + width(number);
-        put_digits(&mut self.buffer[self.used..end], number);
-        self.buffer[end..end + REST.len()].copy_from_slice(REST);
-        self.used = end + REST.len();
+        for (number, behind) in numbers.into_iter().zip(*b"   \n") {
+            let end = self.used + width(number);
+            put_digits(&mut self.buffer[self.used..end], number);
+            self.buffer[end] = behind;
+            self.used = end + 1;
+        }
         Ok(())
     }
 
