@@ -1,23 +1,23 @@
 -- What `feed` promises, from what its parts have done. One law for each way of the code, and `answer-laws`. Assumes nothing.
-use Prim.Native.Nat.{ℕ, _+_, _-_, _≤_, _<_}
+use Prim.Native.Nat.{_+_, _≤_, ℕ}
 use native.Mathlib.Omega.{arith}
-use mathlib.Core.Path.{_≡_, refl, sym, ap, _∙_}
-use mathlib.Core.Bool.{Bool, true, false, cond, not, false≢true}
-use mathlib.Core.List.{List, [], _∷_, _++_}
-use lib.ListN.{length, take, drop, replicate, take-append-drop}
-use lib.Seq.{sets, sets-eq, length-take-le}
-use borrow.Author.Tests.{not-true, not-false}
+use mathlib.Core.Path.{_∙_, _≡_, ap, refl, sym}
+use mathlib.Core.Bool.{Bool, false, false≢true, not, true}
+use mathlib.Core.List.{List, _++_}
+use lib.ListN.{drop, length, replicate, take, take-append-drop}
+use lib.Seq.{length-take-le, sets, sets-eq}
+use borrow.Author.Tests.{not-false, not-true}
 use borrow.Author.Needs.{needs}
-use Rattle.engine.specs.Promises.{Areas}
 use Rattle.engine.specs.Outcomes.{OrderIs}
-use Rattle.stepfile.specs.Feeding.{Feed, bytesTaken, after}
-use Rattle.stepfile.specs.Promises.{progressOf, standing, feedable, notTaken, feedAnswer, feedLines, feedAreas, Reached, Started, FedAs}
+use Rattle.engine.specs.Promises.{Areas}
+use Rattle.stepfile.specs.Feeding.{after, bytesTaken}
+use Rattle.stepfile.specs.Promises.{FedAs, Started, feedAnswer, feedAreas, feedLines, feedable, notTaken, progressOf, standing}
 use Rattle.stepfile.specs.declared.Progress.{Progress}
 use Rattle.stepfile.specs.declared.Taken.{Taken}
-use Rattle.stepfile.specs.Needed.{FeedableIs, AnswerIs, Holding, takenAs, Feedable, ChunkFed}
-use Rattle.stepfile.proofs.Cutting.{taken-stopped, started, cut-reached, cut-lines}
-use Rattle.stepfile.proofs.Sound.{few-records, few-held, holding-there, room-there}
+use Rattle.stepfile.specs.Needed.{ChunkFed, Feedable, FeedableIs, Holding, takenAs}
+use Rattle.stepfile.proofs.Cutting.{cut-lines, cut-reached, started, taken-stopped}
 use Rattle.stepfile.proofs.Passing.{kept-all}
+use Rattle.stepfile.proofs.Sound.{few-held, few-records, holding-there, room-there}
 
 -- no byte has been fed
 pub nothing-fed : Started (record { number = 0; stopped = false; held = 0; bytes = replicate 8 0 })
@@ -35,17 +35,16 @@ stored-front out out′ lines l front rest =
 
 module _ (p : Progress) (chunk out : List ℕ) (a : Areas) (b : Bool) (e : FeedableIs b p (length chunk) (length out)) where
   -- nothing is done
-  pub not-fed : (t : Taken) → not b ≡ true → AnswerIs p false 0 t → FedAs p chunk out a t out a
+  pub not-fed : not b ≡ true → FedAs p chunk out a (record { progress = p; fed = false; written = 0 }) out a
   unfolding feedAnswer feedLines feedAreas notTaken
-  not-fed t z d =
+  not-fed z =
       let no : feedable p (length chunk) (length out) ≡ false = sym (e .is) ∙ not-true b z in
-      let unfed : t .fed ≡ false = ap (λ (x : Taken). x .fed) (d .is) in
       record {
-        answer = d .is ∙ sym (rw no refl);
+        answer = sym (rw no refl);
         lines = sym (rw no refl);
         areas = sym (rw no refl);
-        cut = λ a₀ before f r. absurd (false≢true (sym unfed ∙ f));
-        added = λ a₀ before f r. absurd (false≢true (sym unfed ∙ f));
+        cut = λ a₀ before f r. absurd (false≢true f);
+        added = λ a₀ before f r. absurd (false≢true f);
       }
 
   module _ (z : not b ≡ false) where
@@ -74,12 +73,13 @@ module _ (p : Progress) (chunk out : List ℕ) (a : Areas) (b : Bool) (e : Feeda
 
 module _ (p : Progress) (chunk out : List ℕ) (e : FeedableIs true p (length chunk) (length out)) where
   -- a run that has stopped is left as it is
-  pub fed-stopped : (a : Areas) (t : Taken) → length (p .bytes) ≡ 8 → p .stopped ≡ true → AnswerIs p true 0 t → ChunkFed (bytesTaken (standing p a) chunk) 0 out t out a
+  pub fed-stopped : (a : Areas) → length (p .bytes) ≡ 8 → p .stopped ≡ true
+      → ChunkFed (bytesTaken (standing p a) chunk) 0 out (record { progress = p; fed = true; written = 0 }) out a
   unfolding standing progressOf takenAs
-  fed-stopped a t long s d =
+  fed-stopped a long s =
       rw (taken-stopped (standing p a) chunk s)
       (record {
-        answer = d .is ∙ ap (λ (x : Progress). record { progress = x; fed = true; written = 0 }) (again p (holding-there p (length chunk) (length out) (sym (e .is)) long));
+        answer = ap (λ (x : Progress). record { progress = x; fed = true; written = 0 }) (again p (holding-there p (length chunk) (length out) (sym (e .is)) long));
         areas = refl;
         lines = refl;
         kept = kept-all out 0 (omega arith);

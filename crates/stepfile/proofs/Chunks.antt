@@ -1,23 +1,23 @@
 -- A chunk fed to a run that has not stopped: the record that has begun, then the rest. One law for each way of the code, and `chunk-laws`.
 -- Assumes nothing.
-use Prim.Native.Nat.{ℕ, _+_, _-_, _*_, _/_, _≤_, _<_}
+use Prim.Native.Nat.{_<_, _≤_, ℕ}
 use native.Mathlib.Omega.{arith}
-use mathlib.Core.Path.{_≡_, refl, sym, ap, _∙_}
-use mathlib.Core.Bool.{Bool, true, false}
-use mathlib.Core.List.{List, [], _∷_, _++_, append-nil, append-assoc}
-use lib.ListN.{length, take, drop, length-append, take-append-drop, drop-of-length-le}
-use lib.Seq.{take-at, take-all, length-take-le}
+use mathlib.Core.Path.{_∙_, _≡_, ap, refl, sym}
+use mathlib.Core.Bool.{Bool, false, true}
+use mathlib.Core.List.{List, [], _++_, append-assoc, append-nil}
+use lib.ListN.{drop, drop-of-length-le, length, length-append, take, take-append-drop}
+use lib.Seq.{length-take-le, take-at}
 use borrow.Author.Needs.{needs}
 use Rattle.engine.specs.Promises.{Areas, areas}
-use Rattle.stepfile.specs.Feeding.{Feed, openingTaken, stepTaken, tooManyTaken, recordTaken, heldOn, bytesTaken}
-use Rattle.stepfile.specs.Promises.{progressOf, standing}
+use Rattle.stepfile.specs.Feeding.{Feed, bytesTaken, heldOn, openingTaken, recordTaken, stepTaken, tooManyTaken}
+use Rattle.stepfile.specs.Promises.{standing}
 use Rattle.stepfile.specs.declared.Progress.{Progress}
 use Rattle.stepfile.specs.declared.Taken.{Taken}
 use Rattle.stepfile.specs.declared.Stand.{Stand}
 use Rattle.stepfile.specs.declared.Held.{Held}
-use Rattle.stepfile.specs.Needed.{HeldAnswer, standsAt, Takeable, Took, Passable, Holdable, HeldAll, takenAs, firstStand, Feedable, Completes, ChunkFed}
-use Rattle.stepfile.proofs.Cutting.{taken-together, taken-held, taken-record}
-use Rattle.stepfile.proofs.Passing.{kept-all, kept-again, held-progress}
+use Rattle.stepfile.specs.Needed.{ChunkFed, Completes, Feedable, HeldAll, Holdable, Passable, Takeable, Took, firstStand, standsAt, takenAs}
+use Rattle.stepfile.proofs.Cutting.{taken-held, taken-record, taken-together}
+use Rattle.stepfile.proofs.Passing.{held-progress, kept-again, kept-all}
 
 -- a whole record is taken whatever was held before it
 record-from : (p : Progress) (ready : Bool) (out : List ℕ) (a : Areas) (bytes : List ℕ)
@@ -34,10 +34,10 @@ module _ (p : Progress) (ready : Bool) (chunk out c w r m : List ℕ) (h : Feeda
 
   module _ (q : Held) (d : HeldAll (p .held) (p .bytes) chunk 0 q) where
     -- the chunk does not complete the record
-    pub chunk-held : (t : Taken) → q .count < 8 → HeldAnswer (p .number) (q .count) (q .bytes) 0 t
-        → ChunkFed (bytesTaken (standing p (areas c w r m)) chunk) 0 out t out (areas c w r m)
+    pub chunk-held : q .count < 8
+        → ChunkFed (bytesTaken (standing p (areas c w r m)) chunk) 0 out (record { progress = record { number = p .number; stopped = false; held = q .count; bytes = q .bytes }; fed = true; written = 0 }) out (areas c w r m)
     unfolding standing takenAs heldOn
-    chunk-held t l e =
+    chunk-held l =
         let all : drop (q .next) chunk ≡ [] = drop-of-length-le chunk {i = q .next} (omega (arith, d .short l)) in
         let bytes : take (p .held) (p .bytes) ++ chunk ≡ take (q .count) (q .bytes) =
         sym (d .holds .same) ∙ ap (λ (xs : List ℕ). take (q .count) (q .bytes) ++ xs) all ∙ append-nil (take (q .count) (q .bytes)) in
@@ -47,8 +47,7 @@ module _ (p : Progress) (ready : Bool) (chunk out c w r m : List ℕ) (h : Feeda
         rw is
         (record {
           answer =
-              e .is
-              ∙ ap (λ (x : Progress). record { progress = x; fed = true; written = 0 })
+              ap (λ (x : Progress). record { progress = x; fed = true; written = 0 })
               (held-progress (standing p (areas c w r m)) (q .count) (q .bytes) (d .holds .holding));
           areas = refl;
           lines = refl;
@@ -131,18 +130,17 @@ module _ (p : Progress) (ready : Bool) (q : Held) (chunk out c w r m : List ℕ)
           kept = kept-again out 0 out′ (s .at) out″ _ (k .kept) (f .kept);
         })
 
--- before the first record no line is written
-pub first-stand : (number : ℕ) (ready : Bool) → record { number = number; stopped = false; ready = ready; at = 0 } ≡ firstStand number ready
-unfolding firstStand
-first-stand number ready = refl
-
 -- the record that has begun, taken where no line is written
-module _ (s : Stand) (number : ℕ) (ready : Bool) (bytes out c w r m : List ℕ) (e : s ≡ firstStand number ready) where
-  pub first-takeable : Takeable (firstStand number ready) bytes 0 out c w r m → Takeable s bytes 0 out c w r m
-  first-takeable h = rw e h
+module _ (number : ℕ) (ready : Bool) (bytes out c w r m : List ℕ) where
+  pub first-takeable : Takeable (firstStand number ready) bytes 0 out c w r m
+      → Takeable (record { number = number; stopped = false; ready = ready; at = 0 }) bytes 0 out c w r m
+  unfolding firstStand
+  first-takeable h = h
 
-  pub first-taken : (s′ : Stand) (out′ c′ w′ r′ m′ : List ℕ) → Took (recordTaken (standsAt s out (areas c w r m)) (take 8 (drop 0 bytes))) s out s′ out′ c′ w′ r′ m′
-      → Took (recordTaken (standsAt (firstStand number ready) out (areas c w r m)) (take 8 (drop 0 bytes))) (firstStand number ready) out s′ out′ c′ w′ r′ m′
-  first-taken s′ out′ c′ w′ r′ m′ k = rw (← e) k
+  pub first-taken : (s : Stand) (out′ c′ w′ r′ m′ : List ℕ)
+      → Took (recordTaken (standsAt (record { number = number; stopped = false; ready = ready; at = 0 }) out (areas c w r m)) (take 8 (drop 0 bytes))) (record { number = number; stopped = false; ready = ready; at = 0 }) out s out′ c′ w′ r′ m′
+      → Took (recordTaken (standsAt (firstStand number ready) out (areas c w r m)) (take 8 (drop 0 bytes))) (firstStand number ready) out s out′ c′ w′ r′ m′
+  unfolding firstStand
+  first-taken s out′ c′ w′ r′ m′ k = k
 
-pub ruleset chunk-laws = (holdable, chunk-held, completes, begun-takeable, rest-passable, chunk-taken, first-stand, first-takeable, first-taken, needs)
+pub ruleset chunk-laws = (holdable, chunk-held, completes, begun-takeable, rest-passable, chunk-taken, first-takeable, first-taken, needs)

@@ -1,25 +1,23 @@
 -- What `finish` promises, from what its parts have done. One law for each way of the code, and `finishing-laws`. Assumes nothing.
-use Prim.Native.Nat.{ℕ, _+_, _-_, _*_, _/_, _≤_, _<_}
+use Prim.Native.Nat.{_<_, ℕ}
 use native.Mathlib.Omega.{arith}
-use mathlib.Core.Path.{_≡_, refl, sym, ap, _∙_}
-use mathlib.Core.Bool.{Bool, true, false, cond, not, _&&_, _||_, false≢true}
-use mathlib.Core.List.{List, [], _∷_, _++_}
-use lib.ListN.{length, take, drop}
-use lib.Seq.{sets, length-take-le}
-use lib.Dec.{ltb, eqb}
-use borrow.Author.Tests.{not-true, not-false, ltb-true, ltb-false, lt-ltb, le-ltb, eqb-true, eq-eqb, ne-eqb}
+use mathlib.Core.Path.{_∙_, _≡_, ap, refl, sym}
+use mathlib.Core.Bool.{Bool, _&&_, _||_, cond, false, false≢true, not, true}
+use mathlib.Core.List.{List, [], _++_, _∷_}
+use lib.ListN.{drop, length, take}
+use lib.Seq.{length-take-le, sets}
+use lib.Dec.{eqb, ltb}
+use borrow.Author.Tests.{eq-eqb, eqb-true, le-ltb, lt-ltb, ne-eqb, not-false, not-true}
 use borrow.Author.Needs.{needs}
-use Rattle.engine.specs.Promises.{Areas, rightSizes}
 use Rattle.lines.specs.Lines.{lineBytes}
 use Rattle.lines.specs.Needed.{Room}
-use Rattle.stepfile.specs.Files.{fileLines, refusalLine}
+use Rattle.stepfile.specs.Files.{refusalLine}
 use Rattle.stepfile.specs.Feeding.{after, lastLine}
-use Rattle.stepfile.specs.Promises.{feedable, notTaken, Reached, finishLine, finishAnswer, finishLines, FinishedAs}
+use Rattle.stepfile.specs.Promises.{FinishedAs, feedable, finishAnswer, finishLine, finishLines, notTaken}
 use Rattle.stepfile.specs.declared.Progress.{Progress}
-use Rattle.stepfile.specs.declared.Taken.{Taken}
-use Rattle.stepfile.specs.Needed.{FeedableIs, AnswerIs, EndsShort, LinePut}
-use Rattle.stepfile.proofs.Sound.{few-held, room-there}
+use Rattle.stepfile.specs.Needed.{EndsShort, FeedableIs, LinePut}
 use Rattle.stepfile.proofs.Answers.{stored-front}
+use Rattle.stepfile.proofs.Sound.{few-held, room-there}
 use Rattle.stepfile.proofs.Whole.{whole-lines}
 
 -- ---- whether a file that ends here ends within a record or before the opening
@@ -67,31 +65,23 @@ module _ (p : Progress) where
 -- ---- the promise
 
 -- the line stands at the start of the bytes lent, and behind it all is as it was
-finished : (p : Progress) (out line : List ℕ) (t : Taken) (out′ : List ℕ) → feedable p 0 (length out) ≡ true → finishLine p ≡ line
-    → t ≡ record { progress = p; fed = true; written = length line } → out′ ≡ sets out 0 line → take (length line) out′ ≡ line → FinishedAs p out t out′
+finished : (p : Progress) (out line out′ : List ℕ) (end : ℕ) → feedable p 0 (length out) ≡ true → finishLine p ≡ line → end ≡ length line
+    → out′ ≡ sets out 0 line → take end out′ ≡ line → FinishedAs p out (record { progress = p; fed = true; written = end }) out′
 unfolding finishAnswer finishLines
-finished p out line t out′ there e d s l =
-    let written : t .written ≡ length line = ap (λ (x : Taken). x .written) d in
+finished p out line out′ end there e d s l =
     record {
-      answer = d ∙ sym (rw (there, e));
+      answer = rw (d, there, e);
       lines = s ∙ sym (rw (there, e));
-      whole = λ a₀ a file sizes f r.
-          whole-lines a₀ a file p sizes r
-          ∙ ap (λ (xs : List ℕ). after a₀ file .lines ++ xs) (e ∙ sym l ∙ ap (λ (n : ℕ). take n out′) (sym written));
+      whole = λ a₀ a file sizes f r. whole-lines a₀ a file p sizes r ∙ ap (λ (xs : List ℕ). after a₀ file .lines ++ xs) (e ∙ sym l);
     }
 
 module _ (p : Progress) (out : List ℕ) (b : Bool) (e : FeedableIs b p 0 (length out)) where
   -- nothing is done
-  pub not-finished : (t : Taken) → not b ≡ true → AnswerIs p false 0 t → FinishedAs p out t out
+  pub not-finished : not b ≡ true → FinishedAs p out (record { progress = p; fed = false; written = 0 }) out
   unfolding finishAnswer finishLines notTaken
-  not-finished t z d =
+  not-finished z =
       let no : feedable p 0 (length out) ≡ false = sym (e .is) ∙ not-true b z in
-      let unfed : t .fed ≡ false = ap (λ (x : Taken). x .fed) (d .is) in
-      record {
-        answer = d .is ∙ sym (rw no refl);
-        lines = sym (rw no refl);
-        whole = λ a₀ a file sizes f r. absurd (false≢true (sym unfed ∙ f));
-      }
+      record { answer = sym (rw no refl); lines = sym (rw no refl); whole = λ a₀ a file sizes f r. absurd (false≢true f) }
 
   module _ (z : not b ≡ false) where
     there : feedable p 0 (length out) ≡ true
@@ -102,21 +92,18 @@ module _ (p : Progress) (out : List ℕ) (b : Bool) (e : FeedableIs b p 0 (lengt
 
     module _ (short : Bool) (x : EndsShort short p) (long : length (p .bytes) ≡ 8) where
       -- no line
-      pub finished-none : (t : Taken) → not short ≡ true → AnswerIs p true 0 t → FinishedAs p out t out
-      finished-none t n d = finished p out [] t out there (finish-none p long (few-held p 0 (length out) there) short x n) (d .is) refl refl
+      pub finished-none : not short ≡ true → FinishedAs p out (record { progress = p; fed = true; written = 0 }) out
+      finished-none n = finished p out [] out 0 there (finish-none p long (few-held p 0 (length out) there) short x n) refl refl refl
 
       -- the line of 15
-      pub finished-short : (t : Taken) (out′ : List ℕ) (end : ℕ) → not short ≡ false → LinePut out 0 (lineBytes (p .number) 15 0 0) out′ end
-          → AnswerIs p true end t → FinishedAs p out t out′
-      finished-short t out′ end n d w =
-          let line : List ℕ = lineBytes (p .number) 15 0 0 in
+      pub finished-short : (out′ : List ℕ) (end : ℕ) → not short ≡ false → LinePut out 0 (lineBytes (p .number) 15 0 0) out′ end
+          → FinishedAs p out (record { progress = p; fed = true; written = end }) out′
+      finished-short out′ end n d =
           let at : end ≡ length (lineBytes (p .number) 15 0 0) =
           sym (length-take-le end out′ (omega (arith, d .kept .within, d .kept .long))) ∙ ap length (d .lines) in
-          let front : take (length (lineBytes (p .number) 15 0 0)) out′ ≡ lineBytes (p .number) 15 0 0 = ap (λ (j : ℕ). take j out′) (sym at) ∙ d .lines in
-          finished p out (lineBytes (p .number) 15 0 0) t out′ there (finish-one p long (few-held p 0 (length out) there) short x n)
-          (w .is ∙ ap (λ (j : ℕ). record { progress = p; fed = true; written = j }) at)
-          (stored-front out out′ (lineBytes (p .number) 15 0 0) (omega (arith, at, d .kept .within)) front
+          finished p out (lineBytes (p .number) 15 0 0) out′ end there (finish-one p long (few-held p 0 (length out) there) short x n) at
+          (stored-front out out′ (lineBytes (p .number) 15 0 0) (omega (arith, at, d .kept .within)) (ap (λ (j : ℕ). take j out′) (sym at) ∙ d .lines)
           (ap (λ (j : ℕ). drop j out′) (sym at) ∙ d .kept .rest ∙ ap (λ (j : ℕ). drop j out) at))
-          front
+          (d .lines)
 
 pub ruleset finishing-laws = (stopped-before, no-opening, within-record, not-finished, room-for-last, finished-none, finished-short, needs)

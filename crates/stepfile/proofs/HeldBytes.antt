@@ -1,18 +1,18 @@
 -- Bytes held: those of a chunk are taken behind them, one by one. One law for each way of the code, and `holding-laws`. Assumes nothing.
-use Prim.Native.Nat.{ℕ, zero, suc, _+_, _-_, _≤_, _<_}
-use native.Mathlib.Numerals.{add-one}
+use Prim.Native.Nat.{_+_, _-_, _<_, _≤_, suc, ℕ}
 use native.Mathlib.Omega.{arith}
-use mathlib.Core.Path.{_≡_, refl, sym, ap, _∙_}
-use mathlib.Core.Bool.{Bool, true, false, _&&_, and-eq-true-iff}
-use mathlib.Core.List.{List, [], _∷_, _++_, append-assoc}
-use lib.ListN.{length, getD, set, take, drop, replicate, length-drop, length-set}
-use lib.Seq.{take-suc-set, drop-set-lt, drop-cons, drop-drop}
-use lib.Dec.{ltb, eqb}
-use borrow.Author.Tests.{ltb-true, lt-ltb, le-ltb, eqb-true, eq-eqb, ne-eqb}
+use native.Mathlib.Numerals.{add-one}
+use mathlib.Core.Path.{_∙_, _≡_, ap, refl, sym}
+use mathlib.Core.Bool.{and-eq-true-iff, false, true}
+use mathlib.Core.List.{List, [], _++_, _∷_, append-assoc}
+use lib.ListN.{drop, getD, length, length-drop, length-set, replicate, set, take}
+use lib.Seq.{drop-cons, drop-drop, drop-set-lt, take-suc-set}
+use lib.Dec.{eqb}
+use borrow.Author.Tests.{eq-eqb, eqb-true, le-ltb, lt-ltb, ne-eqb}
 use borrow.Author.Needs.{needs}
 use Rattle.stepfile.specs.Promises.{allZero}
 use Rattle.stepfile.specs.declared.Held.{Held}
-use Rattle.stepfile.specs.Needed.{ZerosBehind, Holding, Holdable, Holds, HeldAll}
+use Rattle.stepfile.specs.Needed.{HeldAll, Holdable, Holding, Holds, ZerosBehind}
 
 -- ---- bytes taken behind those held
 

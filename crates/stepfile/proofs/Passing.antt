@@ -1,23 +1,23 @@
 -- The records of a chunk, one after the other, and the bytes behind the last. One law for each way of the code, and `passing-laws`.
 -- Assumes nothing.
-use Prim.Native.Nat.{ℕ, _+_, _-_, _*_, _/_, _≤_, _<_}
+use Prim.Native.Nat.{_+_, _-_, _<_, _≤_, ℕ}
 use native.Mathlib.Omega.{arith}
-use mathlib.Core.Path.{_≡_, refl, sym, ap, _∙_}
-use mathlib.Core.Bool.{Bool, true, false, true≢false}
-use mathlib.Core.List.{List, [], _∷_, _++_, append-nil}
-use lib.ListN.{length, take, drop, replicate, length-drop, take-append-drop, drop-of-length-le}
+use mathlib.Core.Path.{_∙_, _≡_, ap, refl, sym}
+use mathlib.Core.Bool.{Bool, false, true, true≢false}
+use mathlib.Core.List.{List, [], _++_, append-nil}
+use lib.ListN.{drop, drop-of-length-le, length, length-drop, replicate, take, take-append-drop}
 use lib.Seq.{drop-drop, length-take-le}
 use borrow.Author.Needs.{needs}
 use Rattle.engine.specs.Promises.{Areas, areas}
-use Rattle.stepfile.specs.Feeding.{Feed, recordTaken, heldOn, bytesTaken}
+use Rattle.stepfile.specs.Feeding.{Feed, bytesTaken, heldOn, recordTaken}
 use Rattle.stepfile.specs.Promises.{progressOf}
 use Rattle.stepfile.specs.declared.Progress.{Progress}
 use Rattle.stepfile.specs.declared.Taken.{Taken}
 use Rattle.stepfile.specs.declared.Stand.{Stand}
 use Rattle.stepfile.specs.declared.Held.{Held}
 use Rattle.stepfile.specs.declared.Passed.{Passed}
-use Rattle.stepfile.specs.Needed.{AnswerIs, HeldAnswer, Kept, standsAt, Takeable, Took, Passable, Passes, Holding, Holdable, HeldAll, takenAs, Endable, Ended, ChunkFed}
-use Rattle.stepfile.proofs.Cutting.{taken-stopped, taken-held, eight-taken}
+use Rattle.stepfile.specs.Needed.{ChunkFed, Endable, Ended, HeldAll, Holdable, Holding, Kept, Passable, Passes, Takeable, Took, standsAt, takenAs}
+use Rattle.stepfile.proofs.Cutting.{eight-taken, taken-held, taken-stopped}
 
 -- ---- what is written stays
 
@@ -164,33 +164,26 @@ module _ (s : Stand) (chunk : List ℕ) (from : ℕ) (h : Endable s chunk from) 
         go false e = ap (λ (f : Feed). f .areas) (rest-held e)
 
   -- a run that has stopped holds none
-  pub ended-stopped : (t : Taken) → s .stopped ≡ true → AnswerIs (record { number = s .number; stopped = true; held = 0; bytes = replicate 8 0 }) true (s .at) t
-      → Ended s chunk from t
+  pub ended-stopped : s .stopped ≡ true
+      → Ended s chunk from (record { progress = record { number = s .number; stopped = true; held = 0; bytes = replicate 8 0 }; fed = true; written = s .at })
   unfolding takenAs progressOf standsAt
-  ended-stopped t z e =
-      record {
-        is = λ out a l.
-            e .is
-            ∙ sym
-            (ap (λ (f : Feed). takenAs f) (rest-stopped out a z)
-            ∙ rw (z, length-take-le (s .at) out l));
-      }
+  ended-stopped z =
+      record { is = λ out a l. sym (ap (λ (f : Feed). takenAs f) (rest-stopped out a z) ∙ rw (z, length-take-le (s .at) out l)) }
 
   pub none-held : Holdable 0 (replicate 8 0) chunk from
   none-held = record { holding = record { few = omega arith; long = refl; zeros = refl }; within = h .within }
 
-  pub ended-held : (q : Held) (t : Taken) → s .stopped ≡ false → HeldAll 0 (replicate 8 0) chunk from q
-      → HeldAnswer (s .number) (q .count) (q .bytes) (s .at) t → Ended s chunk from t
+  pub ended-held : (q : Held) → s .stopped ≡ false → HeldAll 0 (replicate 8 0) chunk from q
+      → Ended s chunk from (record { progress = record { number = s .number; stopped = false; held = q .count; bytes = q .bytes }; fed = true; written = s .at })
   unfolding takenAs standsAt heldOn
-  ended-held q t z d e =
+  ended-held q z d =
       let few : q .count < 8 = omega (arith, d .holds .counted, d .holds .within, h .few-left z) in
       let all : drop (q .next) chunk ≡ [] = drop-of-length-le chunk {i = q .next} (omega (arith, d .short few)) in
       let rest : drop from chunk ≡ take (q .count) (q .bytes) =
       sym (sym (append-nil (take (q .count) (q .bytes))) ∙ ap (λ (l : List ℕ). take (q .count) (q .bytes) ++ l) (sym all) ∙ d .holds .same) in
       record {
         is = λ out a l.
-            e .is
-            ∙ ap (λ (p : Progress). record { progress = p; fed = true; written = s .at }) (held-progress (standsAt s out a) (q .count) (q .bytes) (d .holds .holding))
+            ap (λ (p : Progress). record { progress = p; fed = true; written = s .at }) (held-progress (standsAt s out a) (q .count) (q .bytes) (d .holds .holding))
             ∙ ap (λ (n : ℕ). record { progress = progressOf (heldOn (standsAt s out a) (take (q .count) (q .bytes))); fed = true; written = n }) (sym (length-take-le (s .at) out l))
             ∙ ap (λ (xs : List ℕ). takenAs (heldOn (standsAt s out a) xs)) (sym rest)
             ∙ ap (λ (f : Feed). takenAs f) (sym (rest-held out a z));

@@ -1,17 +1,16 @@
 -- Whether a chunk is fed, and the answer where nothing is done. One law for each way of the code, and `feedable-laws`. Assumes nothing.
-use Prim.Native.Nat.{ℕ, _+_, _*_, _/_, _≤_, _<_}
+use Prim.Native.Nat.{_*_, _+_, _/_, _<_, _≤_, ℕ}
 use native.Mathlib.Omega.{arith}
-use mathlib.Core.Path.{_≡_, refl, sym, ap, _∙_}
-use mathlib.Core.Bool.{Bool, true, false, _&&_, and-eq-true-iff}
-use mathlib.Core.List.{List}
-use lib.ListN.{length, drop}
-use lib.Dec.{ltb, leb}
-use borrow.Author.Tests.{ltb-true, leb-true, lt-ltb, le-ltb, le-leb, lt-leb}
+use mathlib.Core.Path.{_∙_, _≡_, ap, refl, sym}
+use mathlib.Core.Bool.{Bool, _&&_, and-eq-true-iff, false, true}
+use lib.ListN.{drop, length}
+use lib.Dec.{leb, ltb}
+use borrow.Author.Tests.{le-leb, le-ltb, leb-true, lt-leb, lt-ltb, ltb-true}
 use borrow.Author.Needs.{needs}
 use Rattle.stepfile.specs.Files.{mostSteps}
-use Rattle.stepfile.specs.Promises.{allZero, sound, feedable}
+use Rattle.stepfile.specs.Promises.{allZero, feedable, sound}
 use Rattle.stepfile.specs.declared.Progress.{Progress}
-use Rattle.stepfile.specs.Needed.{ZerosBehind, FeedableIs, Holding}
+use Rattle.stepfile.specs.Needed.{FeedableIs, Holding, ZerosBehind}
 use Rattle.stepfile.proofs.HeldBytes.{holding-of}
 
 module _ (p : Progress) (chunk room : ℕ) where

@@ -1,41 +1,40 @@
 -- One record taken: its line behind those before it, and what then stands. One law for each way of the code, and `taking-laws`. Assumes nothing.
-use Prim.Native.Nat.{ℕ, suc, _+_, _-_, _≤_, _<_}
-use native.Mathlib.Numerals.{add-one}
+use Prim.Native.Nat.{_+_, _-_, _<_, _≤_, ℕ}
 use native.Mathlib.Omega.{arith}
-use mathlib.Core.Path.{_≡_, refl, sym, ap, _∙_}
-use mathlib.Core.Bool.{Bool, true, false, cond, not, _&&_}
-use mathlib.Core.List.{List, [], _∷_, _++_, append-assoc}
-use lib.ListN.{length, getD, take, drop, length-append, length-take}
-use lib.Seq.{sets, length-sets, sets-eq, take-at, drop-at, drop-drop, getD-take, length-take-le}
-use lib.Dec.{leb, eqb}
+use native.Mathlib.Numerals.{add-one}
+use mathlib.Core.Path.{_∙_, _≡_, ap, refl, sym}
+use mathlib.Core.Bool.{Bool, _&&_, false, not, true}
+use mathlib.Core.List.{List, [], _++_}
+use lib.ListN.{drop, length, length-append, take}
+use lib.Seq.{drop-at, getD-take, length-sets, length-take-le, sets, sets-eq, take-at}
+use lib.Dec.{eqb}
 use mir.Syntax.{w32}
 use mir.Val.{Fits}
-use borrow.Author.Tests.{le-leb, lt-leb, eq-eqb, ne-eqb}
+use borrow.Author.Tests.{eq-eqb, le-leb, lt-leb, ne-eqb, not-false}
 use borrow.Author.Needs.{needs}
-use Rattle.rules.specs.Refusals.{Step, Answer}
-use Rattle.rules.specs.State.{mainframe}
-use Rattle.rules.specs.InOrder.{inOrder}
 use Rattle.rules.proofs.InOrderWhen.{in-order-when}
-use Rattle.memory.specs.Areas.{stateIn, sizesRight}
+use Rattle.rules.specs.InOrder.{inOrder}
+use Rattle.rules.specs.Refusals.{Answer, Step}
+use Rattle.rules.specs.State.{mainframe}
 use Rattle.memory.proofs.Encoding.{lent-right}
+use Rattle.memory.specs.Areas.{stateIn}
 use Rattle.refusals.specs.Needed.{Ready}
-use Rattle.checking.specs.Areas as checked
-use Rattle.engine.specs.Promises.{Areas, areas, heldBy, rightSizes, areasInOrder, answerOf, areasAfter, openingOf, openRefusal, areasOpened}
-use Rattle.engine.specs.Outcomes.{OrderIs, SteppedAs, told, outcomeOf, outcomeRefusal, outcomeValue, outcomeCount}
+use Rattle.engine.specs.Outcomes.{OrderIs, SteppedAs, outcomeCount, outcomeRefusal, outcomeValue, told}
+use Rattle.engine.specs.Promises.{Areas, answerOf, areas, areasAfter, areasInOrder, areasOpened, heldBy, openRefusal, rightSizes}
 use Rattle.engine.specs.declared.Outcome.{Outcome}
 use Rattle.engine.specs.declared.Outcome.the-variants.{Done, Refused}
-use Rattle.engine.proofs.Answering.{out-of-order, out-of-order-untouched, ready-when-fine, in-order-answered, in-order-after}
-use Rattle.engine.proofs.Stepping.{stepped-ready, outcome-tells}
+use Rattle.engine.proofs.Answering.{in-order-after, in-order-answered, out-of-order, out-of-order-untouched, ready-when-fine}
 use Rattle.engine.proofs.Following.{opened-ready}
-use Rattle.running.specs.Records.{stepFrom}
+use Rattle.engine.proofs.Stepping.{outcome-tells, stepped-ready}
 use Rattle.running.specs.Needed.{StepThere}
+use Rattle.running.specs.Records.{stepFrom}
 use Rattle.lines.specs.Lines.{lineBytes}
 use Rattle.lines.specs.Needed.{Room}
 use Rattle.lines.proofs.Lines.{at-most-44-bytes}
 use Rattle.stepfile.specs.Files.{mostSteps, refusalLine}
-use Rattle.stepfile.specs.Feeding.{Feed, openingTaken, stepTaken, tooManyTaken, recordTaken}
+use Rattle.stepfile.specs.Feeding.{openingTaken, recordTaken, stepTaken, tooManyTaken}
 use Rattle.stepfile.specs.declared.Stand.{Stand}
-use Rattle.stepfile.specs.Needed.{Kept, LinePut, outcomeLine, standsAt, Takeable, StepTakeable, StoppedAt, Steppable, Took, OpenedAs, Answered}
+use Rattle.stepfile.specs.Needed.{Answered, Kept, LinePut, OpenedAs, StepTakeable, Steppable, StoppedAt, Takeable, Took, outcomeLine, standsAt}
 
 -- ---- a line behind those before it
 
@@ -133,12 +132,8 @@ module _ (ready : Bool) (bytes : List ℕ) (from : ℕ) (c w r m : List ℕ) (h 
               ap (λ (x : Outcome). told x) (in-order-answered c w r m ready (h .order) z (stepFrom (drop from bytes)) o c′ w′ r′ m′ d)
               ∙ outcome-tells (areas c w r m) (stepFrom (drop from bytes));
           left = in-order-after c w r m ready (h .order) z (stepFrom (drop from bytes)) o c′ w′ r′ m′ d;
-          order = rw (is-ready ready z) (ready-order c′ w′ r′ m′ (stepped-ready c w r m (stepFrom (drop from bytes)) o c′ w′ r′ m′ (ready-when-fine c w r m ready (h .order) z) d));
+          order = rw (not-false ready z) (ready-order c′ w′ r′ m′ (stepped-ready c w r m (stepFrom (drop from bytes)) o c′ w′ r′ m′ (ready-when-fine c w r m ready (h .order) z) d));
         }
-      where
-        is-ready : (b : Bool) → not b ≡ false → b ≡ true
-        is-ready true e = refl
-        is-ready false e = sym e
 
 -- ---- what stands after a record
 

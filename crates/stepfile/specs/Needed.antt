@@ -1,18 +1,17 @@
 -- What the functions of this crate ask of one another, and what the inner ones promise. Assumes nothing.
-use Prim.Native.Nat.{ℕ, _+_, _-_, _*_, _/_, _≤_, _<_}
+use Prim.Native.Nat.{_*_, _+_, _-_, _/_, _<_, _≤_, ℕ}
 use mathlib.Core.Path.{_≡_}
-use mathlib.Core.Bool.{Bool, true, false, not, _&&_, _||_}
+use mathlib.Core.Bool.{Bool, _&&_, _||_, false, not, true}
 use mathlib.Core.List.{List, [], _++_}
-use lib.ListN.{length, take, drop, replicate}
-use lib.Dec.{ltb, eqb}
+use lib.ListN.{drop, length, replicate, take}
+use lib.Dec.{eqb, ltb}
 use Rattle.rules.specs.Refusals.{Step}
-use Rattle.engine.specs.Promises.{Areas, areas, answerOf, areasAfter, openRefusal, areasOpened}
 use Rattle.engine.specs.Outcomes.{OrderIs, told}
+use Rattle.engine.specs.Promises.{Areas, answerOf, areas, areasAfter, areasOpened, openRefusal}
 use Rattle.engine.specs.declared.Outcome.{Outcome}
 use Rattle.lines.specs.Lines.{lineBytes}
-use Rattle.stepfile.specs.Files.{mostSteps}
 use Rattle.stepfile.specs.Feeding.{Feed, bytesTaken}
-use Rattle.stepfile.specs.Promises.{allZero, feedable, progressOf, standing}
+use Rattle.stepfile.specs.Promises.{allZero, feedable, progressOf}
 use Rattle.stepfile.specs.declared.Progress.{Progress}
 use Rattle.stepfile.specs.declared.Taken.{Taken}
 use Rattle.stepfile.specs.declared.Stand.{Stand}
@@ -28,14 +27,6 @@ pub record ZerosBehind (b : Bool) (held : ℕ) (bytes : List ℕ) : Type 0 where
 -- b says whether a chunk of so many bytes is fed
 pub record FeedableIs (b : Bool) (p : Progress) (chunk room : ℕ) : Type 0 where
   pub is : b ≡ feedable p chunk room
-
--- the answer of these parts
-pub record AnswerIs (p : Progress) (fed : Bool) (written : ℕ) (t : Taken) : Type 0 where
-  pub is : t ≡ record { progress = p; fed = fed; written = written }
-
--- the answer after a chunk that ends within a record
-pub record HeldAnswer (number held : ℕ) (bytes : List ℕ) (written : ℕ) (t : Taken) : Type 0 where
-  pub is : t ≡ record { progress = record { number = number; stopped = false; held = held; bytes = bytes }; fed = true; written = written }
 
 -- b says whether a file that ends at this progress ends within a record or before the opening
 pub record EndsShort (b : Bool) (p : Progress) : Type 0 where

@@ -10,7 +10,7 @@ ghost use Rattle.lines.specs.Lines.{lineBytes};
 ghost use Rattle.lines.specs.Needed.{Room};
 ghost use Rattle.stepfile.specs.Feeding.{bytesTaken, openingTaken, stepTaken, recordTaken};
 ghost use Rattle.stepfile.specs.Promises.{standing, Started, FedAs, FinishedAs};
-ghost use Rattle.stepfile.specs.Needed.{ZerosBehind, FeedableIs, AnswerIs, HeldAnswer, EndsShort, LinePut, outcomeLine, standsAt, Takeable, StepTakeable, StoppedAt, Steppable, Took, OpenedAs, Answered, firstStand, Passable, Passes, Holdable, HeldAll, Feedable, Completes, Endable, Ended, ChunkFed};
+ghost use Rattle.stepfile.specs.Needed.{ZerosBehind, FeedableIs, EndsShort, LinePut, outcomeLine, standsAt, Takeable, StepTakeable, StoppedAt, Steppable, Took, OpenedAs, Answered, firstStand, Passable, Passes, Holdable, HeldAll, Feedable, Completes, Endable, Ended, ChunkFed};
 use engine::Outcome;
 
 // How far a file has been fed.
@@ -79,29 +79,13 @@ pub fn feed(
     ensures { λ r. ⌜ FedAs progress (now (chunk .entry)) (now (lines .entry)) (areas (now (clocks .entry)) (now (words .entry)) (now (records .entry)) (now (marks .entry))) r (now (lines .exit)) (areas (now (clocks .exit)) (now (words .exit)) (now (records .exit)) (now (marks .exit))) ⌝ }
 {
     if !feedable(progress, chunk.len(), lines.len()) {
-        return answered(progress, false, 0);
+        return Taken {
+            progress,
+            fed: false,
+            written: 0,
+        };
     }
     feed_sound(progress, chunk, lines, clocks, words, records, marks)
-}
-
-// Feeds a chunk to a sound progress; a run that has stopped is left as it is.
-fn feed_sound(
-    progress: Progress,
-    chunk: &[u8],
-    lines: &mut [u8],
-    clocks: &mut [u8],
-    words: &mut [u32],
-    records: &mut [u8],
-    marks: &mut [u8],
-) -> Taken
-    requires { ⌜ FeedableIs true progress (length (now chunk)) (length (now lines)) ⌝ }
-    ensures { λ r. ⌜ ChunkFed (bytesTaken (standing progress (areas (now (clocks .entry)) (now (words .entry)) (now (records .entry)) (now (marks .entry)))) (now (chunk .entry))) 0 (now (lines .entry)) r (now (lines .exit)) (areas (now (clocks .exit)) (now (words .exit)) (now (records .exit)) (now (marks .exit))) ⌝ }
-{
-    if progress.stopped {
-        return answered(progress, true, 0);
-    }
-    let ready = in_order(clocks, words, records, marks);
-    feed_on(progress, ready, chunk, lines, clocks, words, records, marks)
 }
 
 // The end of the file: writes its last line, if there is one.
@@ -109,35 +93,23 @@ pub fn finish(progress: Progress, lines: &mut [u8]) -> Taken
     ensures { λ r. ⌜ FinishedAs progress (now (lines .entry)) r (now (lines .exit)) ⌝ }
 {
     if !feedable(progress, 0, lines.len()) {
-        return answered(progress, false, 0);
+        return Taken {
+            progress,
+            fed: false,
+            written: 0,
+        };
     }
     if !ends_short(progress) {
-        return answered(progress, true, 0);
+        return Taken {
+            progress,
+            fed: true,
+            written: 0,
+        };
     }
     let written = put_line(lines, 0, progress.number, 15, 0, 0);
-    answered(progress, true, written)
-}
-
-// Whether a file that ends here ends within a record or before the opening.
-fn ends_short(progress: Progress) -> bool
-    ensures { λ r. ⌜ EndsShort r progress ⌝ }
-{
-    if progress.stopped {
-        return false;
-    }
-    if progress.number == 0 {
-        return true;
-    }
-    0 < progress.held
-}
-
-// The answer of these parts.
-fn answered(progress: Progress, fed: bool, written: usize) -> Taken
-    ensures { λ r. ⌜ AnswerIs progress fed written r ⌝ }
-{
     Taken {
         progress,
-        fed,
+        fed: true,
         written,
     }
 }
@@ -173,6 +145,43 @@ fn zeros_behind(held: usize, bytes: [u8; 8]) -> bool
     true
 }
 
+// Whether a file that ends here ends within a record or before the opening.
+fn ends_short(progress: Progress) -> bool
+    ensures { λ r. ⌜ EndsShort r progress ⌝ }
+{
+    if progress.stopped {
+        return false;
+    }
+    if progress.number == 0 {
+        return true;
+    }
+    0 < progress.held
+}
+
+// Feeds a chunk to a sound progress; a run that has stopped is left as it is.
+fn feed_sound(
+    progress: Progress,
+    chunk: &[u8],
+    lines: &mut [u8],
+    clocks: &mut [u8],
+    words: &mut [u32],
+    records: &mut [u8],
+    marks: &mut [u8],
+) -> Taken
+    requires { ⌜ FeedableIs true progress (length (now chunk)) (length (now lines)) ⌝ }
+    ensures { λ r. ⌜ ChunkFed (bytesTaken (standing progress (areas (now (clocks .entry)) (now (words .entry)) (now (records .entry)) (now (marks .entry)))) (now (chunk .entry))) 0 (now (lines .entry)) r (now (lines .exit)) (areas (now (clocks .exit)) (now (words .exit)) (now (records .exit)) (now (marks .exit))) ⌝ }
+{
+    if progress.stopped {
+        return Taken {
+            progress,
+            fed: true,
+            written: 0,
+        };
+    }
+    let ready = in_order(clocks, words, records, marks);
+    feed_on(progress, ready, chunk, lines, clocks, words, records, marks)
+}
+
 // Whether the areas are in order.
 fn in_order(clocks: &[u8], words: &[u32], records: &[u8], marks: &[u8]) -> bool
     ensures { λ r. ⌜ OrderIs r (now (clocks .entry)) (now (words .entry)) (now (records .entry)) (now (marks .entry)) ⌝ }
@@ -180,7 +189,7 @@ fn in_order(clocks: &[u8], words: &[u32], records: &[u8], marks: &[u8]) -> bool
     checking::in_order(clocks, words, records, marks)
 }
 
-// Feeds a chunk to a run that has not stopped: first the record that has begun, then those that lie whole in the chunk.
+// Feeds a chunk to a run that has not stopped: its first bytes go behind those held, and if they complete no record that is all.
 fn feed_on(
     progress: Progress,
     ready: bool,
@@ -198,7 +207,17 @@ fn feed_on(
     let first = hold(progress.held, begun, chunk, 0);
     if first.count < 8 {
         let bytes = first.bytes;
-        return holding(progress.number, first.count, bytes, 0);
+        let held = Progress {
+            number: progress.number,
+            stopped: false,
+            held: first.count,
+            bytes,
+        };
+        return Taken {
+            progress: held,
+            fed: true,
+            written: 0,
+        };
     }
     feed_begun(
         progress,
@@ -211,6 +230,33 @@ fn feed_on(
         records,
         marks,
     )
+}
+
+// Takes bytes of the chunk from a place on behind the bytes held, until there are eight or the chunk ends.
+fn hold(held: usize, bytes: [u8; 8], chunk: &[u8], from: usize) -> Held
+    requires { ⌜ Holdable held bytes (now chunk) from ⌝ }
+    ensures { λ r. ⌜ HeldAll held bytes (now (chunk .entry)) from r ⌝ }
+{
+    let mut kept = bytes;
+    let mut count = held;
+    let mut i = from;
+    while i < chunk.len() {
+        if 8 <= count {
+            return Held {
+                count,
+                bytes: kept,
+                next: i,
+            };
+        }
+        kept[count] = chunk[i];
+        count = count + 1;
+        i = i + 1;
+    }
+    Held {
+        count,
+        bytes: kept,
+        next: i,
+    }
 }
 
 // Feeds a chunk that completes the record that has begun: first that record, then those that lie whole in the chunk.
@@ -265,60 +311,13 @@ fn take_begun(
     requires { ⌜ Takeable (firstStand number ready) bytes 0 (now lines) (now clocks) (now words) (now records) (now marks) ⌝ }
     ensures { λ r. ⌜ Took (recordTaken (standsAt (firstStand number ready) (now (lines .entry)) (areas (now (clocks .entry)) (now (words .entry)) (now (records .entry)) (now (marks .entry)))) (take 8 (drop 0 bytes))) (firstStand number ready) (now (lines .entry)) r (now (lines .exit)) (now (clocks .exit)) (now (words .exit)) (now (records .exit)) (now (marks .exit)) ⌝ }
 {
-    let stand = first_stand(number, ready);
-    take_record(stand, &bytes, 0, lines, clocks, words, records, marks)
-}
-
-// What stands before the first record of a chunk: no line is written.
-fn first_stand(number: u32, ready: bool) -> Stand
-    ensures { λ r. ⌜ r ≡ firstStand number ready ⌝ }
-{
-    Stand {
+    let stand = Stand {
         number,
         stopped: false,
         ready,
         at: 0,
-    }
-}
-
-// Takes bytes of the chunk from a place on behind the bytes held, until there are eight or the chunk ends.
-fn hold(held: usize, bytes: [u8; 8], chunk: &[u8], from: usize) -> Held
-    requires { ⌜ Holdable held bytes (now chunk) from ⌝ }
-    ensures { λ r. ⌜ HeldAll held bytes (now (chunk .entry)) from r ⌝ }
-{
-    let mut kept = bytes;
-    let mut count = held;
-    let mut i = from;
-    while i < chunk.len() {
-        if 8 <= count {
-            return Held {
-                count,
-                bytes: kept,
-                next: i,
-            };
-        }
-        kept[count] = chunk[i];
-        count = count + 1;
-        i = i + 1;
-    }
-    Held {
-        count,
-        bytes: kept,
-        next: i,
-    }
-}
-
-// The answer where the chunk has ended within a record.
-fn holding(number: u32, held: usize, bytes: [u8; 8], written: usize) -> Taken
-    ensures { λ r. ⌜ HeldAnswer number held bytes written r ⌝ }
-{
-    let progress = Progress {
-        number,
-        stopped: false,
-        held,
-        bytes,
     };
-    answered(progress, true, written)
+    take_record(stand, &bytes, 0, lines, clocks, words, records, marks)
 }
 
 // Takes the records that lie whole in the chunk from a place on, and holds the bytes behind them.
@@ -340,27 +339,7 @@ fn take_rest(
     hold_rest(last, chunk, passed.next)
 }
 
-// Holds the bytes behind the last whole record; a run that has stopped holds none.
-fn hold_rest(stand: Stand, chunk: &[u8], from: usize) -> Taken
-    requires { ⌜ Endable stand (now chunk) from ⌝ }
-    ensures { λ r. ⌜ Ended stand (now (chunk .entry)) from r ⌝ }
-{
-    let none = [0; 8];
-    if stand.stopped {
-        let progress = Progress {
-            number: stand.number,
-            stopped: true,
-            held: 0,
-            bytes: none,
-        };
-        return answered(progress, true, stand.at);
-    }
-    let last = hold(0, none, chunk, from);
-    let bytes = last.bytes;
-    holding(stand.number, last.count, bytes, stand.at)
-}
-
-// Takes the records that lie whole in the chunk from a place on, until the run stops.
+// Takes the records that lie whole in the chunk from a place on, until the run stops: the inner loop of the run program.
 fn take_records(
     stand: Stand,
     chunk: &[u8],
@@ -384,6 +363,40 @@ fn take_records(
         i = i + 8;
     }
     Passed { stand: s, next: i }
+}
+
+// Holds the bytes behind the last whole record; a run that has stopped holds none.
+fn hold_rest(stand: Stand, chunk: &[u8], from: usize) -> Taken
+    requires { ⌜ Endable stand (now chunk) from ⌝ }
+    ensures { λ r. ⌜ Ended stand (now (chunk .entry)) from r ⌝ }
+{
+    let none = [0; 8];
+    if stand.stopped {
+        let progress = Progress {
+            number: stand.number,
+            stopped: true,
+            held: 0,
+            bytes: none,
+        };
+        return Taken {
+            progress,
+            fed: true,
+            written: stand.at,
+        };
+    }
+    let last = hold(0, none, chunk, from);
+    let bytes = last.bytes;
+    let progress = Progress {
+        number: stand.number,
+        stopped: false,
+        held: last.count,
+        bytes,
+    };
+    Taken {
+        progress,
+        fed: true,
+        written: stand.at,
+    }
 }
 
 // Takes the record from a place on: the first is the opening, the next 1,000,000 are steps.

@@ -1,6 +1,5 @@
 -- `ends_short` meets its contract. Assumes nothing.
 use Rattle.stepfile.proofs.Finishing.{finishing-laws}
-use borrow.Author.Needs.{needs}
 use Rattle.stepfile.proofs.ends_short.Statement.{statement}
 use Rattle.stepfile.proofs.ends_short.Tie as tie
 

@@ -1,6 +1,5 @@
 -- `feedable` meets its contract. Assumes nothing.
 use Rattle.stepfile.proofs.Sound.{feedable-laws}
-use borrow.Author.Needs.{needs}
 use Rattle.stepfile.proofs.feedable.Statement.{statement}
 use Rattle.stepfile.proofs.feedable.Tie as tie
 

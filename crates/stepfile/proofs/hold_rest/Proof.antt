@@ -1,10 +1,9 @@
 -- `hold_rest` meets its contract. Assumes nothing.
 use Rattle.stepfile.proofs.Passing.{passing-laws}
-use borrow.Author.Needs.{needs}
 use Rattle.stepfile.proofs.hold_rest.Statement.{statement}
 use Rattle.stepfile.proofs.hold_rest.Tie as tie
 
 pub hold-rest-spec : {M : Type 1} → statement M
 hold-rest-spec =
     tie.close
-    (tie.spec (λ c κs. search passing-laws) (λ c. search passing-laws) (λ c κs. search passing-laws) (λ c κs. search passing-laws) (λ c. search passing-laws))
+    (tie.spec (λ c. search passing-laws) (λ c κs. search passing-laws) (λ c. search passing-laws))

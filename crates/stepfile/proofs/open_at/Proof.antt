@@ -1,6 +1,5 @@
 -- `open_at` meets its contract. Assumes nothing.
 use Rattle.stepfile.proofs.Taking.{taking-laws}
-use borrow.Author.Needs.{needs}
 use Rattle.stepfile.proofs.open_at.Statement.{statement}
 use Rattle.stepfile.proofs.open_at.Tie as tie
 

@@ -1,6 +1,5 @@
 -- `put_line` meets its contract. Assumes nothing.
 use Rattle.stepfile.proofs.Taking.{taking-laws}
-use borrow.Author.Needs.{needs}
 use Rattle.stepfile.proofs.put_line.Statement.{statement}
 use Rattle.stepfile.proofs.put_line.Tie as tie
 

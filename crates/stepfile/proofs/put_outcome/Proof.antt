@@ -1,6 +1,5 @@
 -- `put_outcome` meets its contract. Assumes nothing.
 use Rattle.stepfile.proofs.Taking.{taking-laws}
-use borrow.Author.Needs.{needs}
 use Rattle.stepfile.proofs.put_outcome.Statement.{statement}
 use Rattle.stepfile.proofs.put_outcome.Tie as tie
 

@@ -1,6 +1,5 @@
 -- `step` meets its contract. Assumes nothing.
 use Rattle.stepfile.proofs.Taking.{taking-laws}
-use borrow.Author.Needs.{needs}
 use Rattle.stepfile.proofs.step.Statement.{statement}
 use Rattle.stepfile.proofs.step.Tie as tie
 

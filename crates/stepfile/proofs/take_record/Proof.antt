@@ -1,6 +1,5 @@
 -- `take_record` meets its contract. Assumes nothing.
 use Rattle.stepfile.proofs.Taking.{taking-laws}
-use borrow.Author.Needs.{needs}
 use Rattle.stepfile.proofs.take_record.Statement.{statement}
 use Rattle.stepfile.proofs.take_record.Tie as tie
 

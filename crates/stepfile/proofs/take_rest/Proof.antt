@@ -1,6 +1,5 @@
 -- `take_rest` meets its contract. Assumes nothing.
 use Rattle.stepfile.proofs.Passing.{passing-laws}
-use borrow.Author.Needs.{needs}
 use Rattle.stepfile.proofs.take_rest.Statement.{statement}
 use Rattle.stepfile.proofs.take_rest.Tie as tie
 
