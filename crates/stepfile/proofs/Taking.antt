@@ -250,11 +250,6 @@ module _ (s : Stand) (bytes : List ℕ) (from : ℕ) (out c w r m : List ℕ) wh
   pub step-room : StepTakeable s bytes from out c w r m → Room out (s .at) 44
   step-room h = record { room = h .takeable .room }
 
--- the stand after a record too many
-pub stopped-at : (s : Stand) (out out′ : List ℕ) (end : ℕ) → LinePut out (s .at) (lineBytes (s .number) 16 0 0) out′ end
-    → StoppedAt s out (record { number = s .number; stopped = true; ready = s .ready; at = end }) out′
-stopped-at s out out′ end p = record { is = refl; put = p }
-
 -- the eight bytes of an opening, as a part of the bytes
 pub opened-as : (bytes : List ℕ) (from : ℕ) (c w r m : List ℕ) (n : ℕ) (c′ w′ r′ m′ : List ℕ)
     → n ≡ openRefusal (take (from + 8 - from) (drop from bytes)) (areas c w r m)
@@ -267,4 +262,4 @@ opened-as bytes from c w r m n c′ w′ r′ m′ e f =
       laid = f ∙ ap (λ (j : ℕ). areasOpened (take j (drop from bytes)) (areas c w r m)) k;
     }
 
-pub ruleset taking-laws = (line-put, done-line, refused-line, step-out-of-order, step-there, step-in-order, refused-opening-taken, accepted-opening-taken, step-taken, first-is-opening, next-is-step, last-is-too-many, room-for-line, takeable-step, steppable, step-room, stopped-at, opened-as, needs)
+pub ruleset taking-laws = (line-put, done-line, refused-line, step-out-of-order, step-there, step-in-order, refused-opening-taken, accepted-opening-taken, step-taken, first-is-opening, next-is-step, last-is-too-many, room-for-line, takeable-step, steppable, step-room, opened-as, needs)
