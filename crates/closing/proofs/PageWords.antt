@@ -4,7 +4,7 @@ use Prim.Native.Nat.{ℕ, suc, _+_, _-_, _*_, _≤_, _<_}
 use native.Mathlib.Numerals.{add-one}
 use native.Mathlib.Omega.{arith}
 use mathlib.Core.Path.{_≡_, refl, sym, _∙_}
-use mathlib.Core.Bool.{true, false, not, _||_}
+use mathlib.Core.Bool.{Bool, true, false, not, _||_}
 use mathlib.Core.List.{List}
 use lib.ListN.{length, getD, take, drop, drop-of-length-le}
 use lib.Seq.{drop-cons}
@@ -20,47 +20,66 @@ pub page-part : (w : List ℕ) (row : ℕ) → take (32 * row + 32 - 32 * row) (
 unfolding rowOf
 page-part w row = let e : 32 * row + 32 - 32 * row ≡ 32 = omega arith in rw e
 
--- ---- the first i words are equal, so the others decide
+-- ---- whether any of the first i words differs, and then the others
 
--- the first i words are equal
-pub record Differing (old new : List ℕ) (i : ℕ) : Type 0 where
+-- a word more
+module _ (before : Bool) (old new : ℕ) where
+  pub equal-word : old ≡ new → before ≡ (before || not (eqb old new))
+  equal-word e = go before ∙ rw (eq-eqb old new e)
+    where
+      go : (b : Bool) → b ≡ (b || false)
+      go true = refl
+      go false = refl
+
+  pub unlike-word : (old ≡ new → ⊥) → true ≡ (before || not (eqb old new))
+  unlike-word e = go before ∙ rw (ne-eqb old new e)
+    where
+      go : (b : Bool) → true ≡ (b || true)
+      go true = refl
+      go false = refl
+
+-- found: whether one of the first i words differs
+pub record Differing (old new : List ℕ) (found : Bool) (i : ℕ) : Type 0 where
   pub old-whole : length old ≡ 32
   pub new-whole : length new ≡ 32
   pub upto : i ≤ 32
-  pub same : differ old new ≡ differ (drop i old) (drop i new)
+  pub all : differ old new ≡ (found || differ (drop i old) (drop i new))
 
 -- before the first word
-pub differing-begins : (old new : List ℕ) → PagesWhole old new → Differing old new 0
-differing-begins old new p = record { old-whole = p .old-whole; new-whole = p .new-whole; upto = omega arith; same = refl }
+pub differing-begins : (old new : List ℕ) → PagesWhole old new → Differing old new false 0
+differing-begins old new p = record { old-whole = p .old-whole; new-whole = p .new-whole; upto = omega arith; all = refl }
 
-module _ (old new : List ℕ) (i : ℕ) where
-  next-word : Differing old new i → i < 32 → differ old new ≡ (not (eqb (getD old i 0) (getD new i 0)) || differ (drop (suc i) old) (drop (suc i) new))
+module _ (old new : List ℕ) (found : Bool) (i : ℕ) where
+  -- one more word
+  pub differing-more : (r : Bool) → Differing old new found i → i < 32 → r ≡ (found || not (eqb (getD old i 0) (getD new i 0))) → Differing old new r (i + 1)
   unfolding differ
-  next-word p more =
+  differing-more r p more e =
       let ho : i < length old = omega (arith, p .old-whole) in
       let hn : i < length new = omega (arith, p .new-whole) in
-      p .same ∙ rw (drop-cons old i 0 ho, drop-cons new i 0 hn)
-
-  -- one more equal word
-  pub differing-more : Differing old new i → i < 32 → getD old i 0 ≡ getD new i 0 → Differing old new (i + 1)
-  differing-more p more e =
       record {
         old-whole = p .old-whole;
         new-whole = p .new-whole;
         upto = omega arith;
-        same = next-word p more ∙ rw (eq-eqb (getD old i 0) (getD new i 0) e, add-one i);
+        all =
+            p .all
+            ∙ rw (drop-cons old i 0 ho, drop-cons new i 0 hn, e, add-one i)
+            (go found (not (eqb (getD old i 0) (getD new i 0))) (differ (drop (suc i) old) (drop (suc i) new)));
       }
+    where
+      go : (a b c : Bool) → (a || (b || c)) ≡ (a || b || c)
+      go true b c = refl
+      go false b c = refl
 
-  -- a word that differs decides
-  pub word-differs : Differing old new i → i < 32 → (getD old i 0 ≡ getD new i 0 → ⊥) → true ≡ differ old new
-  word-differs p more e = sym (next-word p more ∙ rw (ne-eqb (getD old i 0) (getD new i 0) e))
-
-  -- all words are equal
-  pub no-word-differs : Differing old new i → 32 ≤ i → false ≡ differ old new
+  -- all words are seen
+  pub differing-ends : Differing old new found i → 32 ≤ i → found ≡ differ old new
   unfolding differ
-  no-word-differs p done =
+  differing-ends p done =
       let ho : length old ≤ i = omega (arith, p .old-whole) in
       let hn : length new ≤ i = omega (arith, p .new-whole) in
-      sym (p .same ∙ rw (drop-of-length-le old ho, drop-of-length-le new hn))
+      sym (p .all ∙ rw (drop-of-length-le old ho, drop-of-length-le new hn) (go found))
+    where
+      go : (b : Bool) → (b || false) ≡ b
+      go true = refl
+      go false = refl
 
-pub ruleset page-laws = (page-part, differing-begins, differing-more, word-differs, no-word-differs, needs)
+pub ruleset page-laws = (page-part, equal-word, unlike-word, differing-begins, differing-more, differing-ends, needs)

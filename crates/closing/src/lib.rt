@@ -1,9 +1,11 @@
 // Closing an interval: what its processor changed becomes records, its clock ticks, its pages become clean.
 // The contracts say so of the state that the lent areas hold, in the words of the rules (specs/Close.antt of the crate rules).
 ghost use mathlib.Core.Path.{_≡_};
+ghost use mathlib.Core.Bool.{not, _||_};
 ghost use Prim.Native.Nat.{_*_, _<_};
 ghost use lib.ListN.{length, replicate};
 ghost use lib.Seq.{sets};
+ghost use lib.Dec.{eqb};
 ghost use Rattle.diff.specs.Format.{written};
 ghost use Rattle.diff.specs.Needed.{PagesWhole};
 ghost use Rattle.rules.specs.State.{mainframe, slotBytes};
@@ -98,20 +100,25 @@ fn page_changed(p: ProcessorId, g: PageId, words: &[u32], marks: &[u8]) -> bool
     differs(old, new)
 }
 
-// Whether any word differs.
+// Whether any word differs. Every word is looked at: a loop that stops nowhere becomes vector instructions.
 fn differs(old: &[u32], new: &[u32]) -> bool
     requires { ⌜ PagesWhole (now old) (now new) ⌝ }
     ensures { λ r. ⌜ r ≡ differ (now (old .entry)) (now (new .entry)) ⌝ }
 {
+    let mut found = false;
     let mut i: usize = 0;
     while i < 32 {
-        if old[i] == new[i] {
-            i = i + 1;
-        } else {
-            return true;
-        }
+        found = either(found, old[i], new[i]);
+        i = i + 1;
     }
-    false
+    found
+}
+
+// Whether a word before differs, or this one does.
+fn either(before: bool, old: u32, new: u32) -> bool
+    ensures { λ r. ⌜ r ≡ (before || not (eqb old new)) ⌝ }
+{
+    if old == new { before } else { true }
 }
 
 // One record more: that of a page that changed, in the first slot that is free.

@@ -61,6 +61,18 @@ laying-run-ends bytes page₀ page words len offset from to left p none =
     let e : left ≡ 0 = omega arith in
     sym (p .same ∙ rw e)
 
+-- a run of one word
+module _ (bytes page : List ℕ) (words len offset : ℕ) (p : RunThere bytes page words len offset) (one : len ≡ 1) where
+  pub one-word-there : words + 4 ≤ length bytes
+  one-word-there = omega (arith, p .in-bytes, one)
+
+  pub one-word-on-page : offset < length page
+  one-word-on-page = omega (arith, p .on-page, one)
+
+pub one-word-laid : (bytes page : List ℕ) (words len offset v : ℕ) → len ≡ 1 → v ≡ wordAt bytes words → set page offset v ≡ sets page offset (wordsAt bytes words len)
+unfolding wordsAt
+one-word-laid bytes page words len offset v one e = rw (one, e)
+
 -- ---- all runs
 
 -- after some runs: `left` runs whose pairs stand from the place `at` on are to be laid into the page, their words from the place `words` on
@@ -191,4 +203,4 @@ module _ (bytes page : List ℕ) where
     unfolding pageAfter applyRefusal
     applied-page page′ z e = e ∙ rw (eq-eqb _ _ whole, eq-eqb (readRefusal 32 bytes) 0 (sym is ∙ z))
 
-pub ruleset apply-laws = (four-bytes, laying-run-begins, laying-run-more, laying-run-ends, laying-begins, next-there, laying-more, run-there, words-end, run-laid, laying-ends, first-byte, page-length-refused, page-length-untouched, string-refused, string-untouched, applicable, applied-accepted, applied-page, needs)
+pub ruleset apply-laws = (four-bytes, laying-run-begins, laying-run-more, laying-run-ends, one-word-there, one-word-on-page, one-word-laid, laying-begins, next-there, laying-more, run-there, words-end, run-laid, laying-ends, first-byte, page-length-refused, page-length-untouched, string-refused, string-untouched, applicable, applied-accepted, applied-page, needs)

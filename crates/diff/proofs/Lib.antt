@@ -7,5 +7,6 @@ pub mod Applying
 pub mod Pairs
 pub mod Theorems
 pub mod Writing
+pub mod Measuring
 pub mod WriteLoops
 pub mod Cases

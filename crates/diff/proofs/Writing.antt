@@ -6,12 +6,12 @@ use native.Mathlib.Numerals.{add-one}
 use native.Mathlib.Omega.{arith}
 use mathlib.Core.Path.{_≡_, refl, sym, ap, _∙_}
 use mathlib.Core.Option.{Option, none, some}
-use mathlib.Core.List.{List, [], _∷_, _++_}
-use lib.ListN.{length, getD, set, drop, length-set, length-append, drop-of-length-le}
-use lib.Seq.{sets}
+use mathlib.Core.List.{List, [], _∷_, _++_, append-nil}
+use lib.ListN.{length, getD, set, drop, length-set, length-append, length-drop, drop-of-length-le}
+use lib.Seq.{sets, set-comm}
 use borrow.Author.Tests.{eq-eqb, ne-eqb}
 use Rattle.diff.specs.Format.{Run, setting, difference, ended, runsFrom, runs, setWords, pairBytes, wordBytes}
-use Rattle.diff.specs.Needed.{PagesWhole, RoomForPair}
+use Rattle.diff.specs.Needed.{PagesWhole, NoneBetween, RoomForPair}
 use Rattle.diff.proofs.Theorems.{length-difference}
 
 -- ---- one pair and one word
@@ -59,6 +59,17 @@ sets-append l i [] ws = ap (λ (n : ℕ). sets l n ws) (sym (add-zero i))
 sets-append l i (v ∷ vs) ws =
     sets-append (set l i v) (suc i) vs ws ∙ ap (λ (n : ℕ). sets (sets (set l i v) (suc i) vs) n ws) (omega arith)
 
+-- stores at places that are apart may change places
+set-apart : (l : List ℕ) (i a j : ℕ) (ws : List ℕ) → i < j → sets (set l i a) j ws ≡ set (sets l j ws) i a
+set-apart l i a j [] h = refl
+set-apart l i a j (w ∷ ws) h =
+    ap (λ (m : List ℕ). sets m (suc j) ws) (set-comm l i j a w (λ e. omega (arith, e))) ∙ set-apart (set l j w) i a (suc j) ws (omega arith)
+
+pub sets-apart : (l : List ℕ) (i : ℕ) (vs : List ℕ) (j : ℕ) (ws : List ℕ) → i + length vs ≤ j → sets (sets l i vs) j ws ≡ sets (sets l j ws) i vs
+sets-apart l i [] j ws h = refl
+sets-apart l i (v ∷ vs) j ws h =
+    sets-apart (set l i v) (suc i) vs j ws (omega arith) ∙ ap (λ (m : List ℕ). sets m (suc i) vs) (set-apart l i v j ws (omega arith))
+
 pub pair-bytes-append : (rs ss : List Run) → pairBytes (rs ++ ss) ≡ pairBytes rs ++ pairBytes ss
 unfolding pairBytes
 pair-bytes-append [] ss = refl
@@ -77,6 +88,13 @@ open-run-counts o k [] = omega (arith, length-ended o k)
 open-run-counts o k (none ∷ d) = omega (arith, length-ended o k, length-append (ended o k) (runsFrom (o + k + 1) 0 d))
 open-run-counts o k (some v ∷ d) = omega (arith, open-run-counts o (k + 1) d)
 
+-- where no word is set any more, only the open run is left
+open-run-is-last : (o k : ℕ) (d : List (Option ℕ)) → length (setWords d) ≡ 0 → runsFrom o k d ≡ ended o k
+unfolding runsFrom setWords ended
+open-run-is-last o k [] h = refl
+open-run-is-last o k (none ∷ d) h = ap (λ (rs : List Run). ended o k ++ rs) (open-run-is-last (o + k + 1) 0 d h) ∙ append-nil (ended o k)
+open-run-is-last o k (some v ∷ d) h = absurd (omega (arith, h))
+
 -- ---- the word at a place of the difference
 
 difference-at : (old new : List ℕ) (i : ℕ) → i < length old → i < length new
@@ -88,20 +106,20 @@ difference-at (x ∷ old) (y ∷ new) zero h k = refl
 difference-at (x ∷ old) (y ∷ new) (suc i) h k = difference-at old new i (omega arith) (omega arith)
 
 module _ (old new : List ℕ) (whole : PagesWhole old new) (i : ℕ) where
-  at : i < 32 → drop i (difference old new) ≡ setting (getD old i 0) (getD new i 0) ∷ drop (i + 1) (difference old new)
-  at h =
+  pub next-word : i < 32 → drop i (difference old new) ≡ setting (getD old i 0) (getD new i 0) ∷ drop (i + 1) (difference old new)
+  next-word h =
       difference-at old new i (omega (arith, whole .old-whole)) (omega (arith, whole .new-whole))
       ∙ ap (λ (n : ℕ). setting (getD old i 0) (getD new i 0) ∷ drop n (difference old new)) (sym (add-one i))
 
   kept-word : i < 32 → getD old i 0 ≡ getD new i 0 → drop i (difference old new) ≡ none ∷ drop (i + 1) (difference old new)
   unfolding setting
-  kept-word h e = at h ∙ rw (eq-eqb _ _ e)
+  kept-word h e = next-word h ∙ rw (eq-eqb _ _ e)
 
   set-word : i < 32 → (getD old i 0 ≡ getD new i 0 → ⊥) → drop i (difference old new) ≡ some (getD new i 0) ∷ drop (i + 1) (difference old new)
   unfolding setting
-  set-word h e = at h ∙ rw (ne-eqb _ _ e)
+  set-word h e = next-word h ∙ rw (ne-eqb _ _ e)
 
-  no-word : 32 ≤ i → drop i (difference old new) ≡ []
+  pub no-word : 32 ≤ i → drop i (difference old new) ≡ []
   no-word h =
       drop-of-length-le (difference old new) {i = i}
       (omega (arith, length-difference old new (whole .old-whole ∙ sym (whole .new-whole)), whole .old-whole))
@@ -132,10 +150,6 @@ module _ (old new : List ℕ) (offset len : ℕ) (whole : PagesWhole old new) wh
       ap (λ (d : List (Option ℕ)). runsFrom offset len d) (set-word old new whole (offset + len) h e)
       ∙ ap (λ (n : ℕ). runsFrom offset (len + 1) (drop n (difference old new))) next
 
-  pub page-end-ends-run : 32 ≤ offset + len → runsLeft old new offset len ≡ ended offset len
-  unfolding runsLeft runsFrom
-  page-end-ends-run h = ap (λ (d : List (Option ℕ)). runsFrom offset len d) (no-word old new whole (offset + len) h)
-
 -- ---- the words that are left
 
 -- the values that the difference sets from the word i on
@@ -158,3 +172,56 @@ module _ (old new : List ℕ) (i : ℕ) (whole : PagesWhole old new) where
   pub page-end-has-none : 32 ≤ i → wordsLeft old new i ≡ []
   unfolding wordsLeft setWords
   page-end-has-none h = ap setWords (no-word old new whole i h)
+
+-- each word of the page that is left is set at most once
+set-words-fit : (d : List (Option ℕ)) → length (setWords d) ≤ length d
+unfolding setWords
+set-words-fit [] = omega arith
+set-words-fit (none ∷ d) = omega (arith, set-words-fit d)
+set-words-fit (some v ∷ d) = omega (arith, set-words-fit d)
+
+pub words-left-fit : (old new : List ℕ) (i : ℕ) → PagesWhole old new → i ≤ 32 → i + length (wordsLeft old new i) ≤ 32
+unfolding wordsLeft
+words-left-fit old new i whole h =
+    let d = difference old new in
+    omega (arith, set-words-fit (drop i d), length-drop i d, length-difference old new (whole .old-whole ∙ sym (whole .new-whole)), whole .old-whole)
+
+-- where a word is left, the page goes on
+pub word-left-on-page : (old new : List ℕ) (i : ℕ) → PagesWhole old new → 0 < length (setWords (drop i (difference old new))) → i < 32
+word-left-on-page old new i whole h =
+    let d = difference old new in
+    omega (arith, h, set-words-fit (drop i d), length-drop i d, length-difference old new (whole .old-whole ∙ sym (whole .new-whole)), whole .old-whole)
+
+-- a word that is kept and has no run before it changes nothing of what is left
+module _ (old new : List ℕ) (i : ℕ) (whole : PagesWhole old new) (h : i < 32) (e : getD old i 0 ≡ getD new i 0) where
+  pub kept-word-starts-none : runsFrom i 0 (drop i (difference old new)) ≡ runsFrom (i + 1) 0 (drop (i + 1) (difference old new))
+  unfolding runsFrom ended
+  kept-word-starts-none =
+      let next : i + 0 + 1 ≡ i + 1 = omega arith in
+      ap (λ (d : List (Option ℕ)). runsFrom i 0 d) (kept-word old new whole i h e)
+      ∙ ap (λ (n : ℕ). runsFrom n 0 (drop (i + 1) (difference old new))) next
+
+  pub kept-word-sets-none : setWords (drop i (difference old new)) ≡ setWords (drop (i + 1) (difference old new))
+  unfolding setWords
+  kept-word-sets-none = ap setWords (kept-word old new whole i h e)
+
+-- what is left at two places between which no word is set
+module _ (old new : List ℕ) (from to : ℕ) (p : NoneBetween old new from to) where
+  pub runs-left-same : runsLeft old new from 0 ≡ runsLeft old new to 0
+  unfolding runsLeft
+  runs-left-same =
+      ap (λ (n : ℕ). runsFrom from 0 (drop n (difference old new))) (add-zero from)
+      ∙ p .same-runs
+      ∙ ap (λ (n : ℕ). runsFrom to 0 (drop n (difference old new))) (sym (add-zero to))
+
+  pub words-left-same : wordsLeft old new (from + 0) ≡ wordsLeft old new (to + 0)
+  unfolding wordsLeft
+  words-left-same =
+      ap (λ (n : ℕ). setWords (drop n (difference old new))) (add-zero from)
+      ∙ p .same-words
+      ∙ ap (λ (n : ℕ). setWords (drop n (difference old new))) (sym (add-zero to))
+
+-- where no word is left, the open run is the last
+pub no-word-left-ends-run : (old new : List ℕ) (offset len : ℕ) → length (wordsLeft old new (offset + len)) ≡ 0 → runsLeft old new offset len ≡ ended offset len
+unfolding wordsLeft runsLeft
+no-word-left-ends-run old new offset len h = open-run-is-last offset len (drop (offset + len) (difference old new)) h

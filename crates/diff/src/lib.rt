@@ -1,13 +1,15 @@
 // The changes of a page as bytes: what turns one page of 32 words into another. Document 01 calls a diff a change.
-// Every contract is an equation with a definition of specs/; no public function has a `requires`: each refuses instead.
+// Every contract is an equation with a definition of specs/. Of the public functions only `lay` has a `requires`; the others refuse instead.
 ghost use mathlib.Core.Path.{_≡_};
-ghost use Prim.Native.Nat.{_+_, _*_, _<_, _≤_, min};
+ghost use mathlib.Core.Bool.{cond};
+ghost use Prim.Native.Nat.{_+_, _-_, _*_, _<_, _≤_, min};
 ghost use lib.ListN.{length, getD, take, drop};
 ghost use lib.Seq.{sets};
+ghost use lib.Dec.{eqb};
 ghost use Rattle.diff.specs.Format.{difference, ended, runs, setWords, pairBytes, wordBytes, wordsBytes, written};
 ghost use Rattle.diff.specs.Reading.{runsAt, runsIn, wordsPlace, wordAt, wordsAt, pairHolds, pairsRefusal, readRefusal, applied};
 ghost use Rattle.diff.specs.Answers.{writeAnswer, outAfter, applyRefusal, pageAfter, pairAmong, pairAt, wordsOf};
-ghost use Rattle.diff.specs.Needed.{PagesWhole, RoomForDiff, RoomForPairs, RoomForWords, RoomForPair, PairsThere, Readable, Applicable, NextThere, RunThere};
+ghost use Rattle.diff.specs.Needed.{PagesWhole, RoomForDiff, RoomForRuns, SetAhead, NoneBetween, RoomForPair, PairsThere, Readable, Applicable, NextThere, RunThere};
 
 // What writing a diff answers: how many bytes it has, or the number of a refusal.
 pub enum Written {
@@ -47,7 +49,7 @@ pub fn write(old: &[u32], new: &[u32], out: &mut [u8]) -> Written
     if out.len() < length {
         return Written::Refused(13);
     }
-    write_all(old, new, out, size.runs);
+    write_all(old, new, out, size.runs, size.words);
     Written::Length(length)
 }
 
@@ -57,68 +59,94 @@ struct Size {
     words: usize,
 }
 
-// The size of the diff of two pages. The words before offset + row are counted; the last `row` of them are a run that may go on.
+// The size of the diff of two pages. Every word is counted alike, without a branch: such a loop becomes vector instructions.
 fn measure(old: &[u32], new: &[u32]) -> Size
     requires { ⌜ PagesWhole (now old) (now new) ⌝ }
     ensures { λ r. ⌜ r .runs ≡ length (runs (difference (now (old .entry)) (now (new .entry)))) ⌝ }
     ensures { λ r. ⌜ r .words ≡ length (setWords (difference (now (old .entry)) (now (new .entry)))) ⌝ }
     ensures { λ r. ⌜ (r .runs ≤ 16) × (r .words ≤ 32) ⌝ }
 {
-    let mut offset: usize = 0;
-    let mut row: usize = 0;
-    let mut runs: usize = 0;
-    let mut words: usize = 0;
-    while offset + row < 32 {
-        if old[offset + row] == new[offset + row] {
-            runs = runs + at_most_one(row);
-            offset = offset + row + 1;
-            row = 0;
-        } else {
-            row = row + 1;
-            words = words + 1;
-        }
+    let mut runs: u32 = 0;
+    let mut words: u32 = 0;
+    let mut before: u32 = 0;
+    let mut i: usize = 0;
+    while i < 32 {
+        let this = unlike(old[i], new[i]);
+        runs = runs + starts(before, this);
+        words = words + this;
+        before = this;
+        i = i + 1;
     }
     Size {
-        runs: runs + at_most_one(row),
-        words,
+        runs: runs as usize,
+        words: words as usize,
     }
 }
 
-// How many runs `len` words in a row are: none or one.
-fn at_most_one(len: usize) -> usize
-    ensures { λ r. ⌜ r ≡ min len 1 ⌝ }
+// 1 where two words differ, else 0.
+fn unlike(old: u32, new: u32) -> u32
+    ensures { λ r. ⌜ r ≡ cond (eqb old new) 0 1 ⌝ }
+    ensures { λ r. ⌜ r ≤ 1 ⌝ }
 {
-    if len == 0 { 0 } else { 1 }
+    if old == new { 0 } else { 1 }
 }
 
-// The diff of two pages, with its number of runs: that number, the pairs, the words.
-fn write_all(old: &[u32], new: &[u32], out: &mut [u8], count: usize)
-    requires { ⌜ RoomForDiff (now old) (now new) (now out) count ⌝ }
+// How many runs start at a word: one where it is set and the word before is not.
+fn starts(before: u32, this: u32) -> u32
+    requires { ⌜ this ≤ 1 ⌝ }
+    ensures { λ r. ⌜ r ≡ this - before ⌝ }
+{
+    if this == 0 {
+        return 0;
+    }
+    if before == 0 { 1 } else { 0 }
+}
+
+// The diff of two pages, with its numbers of runs and words: the number of runs, the pairs, the words.
+fn write_all(old: &[u32], new: &[u32], out: &mut [u8], count: usize, words: usize)
+    requires { ⌜ RoomForDiff (now old) (now new) (now out) count words ⌝ }
     ensures { λ _. ⌜ now (out .exit) ≡ sets (now (out .entry)) 0 (written (now (old .entry)) (now (new .entry))) ⌝ }
 {
     out[0] = (count % 256) as u8;
-    write_pairs(old, new, out);
-    write_words(old, new, out, 1 + 2 * count);
+    write_runs(old, new, out, 1 + 2 * count, words);
 }
 
-// The pairs of the diff, from place 1 on. The words before offset + len are done; the last `len` of them are a run that may go on.
-fn write_pairs(old: &[u32], new: &[u32], out: &mut [u8])
-    requires { ⌜ RoomForPairs (now old) (now new) (now out) ⌝ }
-    ensures { λ _. ⌜ now (out .exit) ≡ sets (now (out .entry)) 1 (pairBytes (runs (difference (now (old .entry)) (now (new .entry))))) ⌝ }
+// The pairs of the diff, from place 1 on, and its words, from the place `from` on, until none is left. The words of the page before
+// offset + len are done; the last `len` of them are a run that may go on.
+fn write_runs(old: &[u32], new: &[u32], out: &mut [u8], from: usize, words: usize)
+    requires { ⌜ RoomForRuns (now old) (now new) (now out) from words ⌝ }
+    ensures { λ _. ⌜ now (out .exit) ≡ sets (sets (now (out .entry)) 1 (pairBytes (runs (difference (now (old .entry)) (now (new .entry)))))) from (wordsBytes (setWords (difference (now (old .entry)) (now (new .entry))))) ⌝ }
 {
     let mut at: usize = 1;
+    let mut to = from;
     let mut offset: usize = 0;
     let mut len: usize = 0;
-    while offset + len < 32 {
+    let mut left = words;
+    while 0 < left {
         if old[offset + len] == new[offset + len] {
             at = put_pair(out, at, offset, len);
-            offset = offset + len + 1;
+            offset = next_set(old, new, offset + len + 1);
             len = 0;
         } else {
+            put_word(out, to, new[offset + len]);
+            to = to + 4;
             len = len + 1;
+            left = left - 1;
         }
     }
     put_pair(out, at, offset, len);
+}
+
+// The first word from a place on that is set; there is one.
+fn next_set(old: &[u32], new: &[u32], from: usize) -> usize
+    requires { ⌜ SetAhead (now old) (now new) from ⌝ }
+    ensures { λ r. ⌜ NoneBetween (now (old .entry)) (now (new .entry)) from r ⌝ }
+{
+    let mut i = from;
+    while old[i] == new[i] {
+        i = i + 1;
+    }
+    i
 }
 
 // The pair of a run, unless the run is empty, at a place, and the place behind it.
@@ -133,24 +161,6 @@ fn put_pair(out: &mut [u8], at: usize, offset: usize, len: usize) -> usize
     out[at] = (offset % 256) as u8;
     out[at + 1] = (len % 256) as u8;
     at + 2
-}
-
-// The words of the runs, one after the other, from a place on.
-fn write_words(old: &[u32], new: &[u32], out: &mut [u8], from: usize)
-    requires { ⌜ RoomForWords (now old) (now new) (now out) from ⌝ }
-    ensures { λ _. ⌜ now (out .exit) ≡ sets (now (out .entry)) from (wordsBytes (setWords (difference (now (old .entry)) (now (new .entry))))) ⌝ }
-{
-    let mut at = from;
-    let mut i: usize = 0;
-    while i < 32 {
-        if old[i] == new[i] {
-            i = i + 1;
-        } else {
-            put_word(out, at, new[i]);
-            at = at + 4;
-            i = i + 1;
-        }
-    }
 }
 
 // A word at a place, low byte first.
@@ -234,12 +244,12 @@ pub fn apply(bytes: &[u8], page: &mut [u32]) -> Applied
     if refusal != 0 {
         return Applied { refusal };
     }
-    lay_runs(bytes, page);
+    lay(bytes, page);
     Applied { refusal: 0 }
 }
 
-// The words of every run, laid into the page.
-fn lay_runs(bytes: &[u8], page: &mut [u32])
+// Carries a diff out on a page where both are known to be legal: the words of every run, laid into the page.
+pub fn lay(bytes: &[u8], page: &mut [u32])
     requires { ⌜ Applicable (now bytes) (now page) ⌝ }
     ensures { λ _. ⌜ now (page .exit) ≡ applied 32 (now (bytes .entry)) (now (page .entry)) ⌝ }
 {
@@ -266,8 +276,20 @@ fn lay_next(bytes: &[u8], at: usize, words: usize, page: &mut [u32]) -> usize
     words + 4 * len
 }
 
-// The words of one run, laid into the page from its offset on.
+// The words of one run, laid into the page from its offset on. Most runs have one word, which needs no loop.
 fn lay_run(bytes: &[u8], words: usize, len: usize, page: &mut [u32], offset: usize)
+    requires { ⌜ RunThere (now bytes) (now page) words len offset ⌝ }
+    ensures { λ _. ⌜ now (page .exit) ≡ sets (now (page .entry)) offset (wordsAt (now (bytes .entry)) words len) ⌝ }
+{
+    if len == 1 {
+        page[offset] = word_at(bytes, words);
+        return;
+    }
+    lay_words(bytes, words, len, page, offset);
+}
+
+// The same, word by word.
+fn lay_words(bytes: &[u8], words: usize, len: usize, page: &mut [u32], offset: usize)
     requires { ⌜ RunThere (now bytes) (now page) words len offset ⌝ }
     ensures { λ _. ⌜ now (page .exit) ≡ sets (now (page .entry)) offset (wordsAt (now (bytes .entry)) words len) ⌝ }
 {

@@ -1,8 +1,11 @@
 pub mod Picking
 pub mod Ranking
 pub mod Next
+pub mod Gathering
+pub mod Choosing
 pub mod LaidBack
 pub mod Laying
 pub mod Applying
 pub mod InState
+pub mod Comparing
 pub mod Fetching

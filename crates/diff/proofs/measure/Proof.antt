@@ -1,16 +1,17 @@
 -- `measure` meets its contract: what is counted and what is left are all runs and words. Assumes nothing.
-use Prim.Native.Nat.{_+_, _-_}
-use Rattle.diff.proofs.WriteLoops.{Measuring, write-laws}
+use Prim.Native.Nat.{_-_}
+use Rattle.diff.proofs.Measuring.{Measuring}
+use Rattle.diff.proofs.WriteLoops.{write-laws}
 use Rattle.diff.proofs.measure.Statement.{statement}
 use Rattle.diff.proofs.measure.Tie as tie
 
 abbrev Inv-loop : tie.InvT-loop
-Inv-loop old new offset₀ row₀ runs₀ words₀ offset row runs words = Measuring old new offset row runs words
+Inv-loop old new runs₀ words₀ before₀ i₀ runs words before i = Measuring old new runs words before i
 
 abbrev μ-loop : tie.MeasureT-loop
-μ-loop old new offset₀ row₀ runs₀ words₀ offset row runs words = 32 - (offset + row)
+μ-loop old new runs₀ words₀ before₀ i₀ runs words before i = 32 - i
 
 pub measure-spec : {M : Type 1} → statement M
 measure-spec =
     tie.close
-    (tie.spec Inv-loop μ-loop (λ c. search write-laws) (λ c. search write-laws) (λ c. search write-laws) (λ c. search write-laws) (λ c. search write-laws) (λ c. search write-laws) (λ c. search write-laws) (λ c. search write-laws) (λ c κs. search write-laws) (λ c. search write-laws) (λ c. search write-laws) (λ c. search write-laws) (λ c. search write-laws) (λ c. search write-laws) (λ c. search write-laws) (λ c. search write-laws) (λ c. search write-laws) (λ c. search write-laws) (λ c κs. search write-laws) (λ c. search write-laws) (λ c. search write-laws))
+    (tie.spec Inv-loop μ-loop (λ c. search write-laws) (λ c. search write-laws) (λ c. search write-laws) (λ c. search write-laws) (λ c. search write-laws) (λ c κs. search write-laws) (λ c κs. search write-laws) (λ c. search write-laws) (λ c. search write-laws) (λ c. search write-laws) (λ c. search write-laws) (λ c. search write-laws) (λ c. search write-laws) (λ c. search write-laws) (λ c. search write-laws))

@@ -2,8 +2,9 @@
 use Rattle.diff.proofs.WriteLoops.{write-laws}
 use Rattle.diff.proofs.write_all.Statement.{statement}
 use Rattle.diff.proofs.write_all.Tie as tie
+use borrow.Author.Needs.{needs}
 
 pub write-all-spec : {M : Type 1} → statement M
 write-all-spec =
     tie.close
-    (tie.spec (λ c. search write-laws) (λ c. search write-laws) (λ c κs. search write-laws) (λ c. search write-laws) (λ c. search write-laws) (λ c κs. search write-laws) (λ c. search write-laws) (λ c. search write-laws))
+    (tie.spec (λ c. search write-laws) (λ c. search write-laws) (λ c. search write-laws) (λ c. search write-laws) (λ c κs. search write-laws) (λ c. search write-laws) (λ c. search write-laws))
