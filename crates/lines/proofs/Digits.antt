@@ -5,11 +5,12 @@ use native.Mathlib.Numerals.{add-one}
 use native.Mathlib.Omega.{arith}
 use mathlib.Core.Path.{_≡_, refl, sym, ap, _∙_}
 use mathlib.Core.Bool.{Bool, true, false, cond}
-use mathlib.Core.List.{List, [], _∷_, _++_}
+use mathlib.Core.List.{List, [], _∷_, _++_, append-assoc}
 use lib.ListN.{length, getD, length-append}
 use lib.Dec.{ltb}
 use borrow.Author.Tests.{ltb-true, ltb-false, lt-ltb, le-ltb}
 use Rattle.lines.specs.Decimal.{digitsWithin, digits, valueAfter, valueOf}
+use Rattle.lines.specs.Needed.{pairBytes}
 
 -- ---- one digit more
 
@@ -37,6 +38,24 @@ pub digits-more : (n : ℕ) → 10 ≤ n → digits n ≡ digits (n / 10) ++ (48
 unfolding digits digitsWithin
 digits-more n h =
     rw (add-one n, le-ltb n 10 h) (ap (λ (ds : List ℕ). ds ++ (48 + n % 10) ∷ []) (within-any n (n / 10 + 1) (n / 10) (omega arith) (omega arith)))
+
+-- a number of two digits is a pair
+pub digits-two : (n : ℕ) → 10 ≤ n → n < 100 → digits n ≡ pairBytes n
+unfolding pairBytes
+digits-two n h k =
+    digits-more n h ∙ ap (λ (ds : List ℕ). ds ++ (48 + n % 10) ∷ []) (digits-one (n / 10) (omega arith))
+
+-- a larger one has the digits of its hundredth and a pair more
+pub digits-pair-more : (n : ℕ) → 100 ≤ n → digits n ≡ digits (n / 100) ++ pairBytes (n % 100)
+unfolding pairBytes
+digits-pair-more n h =
+    let tens : n / 10 % 10 ≡ n % 100 / 10 = omega arith in
+    let ones : n % 10 ≡ n % 100 % 10 = omega arith in
+    let hundredth : n / 10 / 10 ≡ n / 100 = omega arith in
+    digits-more n (omega arith)
+    ∙ ap (λ (ds : List ℕ). ds ++ (48 + n % 10) ∷ []) (digits-more (n / 10) (omega arith))
+    ∙ append-assoc (digits (n / 10 / 10)) ((48 + n / 10 % 10) ∷ []) ((48 + n % 10) ∷ [])
+    ∙ rw (tens, ones, hundredth)
 
 -- what holds of the numbers below 10, and of a number if of its tenth, holds of all
 pub by-digits : (P : ℕ → Type 0) → ((n : ℕ) → n < 10 → P n) → ((n : ℕ) → 10 ≤ n → P (n / 10) → P n) → (n : ℕ) → P n
@@ -80,6 +99,22 @@ some-digit =
 -- a number of at least 10 has one more than its tenth
 pub length-more : (n : ℕ) → 10 ≤ n → length (digits n) ≡ length (digits (n / 10)) + 1
 length-more n h = ap length (digits-more n h) ∙ length-append (digits (n / 10)) ((48 + n % 10) ∷ [])
+
+-- a number from 10 to 99 has two
+pub length-two : (n : ℕ) → 10 ≤ n → n < 100 → length (digits n) ≡ 2
+unfolding pairBytes
+length-two n h k = ap length (digits-two n h k)
+
+-- a number of at least 100 has two more than its hundredth
+pub length-pair-more : (n : ℕ) → 100 ≤ n → length (digits n) ≡ length (digits (n / 100)) + 2
+unfolding pairBytes
+length-pair-more n h = ap length (digits-pair-more n h) ∙ length-append (digits (n / 100)) (pairBytes (n % 100))
+
+-- a number of at least 10000 has four more than its part above the last four
+pub length-four-more : (n : ℕ) → 10000 ≤ n → length (digits n) ≡ 4 + length (digits (n / 10000))
+length-four-more n h =
+    let above : length (digits (n / 100 / 100)) ≡ length (digits (n / 10000)) = ap (λ (m : ℕ). length (digits m)) (omega arith) in
+    omega (arith, length-pair-more n (omega arith), length-pair-more (n / 100) (omega arith))
 
 -- a number below a power of ten has at most as many digits as that power has zeros
 pub digits-at-most : (k n : ℕ) → n < 10 ^ suc k → length (digits n) ≤ suc k

@@ -36,14 +36,20 @@ sets-append l i [] ws = ap (λ (n : ℕ). sets l n ws) (sym (add-zero i))
 sets-append l i (v ∷ vs) ws =
     sets-append (set l i v) (suc i) vs ws ∙ ap (λ (n : ℕ). sets (sets (set l i v) (suc i) vs) n ws) (omega arith)
 
--- the last byte of a list may be stored first
-pub sets-last-first : (l : List ℕ) (i : ℕ) (vs : List ℕ) (v : ℕ) → sets l i (vs ++ v ∷ []) ≡ sets (set l (i + length vs) v) i vs
-sets-last-first l i [] v = ap (λ (n : ℕ). set l n v) (sym (add-zero i))
-sets-last-first l i (x ∷ vs) v =
+-- a byte before others may be stored after them
+set-after : (l : List ℕ) (i k v : ℕ) (ws : List ℕ) → i < k → sets (set l i v) k ws ≡ set (sets l k ws) i v
+set-after l i k v [] h = refl
+set-after l i k v (w ∷ ws) h =
+    ap (λ (m : List ℕ). sets m (suc k) ws) (set-comm l i k v w (λ e. omega arith)) ∙ set-after (set l k w) i (suc k) v ws (omega arith)
+
+-- of two lists in a row, the last may be stored first
+pub sets-last-first : (l : List ℕ) (i : ℕ) (vs ws : List ℕ) → sets l i (vs ++ ws) ≡ sets (sets l (i + length vs) ws) i vs
+sets-last-first l i [] ws = ap (λ (n : ℕ). sets l n ws) (sym (add-zero i))
+sets-last-first l i (x ∷ vs) ws =
     let place : suc i + length vs ≡ i + length (x ∷ vs) = omega arith in
-    sets-last-first (set l i x) (suc i) vs v
-    ∙ ap (λ (n : ℕ). sets (set (set l i x) n v) (suc i) vs) place
-    ∙ ap (λ (m : List ℕ). sets m (suc i) vs) (set-comm l i (i + length (x ∷ vs)) x v (λ e. omega arith))
+    sets-last-first (set l i x) (suc i) vs ws
+    ∙ ap (λ (n : ℕ). sets (sets (set l i x) n ws) (suc i) vs) place
+    ∙ ap (λ (m : List ℕ). sets m (suc i) vs) (set-after l i (i + length (x ∷ vs)) x ws (omega arith))
 
 -- ---- lines of Listing A, and the largest number
 

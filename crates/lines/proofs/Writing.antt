@@ -1,5 +1,6 @@
 -- The laws by which the functions of this crate meet their contracts: what each way through their code says. Assumes nothing.
 use Prim.Native.Nat.{ℕ, _+_, _-_, _*_, _/_, _%_, _≤_, _<_}
+use native.Mathlib.Numerals.{add-one}
 use native.Mathlib.Omega.{arith}
 use mathlib.Core.Path.{_≡_, refl, sym, ap, _∙_}
 use mathlib.Core.Bool.{Bool, true, false, not}
@@ -13,80 +14,102 @@ use borrow.Author.Tests.{leb-true, leb-false, not-true, not-false, le-leb, lt-le
 use borrow.Author.Needs.{needs}
 use Rattle.lines.specs.Decimal.{digits}
 use Rattle.lines.specs.Lines.{lineBytes, lineFits, lineAnswer, lineLeft}
-use Rattle.lines.specs.Needed.{Room, DigitsFit, fieldBytes, halfBytes, Put}
+use Rattle.lines.specs.Needed.{Room, DigitsFit, PairFits, Put, pairBytes, fieldBytes, halfBytes}
 use Rattle.lines.specs.declared.Placed.the-variants.{End, NoRoom}
-use Rattle.lines.proofs.Digits.{digits-one, digits-more, some-digit, length-more, at-most-ten-digits}
+use Rattle.lines.proofs.Digits.{digits-one, digits-two, digits-pair-more, length-two, length-pair-more, length-four-more, at-most-ten-digits}
 use Rattle.lines.proofs.Lines.{line-is-halves, sets-append, sets-last-first}
 
 -- ---- how many digits
 
--- of the digits of n, len are counted, the last of them the last of rest; the others of rest are still to be counted
-pub record Counting (n len rest : ℕ) : Type 0 where
-  pub all : len + length (digits rest) ≡ length (digits n) + 1
-  pub few : length (digits n) ≤ 10
-  pub short : len ≤ 10
+module _ (n : ℕ) where
+  -- below 10000
+  pub width-one : n < 10 → 1 ≡ length (digits n)
+  width-one h = sym (ap length (digits-one n h))
 
--- before the loop, after a turn, and at its end
-pub counting-begins : (n : ℕ) → Fits w32 n → Counting n 1 n
-counting-begins n h = record { all = omega arith; few = at-most-ten-digits n (h .fits); short = omega arith }
+  pub width-two : 10 ≤ n → n < 100 → 2 ≡ length (digits n)
+  width-two h k = sym (length-two n h k)
 
-module _ (n len rest : ℕ) where
-  pub counting-more : Counting n len rest → 10 ≤ rest → Counting n (len + 1) (rest / 10)
-  counting-more p h =
-      let more = length-more rest h in
-      let one = some-digit (rest / 10) in
-      record { all = omega arith; few = p .few; short = omega arith }
+  pub width-three : 100 ≤ n → n < 1000 → 3 ≡ length (digits n)
+  width-three h k = omega (arith, length-pair-more n h, ap length (digits-one (n / 100) (omega arith)))
 
-  pub all-counted : Counting n len rest → rest < 10 → len ≡ length (digits n)
-  all-counted p h = omega (arith, p .all, ap length (digits-one rest h))
+  pub width-four : 1000 ≤ n → n < 10000 → 4 ≡ length (digits n)
+  width-four h k = omega (arith, length-pair-more n (omega arith), length-two (n / 100) (omega arith) (omega arith))
+
+  -- from 10000 on, by the digits of what is above the last four or eight, r
+  module _ (r : ℕ) where
+    pub width-above-four : 10000 ≤ n → r ≡ length (digits (n / 10000)) → 4 + r ≡ length (digits n)
+    width-above-four h e = omega (arith, length-four-more n h)
+
+    pub width-above-eight : 100000000 ≤ n → r ≡ length (digits (n / 100000000)) → 8 + r ≡ length (digits n)
+    width-above-eight h e =
+        let above : length (digits (n / 10000 / 10000)) ≡ length (digits (n / 100000000)) = ap (λ (m : ℕ). length (digits m)) (omega arith) in
+        omega (arith, length-four-more n (omega arith), length-four-more (n / 10000) (omega arith))
+
+    pub width-short : Fits w32 n → 100000000 ≤ n → r ≡ length (digits (n / 100000000)) → 8 + r ≤ 10
+    width-short p h e = omega (arith, width-above-eight h e, at-most-ten-digits n (p .fits))
 
 -- ---- the digits of a number
 
--- the last digits of n are stored; those of rest, the last of which belongs at i, are left
+-- what is stored somewhere keeps the length
+pub sets-keep-length : (out out′ : List ℕ) (at : ℕ) (vs : List ℕ) → out′ ≡ sets out at vs → length out′ ≡ length out
+sets-keep-length out out′ at vs e = ap length e ∙ length-sets out at vs
+
+-- the place of the second digit of a pair, and what the two stores leave
+module _ (out : List ℕ) (at pair : ℕ) where
+  pub second-place : PairFits out at pair → (v : ℕ) → at + 1 < length (set out at v)
+  second-place p v = simp length-set (omega (arith, p .room))
+
+  pub pair-stored : set (set out at (48 + pair / 10)) (at + 1) (48 + pair % 10) ≡ sets out at (pairBytes pair)
+  unfolding pairBytes
+  pair-stored = ap (λ (k : ℕ). set (set out at (48 + pair / 10)) k (48 + pair % 10)) (add-one at)
+
+-- the last digits of n are stored; those of rest, which end before i, are left
 pub record Storing (out₀ out : List ℕ) (at n i rest : ℕ) : Type 0 where
-  pub place : i + 1 ≡ at + length (digits rest)
-  pub room : i < length out
+  pub place : i ≡ at + length (digits rest)
+  pub room : i ≤ length out
   pub as-long : length out ≡ length out₀
   pub same : sets out₀ at (digits n) ≡ sets out at (digits rest)
 
 -- before the loop
-module _ (out : List ℕ) (at len n : ℕ) (p : DigitsFit out at len n) where
-  pub last-place : 1 ≤ at + len
-  last-place = omega (arith, p .counted, some-digit n)
-
-  pub storing-begins : Storing out out at n (at + len - 1) n
-  storing-begins =
-      let one = some-digit n in
-      record { place = omega (arith, p .counted); room = omega (arith, p .counted, p .room); as-long = refl; same = refl }
+pub storing-begins : (out : List ℕ) (at len n : ℕ) → DigitsFit out at len n → Storing out out at n (at + len) n
+storing-begins out at len n p = record { place = omega (arith, p .counted); room = p .room; as-long = refl; same = refl }
 
 -- in a turn, and behind the loop
 module _ (out₀ out : List ℕ) (at n i rest : ℕ) (p : Storing out₀ out at n i rest) where
-  pub place-before : 10 ≤ rest → 1 ≤ i
-  place-before h = omega (arith, p .place, length-more rest h, some-digit (rest / 10))
+  pub pair-before : 100 ≤ rest → 2 ≤ i
+  pair-before h = omega (arith, p .place, length-pair-more rest h)
 
-  pub storing-more : 10 ≤ rest → Storing out₀ (set out i (48 + rest % 10)) at n (i - 1) (rest / 10)
-  storing-more h =
-      let one = some-digit (rest / 10) in
-      let more = length-more rest h in
-      let here : at + length (digits (rest / 10)) ≡ i = omega (arith, p .place) in
+  pub room-for-pair : 100 ≤ rest → PairFits out (i - 2) (rest % 100)
+  room-for-pair h = record { two = omega arith; room = omega (arith, p .room, pair-before h) }
+
+  pub storing-more : (out′ : List ℕ) → 100 ≤ rest → out′ ≡ sets out (i - 2) (pairBytes (rest % 100)) → Storing out₀ out′ at n (i - 2) (rest / 100)
+  storing-more out′ h e =
+      let more = length-pair-more rest h in
+      let here : at + length (digits (rest / 100)) ≡ i - 2 = omega (arith, p .place) in
+      let long = sets-keep-length out out′ (i - 2) (pairBytes (rest % 100)) e in
       record {
-        place = omega (arith, p .place);
-        room = simp length-set (omega (arith, p .room));
-        as-long = length-set out i (48 + rest % 10) ∙ p .as-long;
+        place = sym here;
+        room = omega (arith, p .room);
+        as-long = long ∙ p .as-long;
         same =
             p .same
-            ∙ ap (λ (l : List ℕ). sets out at l) (digits-more rest h)
-            ∙ sets-last-first out at (digits (rest / 10)) (48 + rest % 10)
-            ∙ ap (λ (k : ℕ). sets (set out k (48 + rest % 10)) at (digits (rest / 10))) here;
+            ∙ ap (λ (l : List ℕ). sets out at l) (digits-pair-more rest h)
+            ∙ sets-last-first out at (digits (rest / 100)) (pairBytes (rest % 100))
+            ∙ ap (λ (k : ℕ). sets (sets out k (pairBytes (rest % 100))) at (digits (rest / 100))) here
+            ∙ ap (λ (l : List ℕ). sets l at (digits (rest / 100))) (sym e);
       }
 
-  pub all-stored : rest < 10 → set out i (48 + rest) ≡ sets out₀ at (digits n)
-  all-stored h =
-      let here : at ≡ i = omega (arith, p .place, ap length (digits-one rest h)) in
-      sym (p .same ∙ ap (λ (l : List ℕ). sets out at l) (digits-one rest h) ∙ ap (λ (k : ℕ). set out k (48 + rest)) here)
+  pub room-for-first-digit : rest < 10 → at < length out
+  room-for-first-digit h = omega (arith, p .place, p .room, ap length (digits-one rest h))
 
-  pub stored-keeps-length : (v : ℕ) → length (set out i v) ≡ length out₀
-  stored-keeps-length v = length-set out i v ∙ p .as-long
+  pub first-digit-stored : rest < 10 → set out at (48 + rest) ≡ sets out₀ at (digits n)
+  first-digit-stored h = sym (p .same ∙ ap (λ (l : List ℕ). sets out at l) (digits-one rest h))
+
+  pub room-for-first-pair : 10 ≤ rest → rest < 100 → PairFits out at rest
+  room-for-first-pair h k = record { two = k; room = omega (arith, p .place, p .room, length-two rest h k) }
+
+  pub first-pair-stored : (out′ : List ℕ) → 10 ≤ rest → rest < 100 → out′ ≡ sets out at (pairBytes rest) → out′ ≡ sets out₀ at (digits n)
+  first-pair-stored out′ h k e = e ∙ sym (p .same ∙ ap (λ (l : List ℕ). sets out at l) (digits-two rest h k))
 
 -- ---- one number
 
@@ -105,10 +128,6 @@ one-digit-near at = omega arith
 
 pub digits-near : (at len : ℕ) → len ≤ 10 → at + len ≤ at + 10
 digits-near at len h = omega arith
-
--- what is stored somewhere keeps the length
-pub sets-keep-length : (out out′ : List ℕ) (at : ℕ) (vs : List ℕ) → out′ ≡ sets out at vs → length out′ ≡ length out
-sets-keep-length out out′ at vs e = ap length e ∙ length-sets out at vs
 
 -- ---- a number with a byte behind
 
@@ -219,4 +238,4 @@ pub room-for-line : (out : List ℕ) (at : ℕ) (r : Bool) → r ≡ lineFits (l
 unfolding lineFits
 room-for-line out at r is h = record { room = leb-true (at + 44) (length out) (sym is ∙ not-false r h) }
 
-pub ruleset line-laws = (counting-begins, counting-more, all-counted, last-place, storing-begins, place-before, storing-more, all-stored, stored-keeps-length, one-digit-place, one-digit-stored, one-digit-near, digits-near, room-for-digits, sets-keep-length, room-for-number, room-for-byte, field-put, field-keeps-length, put-keeps-length, room-for-first, room-for-second, room-for-half, room-for-other-half, half-put, line-end, line-stored, behind-the-end, enough-left, no-room-answered, no-room-untouched, end-answered, line-left, room-for-line, needs)
+pub ruleset line-laws = (width-one, width-two, width-three, width-four, width-above-four, width-above-eight, width-short, second-place, pair-stored, storing-begins, pair-before, room-for-pair, storing-more, room-for-first-digit, first-digit-stored, room-for-first-pair, first-pair-stored, one-digit-place, one-digit-stored, one-digit-near, digits-near, room-for-digits, sets-keep-length, room-for-number, room-for-byte, field-put, field-keeps-length, put-keeps-length, room-for-first, room-for-second, room-for-half, room-for-other-half, half-put, line-end, line-stored, behind-the-end, enough-left, no-room-answered, no-room-untouched, end-answered, line-left, room-for-line, needs)

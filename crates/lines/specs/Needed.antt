@@ -1,5 +1,5 @@
 -- What the functions of this crate ask, room in lent memory, and what those that write a part of a line tell. Assumes nothing.
-use Prim.Native.Nat.{ℕ, _+_, _≤_}
+use Prim.Native.Nat.{ℕ, _+_, _/_, _%_, _≤_, _<_}
 use mathlib.Core.Path.{_≡_}
 use mathlib.Core.List.{List, [], _∷_, _++_}
 use lib.ListN.{length}
@@ -14,6 +14,15 @@ pub record Room (out : List ℕ) (at most : ℕ) : Type 0 where
 pub record DigitsFit (out : List ℕ) (at len n : ℕ) : Type 0 where
   pub counted : len ≡ length (digits n)
   pub room : at + len ≤ length out
+
+-- the two digits of a number below 100 have room from a place on
+pub record PairFits (out : List ℕ) (at pair : ℕ) : Type 0 where
+  pub two : pair < 100
+  pub room : at + 2 ≤ length out
+
+-- the two digits of a number below 100, of which the first may be a zero
+unfoldable pub pairBytes : ℕ → List ℕ
+pairBytes pair = (48 + pair / 10) ∷ (48 + pair % 10) ∷ []
 
 -- a number with a byte behind
 unfoldable pub fieldBytes : ℕ → ℕ → List ℕ

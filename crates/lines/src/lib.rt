@@ -1,11 +1,11 @@
 // The lines of the run program: four numbers in base ten, each with a space or the line end behind it.
 ghost use mathlib.Core.Path.{_≡_};
-ghost use Prim.Native.Nat.{_+_, _≤_};
+ghost use Prim.Native.Nat.{_+_, _≤_, _<_};
 ghost use lib.ListN.{length};
 ghost use lib.Seq.{sets};
 ghost use Rattle.lines.specs.Decimal.{digits};
 ghost use Rattle.lines.specs.Lines.{lineBytes, lineFits, lineAnswer, lineLeft};
-ghost use Rattle.lines.specs.Needed.{Room, DigitsFit, Put, fieldBytes, halfBytes};
+ghost use Rattle.lines.specs.Needed.{Room, DigitsFit, PairFits, Put, pairBytes, fieldBytes, halfBytes};
 
 // What writing a line answers: the place behind it, or that the longest line would not fit.
 pub enum Placed {
@@ -93,31 +93,62 @@ pub fn put_number(out: &mut [u8], at: usize, n: u32) -> usize
     at + len
 }
 
-// How many digits a number has.
+// How many digits a number has, by comparisons and one division at most.
 fn width(n: u32) -> usize
     ensures { λ r. ⌜ r ≡ length (digits n) ⌝ }
     ensures { λ r. ⌜ r ≤ 10 ⌝ }
 {
-    let mut len: usize = 1;
-    let mut rest = n;
-    while 10 <= rest {
-        rest = rest / 10;
-        len = len + 1;
+    if n < 10000 {
+        return width_low(n);
     }
-    len
+    if n < 100000000 {
+        return 4 + width_low(n / 10000);
+    }
+    8 + width_low(n / 100000000)
 }
 
-// Writes the digits of a number, of which there are len, from the last to the first.
+// How many digits a number below 10000 has.
+fn width_low(n: u32) -> usize
+    requires { ⌜ n < 10000 ⌝ }
+    ensures { λ r. ⌜ r ≡ length (digits n) ⌝ }
+    ensures { λ r. ⌜ r ≤ 4 ⌝ }
+{
+    if n < 10 {
+        return 1;
+    }
+    if n < 100 {
+        return 2;
+    }
+    if n < 1000 {
+        return 3;
+    }
+    4
+}
+
+// Writes the digits of a number, of which there are len, from the last to the first: two a turn, so that a division of the rest serves two.
 fn put_digits(out: &mut [u8], at: usize, len: usize, n: u32)
     requires { ⌜ DigitsFit (now out) at len n ⌝ }
     ensures { λ _. ⌜ now (out .exit) ≡ sets (now (out .entry)) at (digits n) ⌝ }
 {
-    let mut i = at + len - 1;
+    let mut i = at + len;
     let mut rest = n;
-    while 10 <= rest {
-        out[i] = (48 + rest % 10) as u8;
-        i = i - 1;
-        rest = rest / 10;
+    while 100 <= rest {
+        i = i - 2;
+        put_pair(out, i, rest % 100);
+        rest = rest / 100;
     }
-    out[i] = (48 + rest) as u8;
+    if rest < 10 {
+        out[at] = (48 + rest) as u8;
+        return;
+    }
+    put_pair(out, at, rest);
+}
+
+// Writes the two digits of a number below 100, of which the first may be a zero.
+fn put_pair(out: &mut [u8], at: usize, pair: u32)
+    requires { ⌜ PairFits (now out) at pair ⌝ }
+    ensures { λ _. ⌜ now (out .exit) ≡ sets (now (out .entry)) at (pairBytes pair) ⌝ }
+{
+    out[at] = (48 + pair / 10) as u8;
+    out[at + 1] = (48 + pair % 10) as u8;
 }

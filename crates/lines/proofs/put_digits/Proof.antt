@@ -12,4 +12,4 @@ abbrev μ-loop : tie.MeasureT-loop
 pub put-digits-spec : {M : Type 1} → statement M
 put-digits-spec =
     tie.close
-    (tie.spec Inv-loop μ-loop (λ c. search line-laws) (λ c. search line-laws) (λ c. search line-laws) (λ c. search line-laws) (λ c. search line-laws) (λ c. search line-laws) (λ c. search line-laws) (λ c. search line-laws) (λ c. search line-laws) (λ c. search line-laws) (λ c. search line-laws) (λ c. search line-laws) (λ c. search line-laws) (λ c. search line-laws))
+    (tie.spec Inv-loop μ-loop (λ c. search line-laws) (λ c. search line-laws) (λ c. search line-laws) (λ c κs. search line-laws) (λ c. search line-laws) (λ c. search line-laws) (λ c. search line-laws) (λ c. search line-laws) (λ c. search line-laws) (λ c. search line-laws) (λ c. search line-laws) (λ c κs. search line-laws) (λ c. search line-laws) (λ c. search line-laws))
