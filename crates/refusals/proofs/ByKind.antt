@@ -1,5 +1,5 @@
 -- What the six kinds of step ask of their fields, and the rows 7 to 10, each for its kind. Assumes nothing.
-use Prim.Native.Nat.{ℕ, zero, suc, _*_, _/_, _≤_, _<_}
+use Prim.Native.Nat.{ℕ, zero, suc, _+_, _*_, _/_, _≤_, _<_}
 use native.Mathlib.Omega.{arith}
 use mathlib.Core.Path.{_≡_, refl, sym, ap, _∙_}
 use mathlib.Core.Bool.{Bool, true, false, not, _&&_, and-eq-true-iff, false≢true}
@@ -9,12 +9,13 @@ use lib.Dec.{ltb, eqb}
 use borrow.Author.Tests.{ltb-true, not-true, not-false, eq-eqb, ne-eqb}
 use Rattle.rules.specs.InOrder.{dirtyPages}
 use Rattle.rules.specs.Refusals.{Write, Acquire, Release, actionOf, known, fits, lateRefusal}
-use Rattle.rules.specs.State.{mainframe, dirtyAt, clock, own, holder}
+use Rattle.rules.specs.State.{mainframe, dirtyAt, State, clock, own, holder}
 use Rattle.rules.specs.Steps.{pageOfWord}
 use Rattle.memory.specs.Areas.{pagesIn, recordsIn, stateIn}
 use Rattle.memory.specs.Needed.{ClocksOf}
-use Rattle.refusals.specs.Parts.{stepOf, seen, fieldsFit, valueFits, refusalOfKind, recordsToCome}
+use Rattle.refusals.specs.Parts.{stepOf, seen, fieldsFit, valueFits, refusalOfKind, recordsToCome, roomIfAllDirty}
 use Rattle.refusals.specs.Needed.{Counted, FittingStep, KnownKind, LockThere, PageOf, WriteOf}
+use Rattle.refusals.proofs.Counting.{few-records-to-come}
 
 -- a claim about a known kind holds if it holds of each
 by-kind : (claim : ℕ → Type 0) → claim 1 → claim 2 → claim 3 → claim 4 → claim 5 → claim 6 → (k : ℕ) → 1 ≤ k → k ≤ 6 → claim k
@@ -174,6 +175,14 @@ module _ (c m : List ℕ) (p w : ℕ) (d : Bool) (is : d ≡ dirtyAt (seen [] m 
       pub write-has-space : (sum ≡ 128 → ⊥) → 0 ≡ lateRefusal mainframe (seen c m) p (Write w 0)
       unfolding lateRefusal pageOfWord mainframe seen stateIn pagesIn dirtyAt own clock recordsToCome dirtyPages recordsIn
       write-has-space e = rw (← is, clean, ← entry, ne-eqb n 63 left, ← all, ne-eqb sum 128 e)
+
+    -- a write while space remains whatever is dirty
+    pub write-has-ample-space : (n ≡ 63 → ⊥) → (b : Bool) → b ≡ roomIfAllDirty (seen [] m) → b ≡ true → 0 ≡ lateRefusal mainframe (seen c m) p (Write w 0)
+    unfolding roomIfAllDirty mainframe
+    write-has-ample-space left b said t =
+        let s : State = seen [] m in
+        let room = ltb-true (s .records .standing + s .counts .processors * s .counts .pages) 128 (sym said ∙ t) in
+        write-has-space left (recordsToCome s) refl (λ e. omega (arith, e, room, few-records-to-come s))
 
 -- ---- the rows 7 and 8
 

@@ -1,16 +1,20 @@
--- The dirty pages are counted: of one processor page by page, of all processors one after the other. Assumes nothing.
-use Prim.Native.Nat.{ℕ, suc, _+_, _*_, _≤_, _<_}
+-- The dirty pages are counted: of one processor page by page, of all processors one after the other; and a bound without counting. Assumes nothing.
+use Prim.Native.Nat.{ℕ, zero, suc, _+_, _*_, _≤_, _<_}
 use native.Mathlib.Numerals.{add-one}
+use native.Mathlib.Nat.{suc-mul, mul-le-mul}
 use native.Mathlib.Omega.{arith}
 use mathlib.Core.Path.{_≡_, refl, ap, _∙_}
 use mathlib.Core.Bool.{Bool, true, false, cond}
 use mathlib.Core.List.{List, []}
 use lib.ListN.{length, getD}
+use lib.Dec.{ltb}
+use mir.Syntax.{w64}
+use mir.Val.{Fits}
 use Rattle.rules.specs.InOrder.{dirtyPages}
-use Rattle.rules.specs.State.{dirtyAt}
+use Rattle.rules.specs.State.{mainframe, dirtyAt, State}
 use Rattle.rules.specs.Tables.{total}
 use Rattle.memory.specs.Areas.{recordsIn, stateIn}
-use Rattle.refusals.specs.Parts.{seen, dirtyPagesOf, recordsToCome}
+use Rattle.refusals.specs.Parts.{seen, dirtyPagesOf, recordsToCome, roomIfAllDirty}
 use Rattle.refusals.specs.Needed.{Counted, PagesOf, PageOf}
 
 -- ---- of one processor: those before page g are counted
@@ -131,3 +135,40 @@ all-few m n sum k h = omega (arith, h .few, h .upto, h .few-processors)
 pub records-to-come-are : (m : List ℕ) (a b : ℕ) → a ≡ getD m 3 0 → b ≡ dirtyPages (seen [] m) → a + b ≡ recordsToCome (seen [] m)
 unfolding recordsToCome seen stateIn recordsIn
 records-to-come-are m a b e f = rw (e, f)
+
+-- ---- without counting: at most every page of every processor is dirty
+
+-- a sum of n numbers, none above k, is at most n * k
+sum-at-most : (n k : ℕ) (f : ℕ → ℕ) → ((i : ℕ) → f i ≤ k) → total n f ≤ n * k
+unfolding total
+sum-at-most zero k f h = omega arith
+sum-at-most (suc n) k f h = omega (arith, sum-at-most n k f h, h n, suc-mul n k)
+
+-- the records to come are at most those that stand and one for each page of each processor
+pub few-records-to-come : (s : State) → recordsToCome s ≤ s .records .standing + s .counts .processors * s .counts .pages
+unfolding recordsToCome dirtyPages
+few-records-to-come s = omega (arith, sum-at-most (s .counts .processors) (s .counts .pages) _ of-one)
+  where
+    flag : (b : Bool) → cond b 1 0 ≤ 1
+    flag true = omega arith
+    flag false = omega arith
+
+    of-one : (k : ℕ) → total (s .counts .pages) (λ g. cond (dirtyAt (s .pages) (suc k) g) 1 0) ≤ s .counts .pages
+    of-one k = omega (arith, sum-at-most (s .counts .pages) 1 _ (λ g. flag (dirtyAt (s .pages) (suc k) g)))
+
+module _ (m : List ℕ) (a b : ℕ) (processors-are : a ≡ getD m 0 0) (pages-are : b ≡ getD m 1 0) where
+  few-in-all : Counted m → a * b ≤ 64
+  few-in-all h = rw (processors-are, pages-are) (mul-le-mul (h .processors) (h .pages))
+
+  -- the product of the counts is a small number
+  pub product-fits : Counted m → Fits w64 (a * b)
+  product-fits h = omega (arith, few-in-all h)
+
+  -- and so is its sum with a byte
+  pub sum-fits : (x : ℕ) → Counted m → x < 256 → Fits w64 (x + a * b)
+  sum-fits x h l = omega (arith, few-in-all h)
+
+  -- three marks decide about the room
+  pub marks-decide-room : (x : ℕ) → x ≡ getD m 3 0 → ltb (x + a * b) 128 ≡ roomIfAllDirty (seen [] m)
+  unfolding roomIfAllDirty seen stateIn recordsIn mainframe
+  marks-decide-room x e = rw (e, processors-are, pages-are)

@@ -15,8 +15,8 @@ use Rattle.memory.specs.Areas.{pagesIn, recordsIn, stateIn}
 use Rattle.refusals.specs.Parts.{stepOf, seen, fieldsFit, refusalOfKind, refusalOfFields, refusalOfKnown}
 use Rattle.refusals.specs.Needed.{Ready, Counted, Shown, ShownKind, KnownStep, FittingStep, KnownKind, MarkOf}
 use Rattle.refusals.proofs.Marked.{nobody-absent, count-decides, arrived-mark, holder-mark, on-page, dirty-mark, own-row-there, own-entry-is}
-use Rattle.refusals.proofs.Counting.{pages-begin, pages-next, pages-more-dirty, pages-more-clean, pages-all, pages-few, all-begin, all-next, all-more, all-counted, all-few, records-to-come-are}
-use Rattle.refusals.proofs.ByKind.{kind-known, kind-zero-unknown, kind-above-unknown, write-uses-value, value-decides, value-unfit, object-decides, word-decides, lock-decides, no-object, word-there, lock-there, page-of-word, clocks-of-write, counted-of-write, dirty-takes-stores, no-interval-left, no-room-left, write-has-space, lock-free, lock-held, holder-releases, not-the-holder, write-of-kind, lock-of-acquire, lock-of-release, write-decides, acquire-decides, release-decides, other-kinds-pass}
+use Rattle.refusals.proofs.Counting.{pages-begin, pages-next, pages-more-dirty, pages-more-clean, pages-all, pages-few, all-begin, all-next, all-more, all-counted, all-few, records-to-come-are, product-fits, sum-fits, marks-decide-room}
+use Rattle.refusals.proofs.ByKind.{kind-known, kind-zero-unknown, kind-above-unknown, write-uses-value, value-decides, value-unfit, object-decides, word-decides, lock-decides, no-object, word-there, lock-there, page-of-word, clocks-of-write, counted-of-write, dirty-takes-stores, no-interval-left, no-room-left, write-has-space, write-has-ample-space, lock-free, lock-held, holder-releases, not-the-holder, write-of-kind, lock-of-acquire, lock-of-release, write-decides, acquire-decides, release-decides, other-kinds-pass}
 
 -- ---- the table is the table of its parts: no row looks at words or slots
 
@@ -183,4 +183,4 @@ pub table-decides : (c w r m : List ℕ) (k p o v n : ℕ) → n ≡ refusalInOr
 unfolding seen
 table-decides c w r m k p o v n e = e ∙ table-in-parts c [] [] m k p o v ∙ sym (table-in-parts c w r m k p o v)
 
-pub ruleset refusal-laws = (nobody-absent, count-decides, arrived-mark, holder-mark, on-page, dirty-mark, own-row-there, own-entry-is, pages-begin, pages-next, pages-more-dirty, pages-more-clean, pages-all, pages-few, all-begin, all-next, all-more, all-counted, all-few, records-to-come-are, write-uses-value, value-decides, value-unfit, object-decides, word-decides, lock-decides, no-object, page-of-word, clocks-of-write, counted-of-write, dirty-takes-stores, no-interval-left, no-room-left, write-has-space, lock-free, lock-held, holder-releases, not-the-holder, write-of-kind, lock-of-acquire, lock-of-release, write-decides, acquire-decides, release-decides, other-kinds-pass, kind-of-step, mark-of-step, fields-refused, step-fits, arrived-refused, kind-decides, processor-refused, fields-decide, counted-of-kind, step-known, kind-zero-refused, kind-above-refused, known-decides, kind-shown, shown-when-ready, table-decides, needs)
+pub ruleset refusal-laws = (nobody-absent, count-decides, arrived-mark, holder-mark, on-page, dirty-mark, own-row-there, own-entry-is, pages-begin, pages-next, pages-more-dirty, pages-more-clean, pages-all, pages-few, all-begin, all-next, all-more, all-counted, all-few, records-to-come-are, product-fits, sum-fits, marks-decide-room, write-uses-value, value-decides, value-unfit, object-decides, word-decides, lock-decides, no-object, page-of-word, clocks-of-write, counted-of-write, dirty-takes-stores, no-interval-left, no-room-left, write-has-space, write-has-ample-space, lock-free, lock-held, holder-releases, not-the-holder, write-of-kind, lock-of-acquire, lock-of-release, write-decides, acquire-decides, release-decides, other-kinds-pass, kind-of-step, mark-of-step, fields-refused, step-fits, arrived-refused, kind-decides, processor-refused, fields-decide, counted-of-kind, step-known, kind-zero-refused, kind-above-refused, known-decides, kind-shown, shown-when-ready, table-decides, needs)

@@ -1,9 +1,9 @@
 -- A step from its four fields, and the parts of the table of refusals that the crate's functions answer, in the words of the rules. No row
 -- from 3 to 10 looks at words or at slots, so the parts are those of the state that clocks and marks alone show. Assumes nothing.
-use Prim.Native.Nat.{ℕ, _+_}
+use Prim.Native.Nat.{ℕ, _+_, _*_}
 use mathlib.Core.Bool.{Bool, cond, not, _||_}
 use mathlib.Core.List.{List, []}
-use lib.Dec.{eqb}
+use lib.Dec.{ltb, eqb}
 use Rattle.rules.specs.State.{mainframe, dirtyAt, State, hasArrived}
 use Rattle.rules.specs.InOrder.{present, dirtyPages}
 use Rattle.rules.specs.Tables.{total}
@@ -46,3 +46,7 @@ dirtyPagesOf s p = total (s .counts .pages) (λ g. cond (dirtyAt (s .pages) p g)
 -- the records that stand, and one for each dirty page
 unfoldable pub recordsToCome : State → ℕ
 recordsToCome s = s .records .standing + dirtyPages s
+
+-- whether one record more has room even if every page of every processor is dirty
+unfoldable pub roomIfAllDirty : State → Bool
+roomIfAllDirty s = ltb (s .records .standing + s .counts .processors * s .counts .pages) (mainframe .records)

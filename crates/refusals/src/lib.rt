@@ -9,7 +9,7 @@ ghost use Rattle.rules.specs.InOrder.{present, dirtyPages};
 ghost use Rattle.rules.specs.Refusals.{Write, Acquire, Release, lateRefusal, refusalInOrder};
 ghost use Rattle.memory.specs.Areas.{stateIn};
 ghost use Rattle.memory.specs.Needed.{ClocksOf};
-ghost use Rattle.refusals.specs.Parts.{stepOf, seen, fieldsFit, valueFits, refusalOfKind, refusalOfFields, refusalOfKnown, dirtyPagesOf, recordsToCome};
+ghost use Rattle.refusals.specs.Parts.{stepOf, seen, fieldsFit, valueFits, refusalOfKind, refusalOfFields, refusalOfKnown, dirtyPagesOf, recordsToCome, roomIfAllDirty};
 ghost use Rattle.refusals.specs.Needed.{Ready, Shown, ShownKind, Counted, KnownStep, FittingStep, KnownKind, MarkOf, LockThere, PagesOf, PageOf, WriteOf};
 use clock::PageId;
 use clock::ProcessorId;
@@ -220,6 +220,9 @@ fn refusal_of_write(processor: ProcessorId, word: usize, clocks: &[u8], marks: &
     if own_entry(processor, clocks) == 63 {
         return 9;
     }
+    if room_if_all_dirty(marks) {
+        return 0;
+    }
     if records_to_come(marks) == 128 {
         return 10;
     }
@@ -233,6 +236,14 @@ fn own_entry(processor: ProcessorId, clocks: &[u8]) -> u8
 {
     let clock = clock_at(clocks, processor.0);
     clock.entry(processor)
+}
+
+// Whether one record more has room whatever is dirty. Three marks say so, and mostly it is so: then no dirty page is counted.
+fn room_if_all_dirty(marks: &[u8]) -> bool
+    requires { ⌜ Counted (now marks) ⌝ }
+    ensures { λ r. ⌜ r ≡ roomIfAllDirty (seen [] (now (marks .entry))) ⌝ }
+{
+    mark(marks, 3) + mark(marks, 0) * mark(marks, 1) < 128
 }
 
 // The records that stand and those that closing may make: one for each dirty page.
