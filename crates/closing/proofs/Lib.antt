@@ -5,3 +5,4 @@ pub mod Recording
 pub mod AllPages
 pub mod Ticks
 pub mod Closing
+pub mod NothingDirty

@@ -6,7 +6,8 @@ use mathlib.Core.Bool.{Bool, cond}
 use mathlib.Core.List.{List}
 use lib.ListN.{length}
 use Rattle.diff.specs.Format.{written}
-use Rattle.rules.specs.State.{mainframe, Clocks, Record, Records, appended, State, own}
+use Rattle.rules.specs.State.{mainframe, Clocks, dirtyAt, Record, Records, appended, State, own}
+use Rattle.rules.specs.Tables.{any}
 use Rattle.rules.specs.Close.{changed, anyChanged, newRecord, recorded, ticked}
 use Rattle.memory.specs.Layout.{rowOf}
 use Rattle.memory.specs.Areas.{copyRow, twinRow, stateIn}
@@ -62,6 +63,10 @@ pub record PageChanged (w m : List ℕ) (p g : ℕ) (b : Bool) : Type 0 where
 -- b says whether any page of p changed
 pub record AnyChanged (s : State) (p : ℕ) (b : Bool) : Type 0 where
   pub is : b ≡ anyChanged s p
+
+-- b says whether any page of p is dirty, where m is the area of the marks
+pub record AnyDirty (m : List ℕ) (p : ℕ) (b : Bool) : Type 0 where
+  pub is : (c w r : List ℕ) → b ≡ any (mainframe .pages) (dirtyAt (stateIn mainframe c w r m .pages) p)
 
 -- from the area c of the clocks to c′ the clocks became those of the interval that p ends
 pub record Ticked (c c′ : List ℕ) (p : ℕ) : Type 0 where

@@ -13,7 +13,7 @@ ghost use Rattle.rules.specs.Close.{differ, raised, closed};
 ghost use Rattle.memory.specs.Layout.{rowOf};
 ghost use Rattle.memory.specs.Areas.{dirtyPlace, stateIn};
 ghost use Rattle.memory.specs.Needed.{RowThere, ClocksOf};
-ghost use Rattle.closing.specs.Parts.{recordOf, pageRecord, oneMore, pageRecorded, allRecorded, Holds, OwnEntry, PageChanged, AnyChanged, Ticked};
+ghost use Rattle.closing.specs.Parts.{recordOf, pageRecord, oneMore, pageRecorded, allRecorded, Holds, OwnEntry, PageChanged, AnyChanged, AnyDirty, Ticked};
 ghost use Rattle.closing.specs.Needed.{Closable, Recordable, Appendable, PageThere, SlotThere, RecordFits, SlotFits, DiffFits, Raisable, Tickable, MarksOf};
 use clock::Clock;
 use clock::IntervalId;
@@ -29,7 +29,46 @@ use memory::put_clock;
 use memory::twin_row;
 
 // Closes the interval of a processor: for each page that changed one record, if there is one the clock of the interval, and clean pages.
+// A processor without a dirty page has nothing to close.
 pub fn close(p: ProcessorId, clocks: &mut [u8], words: &[u32], records: &mut [u8], marks: &mut [u8])
+    requires { ⌜ Closable (now clocks) (now words) (now records) (now marks) (p .0) ⌝ }
+    ensures { λ _. ⌜ Holds (now (clocks .exit)) (now (words .entry)) (now (records .exit)) (now (marks .exit)) (closed (stateIn mainframe (now (clocks .entry)) (now (words .entry)) (now (records .entry)) (now (marks .entry))) (p .0)) ⌝ }
+{
+    if any_dirty(p, marks) {
+        close_dirty(p, clocks, words, records, marks);
+    }
+}
+
+// Whether any page of a processor is dirty. Every mark is looked at: a loop that stops nowhere becomes one comparison of eight bytes.
+fn any_dirty(p: ProcessorId, marks: &[u8]) -> bool
+    requires { ⌜ MarksOf (now marks) (p .0) ⌝ }
+    ensures { λ r. ⌜ AnyDirty (now (marks .entry)) (p .0) r ⌝ }
+{
+    let from = dirty_place(p, PageId(0));
+    let mut found = false;
+    let mut i: usize = 0;
+    while i < 8 {
+        found = also(found, marks[from + i]);
+        i = i + 1;
+    }
+    found
+}
+
+// Whether a mark before is set, or this one is.
+fn also(before: bool, mark: u8) -> bool
+    ensures { λ r. ⌜ r ≡ (before || not (eqb mark 0)) ⌝ }
+{
+    if mark == 0 { before } else { true }
+}
+
+// The same page by page. It is right without a dirty page too, only slower.
+fn close_dirty(
+    p: ProcessorId,
+    clocks: &mut [u8],
+    words: &[u32],
+    records: &mut [u8],
+    marks: &mut [u8],
+)
     requires { ⌜ Closable (now clocks) (now words) (now records) (now marks) (p .0) ⌝ }
     ensures { λ _. ⌜ Holds (now (clocks .exit)) (now (words .entry)) (now (records .exit)) (now (marks .exit)) (closed (stateIn mainframe (now (clocks .entry)) (now (words .entry)) (now (records .entry)) (now (marks .entry))) (p .0)) ⌝ }
 {
