@@ -1,57 +1,12 @@
-//! The functions of `target/staticlib/liblughtsavi.a` as `include/lughtsavi.h`
-//! declares them, and safe functions around them. Shared by the benchmark of
-//! single operations and by the fuzz driver; nothing else declares them.
+//! Safe functions around those of `target/staticlib/liblughtsavi.a` that
+//! take a step. Shared by the benchmark of single operations and by the fuzz
+//! driver.
 
-/// The lengths of the four areas, in elements.
-pub const CLOCKS: usize = 4744;
-pub const WORDS: usize = 4096;
-pub const RECORDS: usize = 17280;
-pub const MARKS: usize = 93;
+#[path = "../tests/library/declarations.rs"]
+mod declarations;
 
-mod c {
-    unsafe extern "C" {
-        pub fn lughtsavi_open(
-            opening: *const u8,
-            opening_len: usize,
-            clocks: *mut u8,
-            clocks_len: usize,
-            words: *mut u32,
-            words_len: usize,
-            records: *mut u8,
-            records_len: usize,
-            marks: *mut u8,
-            marks_len: usize,
-        ) -> u8;
-
-        pub fn lughtsavi_in_order(
-            clocks: *const u8,
-            clocks_len: usize,
-            words: *const u32,
-            words_len: usize,
-            records: *const u8,
-            records_len: usize,
-            marks: *const u8,
-            marks_len: usize,
-        ) -> bool;
-
-        pub fn lughtsavi_step(
-            kind: u32,
-            processor: u32,
-            object: u32,
-            value: u32,
-            answer: *mut u32,
-            answer_len: usize,
-            clocks: *mut u8,
-            clocks_len: usize,
-            words: *mut u32,
-            words_len: usize,
-            records: *mut u8,
-            records_len: usize,
-            marks: *mut u8,
-            marks_len: usize,
-        ) -> u8;
-    }
-}
+use declarations as c;
+pub use declarations::{CLOCKS, MARKS, RECORDS, WORDS};
 
 /// The four areas lent to a call that may write them.
 pub struct Lent<'a> {

@@ -1,80 +1,10 @@
-//! The functions of the static library as include/lughtsavi.h declares them, each called with slices.
+//! The functions of the static library called with slices.
 
-extern "C" {
-    fn lughtsavi_open(
-        opening: *const u8,
-        opening_len: usize,
-        clocks: *mut u8,
-        clocks_len: usize,
-        words: *mut u32,
-        words_len: usize,
-        records: *mut u8,
-        records_len: usize,
-        marks: *mut u8,
-        marks_len: usize,
-    ) -> u8;
-    fn lughtsavi_in_order(
-        clocks: *const u8,
-        clocks_len: usize,
-        words: *const u32,
-        words_len: usize,
-        records: *const u8,
-        records_len: usize,
-        marks: *const u8,
-        marks_len: usize,
-    ) -> bool;
-    fn lughtsavi_step(
-        kind: u32,
-        processor: u32,
-        object: u32,
-        value: u32,
-        answer: *mut u32,
-        answer_len: usize,
-        clocks: *mut u8,
-        clocks_len: usize,
-        words: *mut u32,
-        words_len: usize,
-        records: *mut u8,
-        records_len: usize,
-        marks: *mut u8,
-        marks_len: usize,
-    ) -> u8;
-    fn lughtsavi_run(
-        bytes: *const u8,
-        bytes_len: usize,
-        answers: *mut u32,
-        answers_len: usize,
-        clocks: *mut u8,
-        clocks_len: usize,
-        words: *mut u32,
-        words_len: usize,
-        records: *mut u8,
-        records_len: usize,
-        marks: *mut u8,
-        marks_len: usize,
-    ) -> usize;
-    fn lughtsavi_diff_write(
-        old_page: *const u32,
-        old_page_len: usize,
-        new_page: *const u32,
-        new_page_len: usize,
-        out: *mut u8,
-        out_len: usize,
-    ) -> u32;
-    fn lughtsavi_diff_check(bytes: *const u8, bytes_len: usize) -> u8;
-    fn lughtsavi_diff_apply(
-        bytes: *const u8,
-        bytes_len: usize,
-        page: *mut u32,
-        page_len: usize,
-    ) -> u8;
-}
+#[path = "declarations.rs"]
+mod declarations;
 
-/// The lengths of the areas, in elements.
-pub const CLOCKS: usize = 4744;
-pub const WORDS: usize = 4096;
-pub const RECORDS: usize = 17280;
-pub const MARKS: usize = 93;
+use declarations::*;
+pub use declarations::{CLOCKS, MARKS, RECORDS, WORDS};
 
 /// The four areas.
 #[derive(Clone, PartialEq)]
