@@ -43,6 +43,7 @@ module _ (p : Progress) (chunk out : List ℕ) (a : Areas) (b : Bool) (e : Feeda
         answer = sym (rw no refl);
         lines = sym (rw no refl);
         areas = sym (rw no refl);
+        within = omega arith;
         cut = λ a₀ before f r. absurd (false≢true f);
         added = λ a₀ before f r. absurd (false≢true f);
       }
@@ -61,6 +62,7 @@ module _ (p : Progress) (chunk out : List ℕ) (a : Areas) (b : Bool) (e : Feeda
           answer = d .answer ∙ sym (rw fed-there refl);
           lines = stored-front out out′ (bytesTaken (standing p a) chunk .lines) (d .kept .within) (d .lines) (d .kept .rest) ∙ sym (rw fed-there refl);
           areas = d .areas ∙ sym (rw fed-there refl);
+          within = omega (arith, written, d .kept .within, d .kept .long);
           cut = λ a₀ before u r. rw (progress, d .areas) (cut-reached a₀ a before chunk p r);
           added = λ a₀ before u r.
               cut-lines a₀ a before chunk p r

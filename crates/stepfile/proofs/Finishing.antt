@@ -1,5 +1,5 @@
 -- What `finish` promises, from what its parts have done. One law for each way of the code, and `finishing-laws`. Assumes nothing.
-use Prim.Native.Nat.{_<_, ℕ}
+use Prim.Native.Nat.{_<_, _≤_, ℕ}
 use native.Mathlib.Omega.{arith}
 use mathlib.Core.Path.{_∙_, _≡_, ap, refl, sym}
 use mathlib.Core.Bool.{Bool, _&&_, _||_, cond, false, false≢true, not, true}
@@ -66,12 +66,13 @@ module _ (p : Progress) where
 
 -- the line stands at the start of the bytes lent, and behind it all is as it was
 finished : (p : Progress) (out line out′ : List ℕ) (end : ℕ) → feedable p 0 (length out) ≡ true → finishLine p ≡ line → end ≡ length line
-    → out′ ≡ sets out 0 line → take end out′ ≡ line → FinishedAs p out (record { progress = p; fed = true; written = end }) out′
+    → out′ ≡ sets out 0 line → take end out′ ≡ line → end ≤ length out′ → FinishedAs p out (record { progress = p; fed = true; written = end }) out′
 unfolding finishAnswer finishLines
-finished p out line out′ end there e d s l =
+finished p out line out′ end there e d s l w =
     record {
       answer = rw (d, there, e);
       lines = s ∙ sym (rw (there, e));
+      within = w;
       whole = λ a₀ a file sizes f r. whole-lines a₀ a file p sizes r ∙ ap (λ (xs : List ℕ). after a₀ file .lines ++ xs) (e ∙ sym l);
     }
 
@@ -81,7 +82,7 @@ module _ (p : Progress) (out : List ℕ) (b : Bool) (e : FeedableIs b p 0 (lengt
   unfolding finishAnswer finishLines notTaken
   not-finished z =
       let no : feedable p 0 (length out) ≡ false = sym (e .is) ∙ not-true b z in
-      record { answer = sym (rw no refl); lines = sym (rw no refl); whole = λ a₀ a file sizes f r. absurd (false≢true f) }
+      record { answer = sym (rw no refl); lines = sym (rw no refl); within = omega arith; whole = λ a₀ a file sizes f r. absurd (false≢true f) }
 
   module _ (z : not b ≡ false) where
     there : feedable p 0 (length out) ≡ true
@@ -93,17 +94,17 @@ module _ (p : Progress) (out : List ℕ) (b : Bool) (e : FeedableIs b p 0 (lengt
     module _ (short : Bool) (x : EndsShort short p) (long : length (p .bytes) ≡ 8) where
       -- no line
       pub finished-none : not short ≡ true → FinishedAs p out (record { progress = p; fed = true; written = 0 }) out
-      finished-none n = finished p out [] out 0 there (finish-none p long (few-held p 0 (length out) there) short x n) refl refl refl
+      finished-none n = finished p out [] out 0 there (finish-none p long (few-held p 0 (length out) there) short x n) refl refl refl (omega arith)
 
       -- the line of 15
       pub finished-short : (out′ : List ℕ) (end : ℕ) → not short ≡ false → LinePut out 0 (lineBytes (p .number) 15 0 0) out′ end
           → FinishedAs p out (record { progress = p; fed = true; written = end }) out′
       finished-short out′ end n d =
-          let at : end ≡ length (lineBytes (p .number) 15 0 0) =
-          sym (length-take-le end out′ (omega (arith, d .kept .within, d .kept .long))) ∙ ap length (d .lines) in
+          let within : end ≤ length out′ = omega (arith, d .kept .within, d .kept .long) in
+          let at : end ≡ length (lineBytes (p .number) 15 0 0) = sym (length-take-le end out′ within) ∙ ap length (d .lines) in
           finished p out (lineBytes (p .number) 15 0 0) out′ end there (finish-one p long (few-held p 0 (length out) there) short x n) at
           (stored-front out out′ (lineBytes (p .number) 15 0 0) (omega (arith, at, d .kept .within)) (ap (λ (j : ℕ). take j out′) (sym at) ∙ d .lines)
           (ap (λ (j : ℕ). drop j out′) (sym at) ∙ d .kept .rest ∙ ap (λ (j : ℕ). drop j out) at))
-          (d .lines)
+          (d .lines) within
 
 pub ruleset finishing-laws = (stopped-before, no-opening, within-record, not-finished, room-for-last, finished-none, finished-short, needs)

@@ -1,6 +1,6 @@
 -- What `feed` and `finish` answer and leave in lent memory, and that a file fed in parts, cut anywhere, gives the lines of the whole file.
 -- Assumes nothing.
-use Prim.Native.Nat.{ℕ, _+_, _-_, _/_}
+use Prim.Native.Nat.{ℕ, _+_, _-_, _/_, _≤_}
 use mathlib.Core.Path.{_≡_}
 use mathlib.Core.Bool.{Bool, true, false, cond, _&&_}
 use mathlib.Core.List.{List, [], _∷_, _++_}
@@ -67,6 +67,8 @@ pub record FedAs (p : Progress) (chunk out : List ℕ) (a : Areas) (t : Taken) (
   pub answer : t ≡ feedAnswer p chunk (length out) a
   pub lines : out′ ≡ feedLines p chunk out a
   pub areas : a′ ≡ feedAreas p chunk (length out) a
+  -- the bytes written lie within those lent
+  pub within : t .written ≤ length out′
   -- a file cut anywhere: after its bytes `before` the chunk leads to what `before` and the chunk lead to together ..
   pub cut : (a₀ : Areas) (before : List ℕ) → t .fed ≡ true → Reached a₀ before p a → Reached a₀ (before ++ chunk) (t .progress) a′
   -- .. and the bytes written are the lines that the chunk adds
@@ -89,6 +91,8 @@ finishLines p out = cond (feedable p 0 (length out)) (sets out 0 (finishLine p))
 pub record FinishedAs (p : Progress) (out : List ℕ) (t : Taken) (out′ : List ℕ) : Type 0 where
   pub answer : t ≡ finishAnswer p (length out)
   pub lines : out′ ≡ finishLines p out
+  -- the bytes written lie within those lent
+  pub within : t .written ≤ length out′
   -- the lines written while the file was fed and this last one are the lines of the whole file
   pub whole : (a₀ a : Areas) (file : List ℕ) → rightSizes a₀ ≡ true → t .fed ≡ true → Reached a₀ file p a
       → fileLines file ≡ after a₀ file .lines ++ take (t .written) out′
