@@ -1,4 +1,6 @@
 // The run program: a step file on standard input, its lines on standard output.
+ghost use Prim.Native.Nat.{_≤_};
+ghost use lib.ListN.{length};
 use libc::STDIN_FILENO;
 use libc::STDOUT_FILENO;
 use stepfile::Progress;
@@ -87,9 +89,8 @@ fn end(progress: Progress, lines: &mut [u8]) {
 }
 
 // Writes the first n bytes of the lines, and says whether they were written.
-fn write_first(lines: &[u8], n: usize) -> bool {
-    if lines.len() < n {
-        return false;
-    }
+fn write_first(lines: &[u8], n: usize) -> bool
+    requires { ⌜ n ≤ length (now lines) ⌝ }
+{
     io::write_all(STDOUT_FILENO, &lines[..n])
 }

@@ -7,4 +7,4 @@ use Rattle.run.proofs.write_first.Tie as tie
 pub write-first-spec : {M : Type 1} → statement M
 write-first-spec =
     tie.close
-    (tie.spec (λ c. search needs) (λ c. search (length-take-le, needs)) (λ c κs. search needs) (λ c. search needs))
+    (tie.spec (λ c. search (length-take-le, needs)) (λ c κs. search needs) (λ c. search needs))
