@@ -3,12 +3,20 @@
 use Prim.Native.Nat.{_+_, _-_, _<_, _≤_, ℕ}
 use native.Mathlib.Omega.{arith}
 use mathlib.Core.Path.{_∙_, _≡_, ap, refl, sym}
-use mathlib.Core.Bool.{Bool, false, true, true≢false}
+use mathlib.Core.Bool.{Bool, false, not, true, true≢false}
 use mathlib.Core.List.{List, [], _++_, append-nil}
 use lib.ListN.{drop, drop-of-length-le, length, length-drop, replicate, take, take-append-drop}
 use lib.Seq.{drop-drop, length-take-le}
+use borrow.Author.Tests.{not-false}
 use borrow.Author.Needs.{needs}
+use Rattle.rules.specs.State.{mainframe}
+use Rattle.memory.specs.Areas.{stateIn}
+use Rattle.engine.specs.Outcomes.{SteppedAs}
 use Rattle.engine.specs.Promises.{Areas, areas}
+use Rattle.engine.specs.declared.Outcome.{Outcome}
+use Rattle.running.specs.Needed.{StepThere}
+use Rattle.running.specs.Records.{stepFrom}
+use Rattle.lines.specs.Needed.{Room}
 use Rattle.stepfile.specs.Feeding.{Feed, bytesTaken, heldOn, recordTaken}
 use Rattle.stepfile.specs.Promises.{progressOf}
 use Rattle.stepfile.specs.declared.Progress.{Progress}
@@ -16,8 +24,9 @@ use Rattle.stepfile.specs.declared.Taken.{Taken}
 use Rattle.stepfile.specs.declared.Stand.{Stand}
 use Rattle.stepfile.specs.declared.Held.{Held}
 use Rattle.stepfile.specs.declared.Passed.{Passed}
-use Rattle.stepfile.specs.Needed.{ChunkFed, Endable, Ended, HeldAll, Holdable, Holding, Kept, Passable, Passes, Takeable, Took, standsAt, takenAs}
+use Rattle.stepfile.specs.Needed.{ChunkFed, Endable, Ended, HeldAll, Holdable, Holding, Kept, LinePut, Passable, Passes, Passing, Runnable, Steppable, Takeable, Took, outcomeLine, standsAt, takenAs}
 use Rattle.stepfile.proofs.Cutting.{eight-taken, taken-held, taken-stopped}
+use Rattle.stepfile.proofs.Taking.{next-is-step, step-in-order, step-taken, step-there}
 
 -- ---- what is written stays
 
@@ -43,16 +52,6 @@ kept-again out at out₁ at₁ out₂ at₂ h k =
         ∙ drop-drop (at₂ - at₁) at₁ out ∙ ap (λ (n : ℕ). drop n out) e
 
 -- ---- the loop over the records
-
--- the records up to a place are taken
-pub record Passing (s₀ : Stand) (chunk : List ℕ) (from : ℕ) (out₀ c₀ w₀ r₀ m₀ : List ℕ) (s : Stand) (i : ℕ) (out c w r m : List ℕ) : Type 0 where
-  pub able : Passable s chunk i out c w r m
-  pub is : bytesTaken (standsAt s out (areas c w r m)) (drop i chunk) ≡ bytesTaken (standsAt s₀ out₀ (areas c₀ w₀ r₀ m₀)) (drop from chunk)
-  pub kept : Kept out₀ (s₀ .at) out (s .at)
-  pub clocks : length c ≡ length c₀
-  pub words : length w ≡ length w₀
-  pub records : length r ≡ length r₀
-  pub marks : length m ≡ length m₀
 
 pub passing-begins : (s : Stand) (chunk : List ℕ) (from : ℕ) (out c w r m : List ℕ) → Passable s chunk from out c w r m
     → Passing s chunk from out c w r m s from out c w r m
@@ -126,6 +125,84 @@ module _ (s₀ : Stand) (chunk : List ℕ) (from : ℕ) (out₀ c₀ w₀ r₀ m
   pub passing-ends : length chunk - i < 8 → Passes s₀ chunk from out₀ (areas c₀ w₀ r₀ m₀) (record { stand = s; next = i }) out (areas c w r m)
   passing-ends l = record { is = h .is; within = h .able .within; few-left = λ e. omega (arith, l); kept = h .kept }
 
+-- ---- the loop over a run of steps
+
+-- the steps up to a place are taken, from this number on to that
+pub record Running (number₀ at₀ : ℕ) (chunk : List ℕ) (from : ℕ) (out₀ c₀ w₀ r₀ m₀ : List ℕ) (number at i : ℕ) (out c w r m : List ℕ) : Type 0 where
+  pub passing :
+      Passing (record { number = number₀; stopped = false; ready = true; at = at₀ }) chunk from out₀ c₀ w₀ r₀ m₀ (record { number = number; stopped = false; ready = true; at = at }) i out c w r m
+  pub opened : 1 ≤ number
+
+module _ (s : Stand) (chunk : List ℕ) (from : ℕ) (out c w r m : List ℕ) where
+  pub runnable : Passable s chunk from out c w r m → s .stopped ≡ false → not (s .ready) ≡ false → (s .number ≡ 0 → ⊥) → Runnable s chunk from out c w r m
+  runnable h z y n = record { passable = h; going = z; ready = not-false (s .ready) y; opened = omega (arith, n) }
+
+  module _ (h : Runnable s chunk from out c w r m) where
+    pub running-begins : Running (s .number) (s .at) chunk from out c w r m (s .number) (s .at) from out c w r m
+    running-begins =
+        record {
+          passing =
+              passing-begins (record { number = s .number; stopped = false; ready = true; at = s .at }) chunk from out c w r m
+              (record {
+                few = h .passable .few;
+                within = h .passable .within;
+                room = h .passable .room;
+                order = rw (← h .ready) (h .passable .order);
+              });
+          opened = h .opened;
+        }
+
+    pub running-ends : (number at i : ℕ) (out′ c′ w′ r′ m′ : List ℕ) → Running (s .number) (s .at) chunk from out c w r m number at i out′ c′ w′ r′ m′
+        → Passing s chunk from out c w r m (record { number = number; stopped = false; ready = true; at = at }) i out′ c′ w′ r′ m′
+    unfolding standsAt
+    running-ends number at i out′ c′ w′ r′ m′ k =
+        record {
+          able = k .passing .able;
+          is =
+              k .passing .is
+              ∙ ap (λ (b : Bool). bytesTaken (record { number = s .number; held = []; stopped = b; areas = areas c w r m; lines = take (s .at) out }) (drop from chunk))
+              (sym (h .going));
+          kept = k .passing .kept;
+          clocks = k .passing .clocks;
+          words = k .passing .words;
+          records = k .passing .records;
+          marks = k .passing .marks;
+        }
+
+module _ (number₀ at₀ : ℕ) (chunk : List ℕ) (from : ℕ) (out₀ c₀ w₀ r₀ m₀ : List ℕ) (number at i : ℕ) (out c w r m : List ℕ)
+    (h : Running number₀ at₀ chunk from out₀ c₀ w₀ r₀ m₀ number at i out c w r m) where
+  pub running-passes : Passing (record { number = number₀; stopped = false; ready = true; at = at₀ }) chunk from out₀ c₀ w₀ r₀ m₀ (record { number = number; stopped = false; ready = true; at = at }) i out c w r m
+  running-passes = h .passing
+
+  module _ (l : 8 ≤ length chunk - i) where
+    next-steppable : Steppable true chunk i c w r m
+    next-steppable = record { there = omega (arith, l); order = h .passing .able .order }
+
+    pub next-there : StepThere chunk i c w r m
+    next-there = step-there true chunk i c w r m next-steppable refl
+
+    pub room-for-next : Room out at 44
+    room-for-next = record { room = omega (arith, l, h .passing .able .room) }
+
+    -- a step more
+    pub running-more : (o : Outcome) (c′ w′ r′ m′ out′ : List ℕ) (end : ℕ) → number ≤ 1000000
+        → SteppedAs (stateIn mainframe c w r m) (stepFrom (drop i chunk)) o c′ w′ r′ m′ → LinePut out at (outcomeLine number o) out′ end
+        → length c′ ≡ length c → length w′ ≡ length w → length r′ ≡ length r → length m′ ≡ length m
+        → Running number₀ at₀ chunk from out₀ c₀ w₀ r₀ m₀ (number + 1) end (i + 8) out′ c′ w′ r′ m′
+    running-more o c′ w′ r′ m′ out′ end q d k ec ew er em =
+        let s₀ : Stand = record { number = number₀; stopped = false; ready = true; at = at₀ } in
+        let s : Stand = record { number = number; stopped = false; ready = true; at = at } in
+        let s′ : Stand = record { number = number + 1; stopped = false; ready = true; at = end } in
+        let able : Takeable s chunk i out c w r m = record-takeable s₀ chunk from out₀ c₀ w₀ r₀ m₀ s i out c w r m (h .passing) l in
+        let answered = step-in-order true chunk i c w r m next-steppable refl o c′ w′ r′ m′ d in
+        let taken = step-taken s chunk i out c w r m o c′ w′ r′ m′ out′ end (record { takeable = able; fewer = q }) answered k in
+        record {
+          passing =
+              passing-more s₀ chunk from out₀ c₀ w₀ r₀ m₀ s i out c w r m (h .passing) s′ out′ c′ w′ r′ m′ l refl
+              (next-is-step s chunk i out c w r m s′ out′ c′ w′ r′ m′ (λ z. omega (arith, h .opened, z)) q taken) ec ew er em;
+          opened = omega arith;
+        }
+
 -- ---- the bytes behind the last record
 
 -- the progress with bytes held
@@ -194,11 +271,11 @@ pub endable : (s : Stand) (chunk : List ℕ) (from : ℕ) (out : List ℕ) (a : 
     → Endable (q .stand) chunk (q .next)
 endable s chunk from out a q out′ a′ h = record { within = h .within; few-left = h .few-left }
 
--- the rest of a chunk is taken
-pub rest-taken : (s : Stand) (chunk : List ℕ) (from : ℕ) (out : List ℕ) (a : Areas) (q : Passed) (out′ : List ℕ) (a′ : Areas) (t : Taken)
+-- the records of a chunk are taken, and the bytes behind them are held
+pub others-taken : (s : Stand) (chunk : List ℕ) (from : ℕ) (out : List ℕ) (a : Areas) (q : Passed) (out′ : List ℕ) (a′ : Areas) (t : Taken)
     → Passes s chunk from out a q out′ a′ → Ended (q .stand) chunk (q .next) t
     → ChunkFed (bytesTaken (standsAt s out a) (drop from chunk)) (s .at) out t out′ a′
-rest-taken s chunk from out a q out′ a′ t h d =
+others-taken s chunk from out a q out′ a′ t h d =
     let end = endable s chunk from out a q out′ a′ h in
     let at : q .stand .at ≤ length out′ = omega (arith, h .kept .within, h .kept .long) in
     let lines = rest-lines (q .stand) chunk (q .next) end out′ a′ in
@@ -212,4 +289,18 @@ rest-taken s chunk from out a q out′ a′ t h d =
       kept = rw written (h .kept);
     })
 
-pub ruleset passing-laws = (passing-begins, lines-sized, clocks-sized, words-sized, records-sized, marks-sized, place-within, record-takeable, passing-more, passing-stopped, passing-ends, ended-stopped, none-held, ended-held, endable, rest-taken, needs)
+-- the rest of a chunk is taken: a run of steps, then the other records
+pub rest-taken : (s₀ : Stand) (chunk : List ℕ) (from : ℕ) (out₀ c₀ w₀ r₀ m₀ : List ℕ) (s : Stand) (i : ℕ) (out c w r m : List ℕ)
+    → Passing s₀ chunk from out₀ c₀ w₀ r₀ m₀ s i out c w r m
+    → (t : Taken) (out′ : List ℕ) (a′ : Areas) → ChunkFed (bytesTaken (standsAt s out (areas c w r m)) (drop i chunk)) (s .at) out t out′ a′
+    → ChunkFed (bytesTaken (standsAt s₀ out₀ (areas c₀ w₀ r₀ m₀)) (drop from chunk)) (s₀ .at) out₀ t out′ a′
+rest-taken s₀ chunk from out₀ c₀ w₀ r₀ m₀ s i out c w r m h t out′ a′ d =
+    rw (← h .is)
+    (record {
+      answer = d .answer;
+      areas = d .areas;
+      lines = d .lines;
+      kept = kept-again out₀ (s₀ .at) out (s .at) out′ _ (h .kept) (d .kept);
+    })
+
+pub ruleset passing-laws = (passing-begins, lines-sized, clocks-sized, words-sized, records-sized, marks-sized, place-within, record-takeable, passing-more, passing-stopped, passing-ends, runnable, running-begins, running-ends, running-passes, next-there, room-for-next, running-more, ended-stopped, none-held, ended-held, endable, others-taken, rest-taken, needs)

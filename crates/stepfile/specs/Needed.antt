@@ -111,6 +111,23 @@ pub record Passable (s : Stand) (chunk : List ℕ) (from : ℕ) (out c w r m : L
   pub room : s .at + 44 * ((length chunk - from) / 8) ≤ length out
   pub order : OrderIs (s .ready) c w r m
 
+-- the records up to a place are taken: the bytes behind them lead from there to what all lead to, and the lent memory keeps its sizes
+pub record Passing (s₀ : Stand) (chunk : List ℕ) (from : ℕ) (out₀ c₀ w₀ r₀ m₀ : List ℕ) (s : Stand) (i : ℕ) (out c w r m : List ℕ) : Type 0 where
+  pub able : Passable s chunk i out c w r m
+  pub is : bytesTaken (standsAt s out (areas c w r m)) (drop i chunk) ≡ bytesTaken (standsAt s₀ out₀ (areas c₀ w₀ r₀ m₀)) (drop from chunk)
+  pub kept : Kept out₀ (s₀ .at) out (s .at)
+  pub clocks : length c ≡ length c₀
+  pub words : length w ≡ length w₀
+  pub records : length r ≡ length r₀
+  pub marks : length m ≡ length m₀
+
+-- the records from a place on are steps, as long as their numbers go: the opening is taken, the run has not stopped, and the areas are in order
+pub record Runnable (s : Stand) (chunk : List ℕ) (from : ℕ) (out c w r m : List ℕ) : Type 0 where
+  pub passable : Passable s chunk from out c w r m
+  pub going : s .stopped ≡ false
+  pub ready : s .ready ≡ true
+  pub opened : 1 ≤ s .number
+
 -- the records from a place on are taken: the bytes behind them lead from there to what all lead to
 pub record Passes (s : Stand) (chunk : List ℕ) (from : ℕ) (out : List ℕ) (a : Areas) (q : Passed) (out′ : List ℕ) (a′ : Areas) : Type 0 where
   pub is : bytesTaken (standsAt (q .stand) out′ a′) (drop (q .next) chunk) ≡ bytesTaken (standsAt s out a) (drop from chunk)

@@ -10,7 +10,7 @@ ghost use Rattle.lines.specs.Lines.{lineBytes};
 ghost use Rattle.lines.specs.Needed.{Room};
 ghost use Rattle.stepfile.specs.Feeding.{bytesTaken, openingTaken, stepTaken, recordTaken};
 ghost use Rattle.stepfile.specs.Promises.{standing, Started, FedAs, FinishedAs};
-ghost use Rattle.stepfile.specs.Needed.{ZerosBehind, FeedableIs, EndsShort, LinePut, outcomeLine, standsAt, Takeable, StepTakeable, StoppedAt, Steppable, Took, OpenedAs, Answered, firstStand, Passable, Passes, Holdable, HeldAll, Feedable, Completes, Endable, Ended, ChunkFed};
+ghost use Rattle.stepfile.specs.Needed.{ZerosBehind, FeedableIs, EndsShort, LinePut, outcomeLine, standsAt, Takeable, StepTakeable, StoppedAt, Steppable, Took, OpenedAs, Answered, firstStand, Passable, Passing, Runnable, Passes, Holdable, HeldAll, Feedable, Completes, Endable, Ended, ChunkFed};
 use engine::Outcome;
 
 // How far a file has been fed.
@@ -320,8 +320,110 @@ fn take_begun(
     take_record(stand, &bytes, 0, lines, clocks, words, records, marks)
 }
 
-// Takes the records that lie whole in the chunk from a place on, and holds the bytes behind them.
+// Takes the records that lie whole in the chunk from a place on, first those that are a run of steps, and holds the bytes behind them.
 fn take_rest(
+    stand: Stand,
+    chunk: &[u8],
+    from: usize,
+    lines: &mut [u8],
+    clocks: &mut [u8],
+    words: &mut [u32],
+    records: &mut [u8],
+    marks: &mut [u8],
+) -> Taken
+    requires { ⌜ Passable stand (now chunk) from (now lines) (now clocks) (now words) (now records) (now marks) ⌝ }
+    ensures { λ r. ⌜ ChunkFed (bytesTaken (standsAt stand (now (lines .entry)) (areas (now (clocks .entry)) (now (words .entry)) (now (records .entry)) (now (marks .entry)))) (drop from (now (chunk .entry)))) (stand .at) (now (lines .entry)) r (now (lines .exit)) (areas (now (clocks .exit)) (now (words .exit)) (now (records .exit)) (now (marks .exit))) ⌝ }
+{
+    let run = take_run(stand, chunk, from, lines, clocks, words, records, marks);
+    let behind = run.stand;
+    take_others(
+        behind,
+        chunk,
+        run.next,
+        lines,
+        clocks,
+        words,
+        records,
+        marks,
+    )
+}
+
+// Takes the steps that follow from a place on. None do where the run has stopped, the opening is missing, or the areas are not in order.
+fn take_run(
+    stand: Stand,
+    chunk: &[u8],
+    from: usize,
+    lines: &mut [u8],
+    clocks: &mut [u8],
+    words: &mut [u32],
+    records: &mut [u8],
+    marks: &mut [u8],
+) -> Passed
+    requires { ⌜ Passable stand (now chunk) from (now lines) (now clocks) (now words) (now records) (now marks) ⌝ }
+    ensures { λ r. ⌜ Passing stand (now (chunk .entry)) from (now (lines .entry)) (now (clocks .entry)) (now (words .entry)) (now (records .entry)) (now (marks .entry)) (r .stand) (r .next) (now (lines .exit)) (now (clocks .exit)) (now (words .exit)) (now (records .exit)) (now (marks .exit)) ⌝ }
+{
+    if stand.stopped {
+        return Passed { stand, next: from };
+    }
+    if !stand.ready {
+        return Passed { stand, next: from };
+    }
+    if stand.number == 0 {
+        return Passed { stand, next: from };
+    }
+    take_steps(stand, chunk, from, lines, clocks, words, records, marks)
+}
+
+// Takes the records that lie whole in the chunk from a place on up to the 1,000,000th step, all of them steps on areas in order: the inner
+// loop of the run program.
+fn take_steps(
+    stand: Stand,
+    chunk: &[u8],
+    from: usize,
+    lines: &mut [u8],
+    clocks: &mut [u8],
+    words: &mut [u32],
+    records: &mut [u8],
+    marks: &mut [u8],
+) -> Passed
+    requires { ⌜ Runnable stand (now chunk) from (now lines) (now clocks) (now words) (now records) (now marks) ⌝ }
+    ensures { λ r. ⌜ Passing stand (now (chunk .entry)) from (now (lines .entry)) (now (clocks .entry)) (now (words .entry)) (now (records .entry)) (now (marks .entry)) (r .stand) (r .next) (now (lines .exit)) (now (clocks .exit)) (now (words .exit)) (now (records .exit)) (now (marks .exit)) ⌝ }
+{
+    let mut number = stand.number;
+    let mut at = stand.at;
+    let mut i = from;
+    while 8 <= chunk.len() - i {
+        if 1000000 < number {
+            let last = Stand {
+                number,
+                stopped: false,
+                ready: true,
+                at,
+            };
+            return Passed {
+                stand: last,
+                next: i,
+            };
+        }
+        let outcome = running::step_record(chunk, i, clocks, words, records, marks);
+        at = put_outcome(lines, at, number, outcome);
+        number = number + 1;
+        i = i + 8;
+    }
+    let last = Stand {
+        number,
+        stopped: false,
+        ready: true,
+        at,
+    };
+    Passed {
+        stand: last,
+        next: i,
+    }
+}
+
+// Takes the records that lie whole in the chunk from a place on, one at a time, and holds the bytes behind them.
+fn take_others(
     stand: Stand,
     chunk: &[u8],
     from: usize,
@@ -339,7 +441,7 @@ fn take_rest(
     hold_rest(last, chunk, passed.next)
 }
 
-// Takes the records that lie whole in the chunk from a place on, until the run stops: the inner loop of the run program.
+// Takes the records that lie whole in the chunk from a place on, one at a time, until the run stops.
 fn take_records(
     stand: Stand,
     chunk: &[u8],

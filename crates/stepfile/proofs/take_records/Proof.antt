@@ -1,7 +1,8 @@
 -- `take_records` meets its contract: the records before i are taken. Assumes nothing.
 use Prim.Native.Nat.{_-_}
 use lib.ListN.{length}
-use Rattle.stepfile.proofs.Passing.{Passing, passing-laws}
+use Rattle.stepfile.specs.Needed.{Passing}
+use Rattle.stepfile.proofs.Passing.{passing-laws}
 use Rattle.stepfile.proofs.take_records.Statement.{statement}
 use Rattle.stepfile.proofs.take_records.Tie as tie
 
