@@ -12,11 +12,13 @@ use Rattle.clock.specs.Clocks.{entryOf, sumOf}
 use Rattle.diff.specs.Reading.{readRefusal}
 use Rattle.rules.specs.Fetch.{isPending, sumAt, earlier, due}
 use Rattle.rules.specs.InOrder.{present, slotSize, recordAt, sameNotice}
-use Rattle.rules.specs.State.{mainframe, Interval, clockOf, Record, recordIn, recordsOf, State, standing}
+use Rattle.rules.specs.State.{mainframe, Processor, Applied, Interval, clockOf, Record, recordIn, recordsOf, State, clock, standing}
 use Rattle.rules.specs.Tables.{select, sortBy}
 use Rattle.rules.proofs.Facts.{Within, RecordSound}
-use Rattle.memory.specs.Areas.{clocksIn, recordsIn, stateIn}
+use Rattle.memory.specs.Areas.{appliedRow, clockRow, clocksIn, recordsIn, stateIn}
 use Rattle.memory.specs.Layout.{rowOf, tabulate}
+use Rattle.memory.specs.Needed.{OnPage}
+use Rattle.memory.proofs.ClockLaws.{clock-read}
 use Rattle.memory.proofs.RowLaws.{tabulate-same, map-tabulate}
 use Rattle.memory.proofs.SlotLaws.{slot-read, slot-byte, record-read}
 use Rattle.fetching.specs.Keys.{dueOf}
@@ -145,3 +147,24 @@ module _ (c w r m : List ℕ) (p g : ℕ) (h : Fetchable c w r m p g) where
 
       sound : SlotsSound c r (getD m 3 0)
       sound = record { few = few-standing; each = slot-sound; distinct = distinct-at }
+
+-- ---- the clocks of a page and of its processor
+
+module _ (c w r m : List ℕ) (p g : ℕ) (h : Fetchable c w r m p g) (place : OnPage p g) where
+  known-row : clockOf (clocksIn mainframe c) (Processor p) ≡ rowOf 8 c p
+  unfolding Within mainframe clockRow
+  known-row = clock-read c (Processor p) (place .from, place .to)
+
+  applied-row : clockOf (clocksIn mainframe c) (Applied p g) ≡ rowOf 8 c (appliedRow mainframe p g)
+  unfolding Within mainframe clockRow
+  applied-row = clock-read c (Applied p g) (place .from, place .to, place .page)
+
+  -- no applied clock exceeds its processor's clock
+  pub applied-below : (q : ℕ) → entryOf (rowOf 8 c (appliedRow mainframe p g)) q ≤ entryOf (rowOf 8 c p) q
+  unfolding stateIn clock
+  applied-below q = rw (← applied-row, ← known-row) (h .in-order .applied-known p g q)
+
+  -- and no entry of that exceeds 63
+  pub known-fits : (q : ℕ) → entryOf (rowOf 8 c p) q ≤ 63
+  unfolding stateIn mainframe
+  known-fits q = rw (← known-row) (omega (arith, h .in-order .known (Processor p) q, h .in-order .own-fits q))

@@ -1,11 +1,13 @@
-pub mod Picking
+pub mod Spanning
+pub mod Listing
+pub mod Sorting
+pub mod Ordering
 pub mod Ranking
-pub mod Next
+pub mod Inserting
 pub mod Gathering
-pub mod Choosing
-pub mod LaidBack
 pub mod Laying
 pub mod Applying
+pub mod NoNews
 pub mod InState
 pub mod Comparing
 pub mod Fetching

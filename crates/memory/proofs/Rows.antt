@@ -6,15 +6,10 @@ use native.Mathlib.Omega.{arith}
 use mathlib.Core.Path.{_≡_, refl, sym, ap, _∙_, fun-ext}
 use mathlib.Core.List.{List, [], _∷_, _++_}
 use lib.ListN.{length, getD, take, drop, set, length-drop, length-set, replicate, replicate-append-replicate, drop-of-length-le}
-use lib.Seq.{length-take-le, take-all, take-suc, drop-cons, take-suc-set, getD-take, getD-drop, sets, length-sets}
+use lib.Seq.{length-take-le, take-all, take-suc, drop-cons, take-suc-set, getD-take, getD-drop, sets}
 use borrow.Author.Needs.{needs}
-use mir.Syntax.{w8}
-use mir.Val.{Val}
-use denote.Array.{Array, each}
-use denote.Shadow.{shadow}
-use denote.Plain.{UInt}
 use Rattle.rules.specs.State.{mainframe}
-use Rattle.memory.specs.Layout.{rowOf, tabulate, joinRows}
+use Rattle.memory.specs.Layout.{rowOf, tabulate}
 use Rattle.memory.specs.Areas.{appliedRow, intervalRow, copyRow, twinRow, dirtyPlace}
 use Rattle.memory.specs.Needed.{RowThere, OnPage, MadeInterval, ClocksOf}
 
@@ -217,77 +212,4 @@ applied-read-all c p rows g f h l e =
     sym (take-all g rows (omega (arith, h .count))) ∙ h .first ∙ ap (λ (t : ℕ → List ℕ). take g (tabulate 8 t)) (sym same)
     ∙ take-all g (tabulate 8 f) (omega (arith, length-tabulate 8 f))
 
--- ---- the applied clocks of a processor are written: the rows from g on are still to be laid into the area
-
-pub record AppliedWritten (c₀ c : List ℕ) (p : ℕ) (rows : List (List ℕ)) (g : ℕ) : Type 0 where
-  pub clocks : length c ≡ 4744
-  pub as-long : length c ≡ length c₀
-  pub from : 1 ≤ p
-  pub to : p ≤ 8
-  pub count : length rows ≡ 8
-  pub upto : g ≤ 8
-  pub same : sets c₀ (8 * appliedRow mainframe p 0) (joinRows rows) ≡ sets c (8 * appliedRow mainframe p g) (joinRows (drop g rows))
-
--- two runs of elements are laid one behind the other
-sets-append : (l : List ℕ) (at : ℕ) (xs ys : List ℕ) → sets l at (xs ++ ys) ≡ sets (sets l at xs) (at + length xs) ys
-sets-append l at [] ys = ap (λ (k : ℕ). sets l k ys) (omega arith)
-sets-append l at (x ∷ xs) ys =
-    let e : suc at + length xs ≡ at + suc (length xs) = omega arith in
-    sets-append (set l at x) (suc at) xs ys ∙ ap (λ (k : ℕ). sets (sets (set l at x) (suc at) xs) k ys) e
-
--- the row of the next page is the next row
-applied-row-next : (p g : ℕ) → 8 * appliedRow mainframe p g + 8 ≡ 8 * appliedRow mainframe p (g + 1)
-unfolding appliedRow mainframe
-applied-row-next p g = omega arith
-
--- no row is laid yet
-pub applied-written-begins : (c : List ℕ) (p : ℕ) (rows : List (List ℕ)) → ClocksOf c p → length rows ≡ 8 → AppliedWritten c c p rows 0
-applied-written-begins c p rows h e =
-    record { clocks = h .clocks; as-long = refl; from = h .from; to = h .to; count = e; upto = omega arith; same = refl }
-
--- the next page has a row
-pub applied-written-page : (c₀ c : List ℕ) (p : ℕ) (rows : List (List ℕ)) (g : ℕ) → AppliedWritten c₀ c p rows g → g < 8 → OnPage p g
-applied-written-page c₀ c p rows g h l = record { from = h .from; to = h .to; page = l }
-
--- one more row of eight entries is laid
-pub applied-written-more : (c₀ c c′ : List ℕ) (p : ℕ) (rows : List (List ℕ)) (g r : ℕ) (row : List ℕ) → AppliedWritten c₀ c p rows g → g < 8
-    → r ≡ appliedRow mainframe p g → row ≡ getD rows g [] → length row ≡ 8 → c′ ≡ sets c (8 * r) row → AppliedWritten c₀ c′ p rows (g + 1)
-unfolding joinRows
-applied-written-more c₀ c c′ p rows g r row h l er e w s =
-    let hr : g < length rows = omega (arith, h .count) in
-    let long : length c′ ≡ length c = ap length s ∙ length-sets c (8 * r) row in
-    let rest : List ℕ = joinRows (drop (suc g) rows) in
-    let laid : sets c (8 * appliedRow mainframe p g) (getD rows g [] ++ rest) ≡ sets c′ (8 * appliedRow mainframe p g + 8) rest
-    = rw (← e, ← er, sets-append c (8 * r) row rest, ← s, w) in
-    record {
-      clocks = long ∙ h .clocks;
-      as-long = long ∙ h .as-long;
-      from = h .from;
-      to = h .to;
-      count = h .count;
-      upto = omega arith;
-      same =
-          h .same
-          ∙ ap (λ (k : List (List ℕ)). sets c (8 * appliedRow mainframe p g) (joinRows k)) (drop-cons rows g [] hr)
-          ∙ laid
-          ∙ ap (λ (k : ℕ). sets c′ k rest) (applied-row-next p g)
-          ∙ ap (λ (k : ℕ). sets c′ (8 * appliedRow mainframe p (g + 1)) (joinRows (drop k rows))) (sym (add-one g));
-    }
-
--- all eight rows are laid
-pub applied-written-all : (c₀ c : List ℕ) (p : ℕ) (rows : List (List ℕ)) (g : ℕ) → AppliedWritten c₀ c p rows g → 8 ≤ g
-    → c ≡ sets c₀ (8 * appliedRow mainframe p 0) (joinRows rows)
-unfolding joinRows
-applied-written-all c₀ c p rows g h l =
-    let le : length rows ≤ g = omega (arith, h .count) in
-    sym (h .same ∙ ap (λ (k : List (List ℕ)). sets c (8 * appliedRow mainframe p g) (joinRows k)) (drop-of-length-le rows le))
-
--- ---- a row of an array of arrays of eight bytes has eight entries: the array's own relation says so
-
-pub row-width : (rows : List (List ℕ)) (us : List Val) (g : ℕ) → shadow (each (List ℕ) (Array (UInt w8) 8 .own) rows us) → g < length rows → length (getD rows g []) ≡ 8
-row-width [] us g s h = absurd (omega arith)
-row-width (x ∷ xs) [] g s h = absurd s
-row-width (x ∷ xs) (u ∷ us) zero s h = s .0 .1 .0 .1
-row-width (x ∷ xs) (u ∷ us) (suc g) s h = row-width xs us g (s .1) (omega arith)
-
-pub ruleset row-laws = (row-read-begins, row-read-more, row-read-all, row-written-begins, row-written-more, row-written-all, row-copied, clear-begins, clear-more, clear-all, applied-row-is, interval-row-is, copy-row-is, twin-row-is, dirty-place-is, clock-row-there, applied-read-begins, applied-read-page, applied-read-more, applied-read-all, applied-written-begins, applied-written-page, applied-written-more, applied-written-all, row-width, needs)
+pub ruleset row-laws = (row-read-begins, row-read-more, row-read-all, row-written-begins, row-written-more, row-written-all, row-copied, clear-begins, clear-more, clear-all, applied-row-is, interval-row-is, copy-row-is, twin-row-is, dirty-place-is, clock-row-there, applied-read-begins, applied-read-page, applied-read-more, applied-read-all, needs)

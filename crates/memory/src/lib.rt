@@ -6,7 +6,7 @@ ghost use Prim.Native.Nat.{_*_, _<_};
 ghost use lib.ListN.{length, getD, replicate};
 ghost use lib.Seq.{sets};
 ghost use Rattle.rules.specs.State.{mainframe};
-ghost use Rattle.memory.specs.Layout.{rowOf, tabulate, joinRows};
+ghost use Rattle.memory.specs.Layout.{rowOf, tabulate};
 ghost use Rattle.memory.specs.Areas.{appliedRow, intervalRow, copyRow, twinRow, dirtyPlace};
 ghost use Rattle.memory.specs.Needed.{RowThere, OnPage, MadeInterval, ClocksOf};
 use clock::Clock;
@@ -153,24 +153,10 @@ pub fn applied_at(clocks: &[u8], p: ProcessorId) -> [[u8; 8]; 8]
     rows
 }
 
-// The clocks applied to the pages of a processor, laid into their rows, which lie one behind the other.
-pub fn put_applied(clocks: &mut [u8], p: ProcessorId, rows: [[u8; 8]; 8])
-    requires { ⌜ ClocksOf (now clocks) (p .0) ⌝ }
-    ensures { λ _. ⌜ now (clocks .exit) ≡ sets (now (clocks .entry)) (8 * appliedRow mainframe (p .0) 0) (joinRows rows) ⌝ }
-{
-    let mut g: usize = 0;
-    while g < 8 {
-        let page = PageId(g);
-        put_clock(clocks, applied_row(p, page), applied_clock(rows, page));
-        g = g + 1;
-    }
-}
-
 // The clock of one page out of those of all pages.
-fn applied_clock(rows: [[u8; 8]; 8], g: PageId) -> Clock
+pub fn applied_clock(rows: [[u8; 8]; 8], g: PageId) -> Clock
     requires { ⌜ g .0 < 8 ⌝ }
     ensures { λ r. ⌜ r .entries ≡ getD rows (g .0) [] ⌝ }
-    ensures { λ r. ⌜ length (r .entries) ≡ 8 ⌝ }
 {
     let at = g.0;
     let entries = rows[at];
