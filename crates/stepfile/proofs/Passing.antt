@@ -24,7 +24,7 @@ use Rattle.stepfile.specs.declared.Taken.{Taken}
 use Rattle.stepfile.specs.declared.Stand.{Stand}
 use Rattle.stepfile.specs.declared.Held.{Held}
 use Rattle.stepfile.specs.declared.Passed.{Passed}
-use Rattle.stepfile.specs.Needed.{ChunkFed, Endable, Ended, HeldAll, Holdable, Holding, Kept, LinePut, Passable, Passes, Passing, Runnable, Steppable, Takeable, Took, outcomeLine, standsAt, takenAs}
+use Rattle.stepfile.specs.Needed.{ChunkFed, Endable, Ended, HeldAll, Holdable, Holding, Kept, LinePut, Ahead, Passable, Passes, Passing, Runnable, Steppable, Takeable, Took, outcomeLine, standsAt, takenAs}
 use Rattle.stepfile.proofs.Cutting.{eight-taken, taken-held, taken-stopped}
 use Rattle.stepfile.proofs.Taking.{next-is-step, step-in-order, step-taken, step-there}
 
@@ -127,18 +127,20 @@ module _ (s₀ : Stand) (chunk : List ℕ) (from : ℕ) (out₀ c₀ w₀ r₀ m
 
 -- ---- the loop over a run of steps
 
--- the steps up to a place are taken, from this number on to that
-pub record Running (number₀ at₀ : ℕ) (chunk : List ℕ) (from : ℕ) (out₀ c₀ w₀ r₀ m₀ : List ℕ) (number at i : ℕ) (out c w r m : List ℕ) : Type 0 where
+-- the steps up to a place are taken, from this number on to that, and there are more up to the end
+pub record Running (number₀ at₀ : ℕ) (chunk : List ℕ) (from end : ℕ) (out₀ c₀ w₀ r₀ m₀ : List ℕ) (number at i : ℕ) (out c w r m : List ℕ) : Type 0 where
   pub passing :
       Passing (record { number = number₀; stopped = false; ready = true; at = at₀ }) chunk from out₀ c₀ w₀ r₀ m₀ (record { number = number; stopped = false; ready = true; at = at }) i out c w r m
+  pub ahead : Ahead number i end (length chunk)
   pub opened : 1 ≤ number
 
-module _ (s : Stand) (chunk : List ℕ) (from : ℕ) (out c w r m : List ℕ) where
-  pub runnable : Passable s chunk from out c w r m → s .stopped ≡ false → not (s .ready) ≡ false → (s .number ≡ 0 → ⊥) → Runnable s chunk from out c w r m
-  runnable h z y n = record { passable = h; going = z; ready = not-false (s .ready) y; opened = omega (arith, n) }
+module _ (s : Stand) (chunk : List ℕ) (from end : ℕ) (out c w r m : List ℕ) where
+  pub runnable : Passable s chunk from out c w r m → Ahead (s .number) from end (length chunk) → s .stopped ≡ false → not (s .ready) ≡ false → (s .number ≡ 0 → ⊥)
+      → Runnable s chunk from end out c w r m
+  runnable h a z y n = record { passable = h; ahead = a; going = z; ready = not-false (s .ready) y; opened = omega (arith, n) }
 
-  module _ (h : Runnable s chunk from out c w r m) where
-    pub running-begins : Running (s .number) (s .at) chunk from out c w r m (s .number) (s .at) from out c w r m
+  module _ (h : Runnable s chunk from end out c w r m) where
+    pub running-begins : Running (s .number) (s .at) chunk from end out c w r m (s .number) (s .at) from out c w r m
     running-begins =
         record {
           passing =
@@ -149,10 +151,11 @@ module _ (s : Stand) (chunk : List ℕ) (from : ℕ) (out c w r m : List ℕ) wh
                 room = h .passable .room;
                 order = rw (← h .ready) (h .passable .order);
               });
+          ahead = h .ahead;
           opened = h .opened;
         }
 
-    pub running-ends : (number at i : ℕ) (out′ c′ w′ r′ m′ : List ℕ) → Running (s .number) (s .at) chunk from out c w r m number at i out′ c′ w′ r′ m′
+    pub running-ends : (number at i : ℕ) (out′ c′ w′ r′ m′ : List ℕ) → Running (s .number) (s .at) chunk from end out c w r m number at i out′ c′ w′ r′ m′
         → Passing s chunk from out c w r m (record { number = number; stopped = false; ready = true; at = at }) i out′ c′ w′ r′ m′
     unfolding standsAt
     running-ends number at i out′ c′ w′ r′ m′ k =
@@ -169,37 +172,51 @@ module _ (s : Stand) (chunk : List ℕ) (from : ℕ) (out c w r m : List ℕ) wh
           marks = k .passing .marks;
         }
 
-module _ (number₀ at₀ : ℕ) (chunk : List ℕ) (from : ℕ) (out₀ c₀ w₀ r₀ m₀ : List ℕ) (number at i : ℕ) (out c w r m : List ℕ)
-    (h : Running number₀ at₀ chunk from out₀ c₀ w₀ r₀ m₀ number at i out c w r m) where
+module _ (number₀ at₀ : ℕ) (chunk : List ℕ) (from end : ℕ) (out₀ c₀ w₀ r₀ m₀ : List ℕ) (number at i : ℕ) (out c w r m : List ℕ)
+    (h : Running number₀ at₀ chunk from end out₀ c₀ w₀ r₀ m₀ number at i out c w r m) where
   pub running-passes : Passing (record { number = number₀; stopped = false; ready = true; at = at₀ }) chunk from out₀ c₀ w₀ r₀ m₀ (record { number = number; stopped = false; ready = true; at = at }) i out c w r m
   running-passes = h .passing
 
-  module _ (l : 8 ≤ length chunk - i) where
+  module _ (l : i < end) where
+    pub next-within : i + 8 ≤ length chunk
+    next-within = omega (arith, l, h .ahead .whole, h .ahead .within)
+
+    pub next-numbered : number ≤ 1000000
+    next-numbered = omega (arith, l, h .ahead .whole, h .ahead .few)
+
     next-steppable : Steppable true chunk i c w r m
-    next-steppable = record { there = omega (arith, l); order = h .passing .able .order }
+    next-steppable = record { there = next-within; order = h .passing .able .order }
 
     pub next-there : StepThere chunk i c w r m
     next-there = step-there true chunk i c w r m next-steppable refl
 
     pub room-for-next : Room out at 44
-    room-for-next = record { room = omega (arith, l, h .passing .able .room) }
+    room-for-next = record { room = omega (arith, next-within, h .passing .able .room) }
 
     -- a step more
-    pub running-more : (o : Outcome) (c′ w′ r′ m′ out′ : List ℕ) (end : ℕ) → number ≤ 1000000
-        → SteppedAs (stateIn mainframe c w r m) (stepFrom (drop i chunk)) o c′ w′ r′ m′ → LinePut out at (outcomeLine number o) out′ end
+    pub running-more : (o : Outcome) (c′ w′ r′ m′ out′ : List ℕ) (at′ : ℕ) → SteppedAs (stateIn mainframe c w r m) (stepFrom (drop i chunk)) o c′ w′ r′ m′
+        → LinePut out at (outcomeLine number o) out′ at′
         → length c′ ≡ length c → length w′ ≡ length w → length r′ ≡ length r → length m′ ≡ length m
-        → Running number₀ at₀ chunk from out₀ c₀ w₀ r₀ m₀ (number + 1) end (i + 8) out′ c′ w′ r′ m′
-    running-more o c′ w′ r′ m′ out′ end q d k ec ew er em =
+        → Running number₀ at₀ chunk from end out₀ c₀ w₀ r₀ m₀ (number + 1) at′ (i + 8) out′ c′ w′ r′ m′
+    running-more o c′ w′ r′ m′ out′ at′ d k ec ew er em =
         let s₀ : Stand = record { number = number₀; stopped = false; ready = true; at = at₀ } in
         let s : Stand = record { number = number; stopped = false; ready = true; at = at } in
-        let s′ : Stand = record { number = number + 1; stopped = false; ready = true; at = end } in
-        let able : Takeable s chunk i out c w r m = record-takeable s₀ chunk from out₀ c₀ w₀ r₀ m₀ s i out c w r m (h .passing) l in
+        let s′ : Stand = record { number = number + 1; stopped = false; ready = true; at = at′ } in
+        let left : 8 ≤ length chunk - i = omega (arith, next-within) in
+        let able : Takeable s chunk i out c w r m = record-takeable s₀ chunk from out₀ c₀ w₀ r₀ m₀ s i out c w r m (h .passing) left in
         let answered = step-in-order true chunk i c w r m next-steppable refl o c′ w′ r′ m′ d in
-        let taken = step-taken s chunk i out c w r m o c′ w′ r′ m′ out′ end (record { takeable = able; fewer = q }) answered k in
+        let taken = step-taken s chunk i out c w r m o c′ w′ r′ m′ out′ at′ (record { takeable = able; fewer = next-numbered }) answered k in
         record {
           passing =
-              passing-more s₀ chunk from out₀ c₀ w₀ r₀ m₀ s i out c w r m (h .passing) s′ out′ c′ w′ r′ m′ l refl
-              (next-is-step s chunk i out c w r m s′ out′ c′ w′ r′ m′ (λ z. omega (arith, h .opened, z)) q taken) ec ew er em;
+              passing-more s₀ chunk from out₀ c₀ w₀ r₀ m₀ s i out c w r m (h .passing) s′ out′ c′ w′ r′ m′ left refl
+              (next-is-step s chunk i out c w r m s′ out′ c′ w′ r′ m′ (λ z. omega (arith, h .opened, z)) next-numbered taken) ec ew er em;
+          ahead =
+              record {
+                on = omega (arith, l, h .ahead .whole);
+                whole = omega (arith, l, h .ahead .whole);
+                within = h .ahead .within;
+                few = omega (arith, l, h .ahead .whole, h .ahead .few);
+              };
           opened = omega arith;
         }
 
@@ -303,4 +320,4 @@ rest-taken s₀ chunk from out₀ c₀ w₀ r₀ m₀ s i out c w r m h t out′
       kept = kept-again out₀ (s₀ .at) out (s .at) out′ _ (h .kept) (d .kept);
     })
 
-pub ruleset passing-laws = (passing-begins, lines-sized, clocks-sized, words-sized, records-sized, marks-sized, place-within, record-takeable, passing-more, passing-stopped, passing-ends, runnable, running-begins, running-ends, running-passes, next-there, room-for-next, running-more, ended-stopped, none-held, ended-held, endable, others-taken, rest-taken, needs)
+pub ruleset passing-laws = (passing-begins, lines-sized, clocks-sized, words-sized, records-sized, marks-sized, place-within, record-takeable, passing-more, passing-stopped, passing-ends, runnable, running-begins, running-ends, running-passes, next-within, next-numbered, next-there, room-for-next, running-more, ended-stopped, none-held, ended-held, endable, others-taken, rest-taken, needs)

@@ -1,5 +1,5 @@
 -- What the functions of this crate ask of one another, and what the inner ones promise. Assumes nothing.
-use Prim.Native.Nat.{_*_, _+_, _-_, _/_, _<_, _≤_, ℕ}
+use Prim.Native.Nat.{_*_, _+_, _-_, _/_, _%_, _<_, _≤_, ℕ}
 use mathlib.Core.Path.{_≡_}
 use mathlib.Core.Bool.{Bool, _&&_, _||_, false, not, true}
 use mathlib.Core.List.{List, [], _++_}
@@ -121,9 +121,17 @@ pub record Passing (s₀ : Stand) (chunk : List ℕ) (from : ℕ) (out₀ c₀ w
   pub records : length r ≡ length r₀
   pub marks : length m ≡ length m₀
 
--- the records from a place on are steps, as long as their numbers go: the opening is taken, the run has not stopped, and the areas are in order
-pub record Runnable (s : Stand) (chunk : List ℕ) (from : ℕ) (out c w r m : List ℕ) : Type 0 where
+-- whole records stand from a place of a chunk to another, and their numbers are those of steps
+pub record Ahead (number i end chunk : ℕ) : Type 0 where
+  pub on : i ≤ end
+  pub whole : (end - i) % 8 ≡ 0
+  pub within : end ≤ chunk
+  pub few : number + (end - i) / 8 ≤ 1000001
+
+-- the records from a place on to another are steps on areas in order: the opening is taken, and the run has not stopped
+pub record Runnable (s : Stand) (chunk : List ℕ) (from end : ℕ) (out c w r m : List ℕ) : Type 0 where
   pub passable : Passable s chunk from out c w r m
+  pub ahead : Ahead (s .number) from end (length chunk)
   pub going : s .stopped ≡ false
   pub ready : s .ready ≡ true
   pub opened : 1 ≤ s .number

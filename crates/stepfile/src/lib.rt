@@ -10,7 +10,7 @@ ghost use Rattle.lines.specs.Lines.{lineBytes};
 ghost use Rattle.lines.specs.Needed.{Room};
 ghost use Rattle.stepfile.specs.Feeding.{bytesTaken, openingTaken, stepTaken, recordTaken};
 ghost use Rattle.stepfile.specs.Promises.{standing, Started, FedAs, FinishedAs};
-ghost use Rattle.stepfile.specs.Needed.{ZerosBehind, FeedableIs, EndsShort, LinePut, outcomeLine, standsAt, Takeable, StepTakeable, StoppedAt, Steppable, Took, OpenedAs, Answered, firstStand, Passable, Passing, Runnable, Passes, Holdable, HeldAll, Feedable, Completes, Endable, Ended, ChunkFed};
+ghost use Rattle.stepfile.specs.Needed.{ZerosBehind, FeedableIs, EndsShort, LinePut, outcomeLine, standsAt, Takeable, StepTakeable, StoppedAt, Steppable, Took, OpenedAs, Answered, firstStand, Passable, Passing, Ahead, Runnable, Passes, Holdable, HeldAll, Feedable, Completes, Endable, Ended, ChunkFed};
 use engine::Outcome;
 
 // How far a file has been fed.
@@ -371,40 +371,52 @@ fn take_run(
     if stand.number == 0 {
         return Passed { stand, next: from };
     }
-    take_steps(stand, chunk, from, lines, clocks, words, records, marks)
+    let end = run_end(stand.number, from, chunk.len());
+    take_steps(
+        stand,
+        chunk,
+        from,
+        end,
+        lines,
+        clocks,
+        words,
+        records,
+        marks,
+    )
 }
 
-// Takes the records that lie whole in the chunk from a place on up to the 1,000,000th step, all of them steps on areas in order: the inner
-// loop of the run program.
+// The place behind the steps from a place on: behind the last record that lies whole in a chunk of so many bytes, or the 1,000,000th step.
+fn run_end(number: u32, from: usize, chunk: usize) -> usize
+    requires { ⌜ (number ≤ 1000001) × (from ≤ chunk) ⌝ }
+    ensures { λ r. ⌜ Ahead number from r chunk ⌝ }
+{
+    let whole = (chunk - from) / 8;
+    let numbers = (1000001 - number) as usize;
+    if whole < numbers {
+        return from + 8 * whole;
+    }
+    from + 8 * numbers
+}
+
+// Takes the steps from a place on to another, on areas in order: the inner loop of the run program.
 fn take_steps(
     stand: Stand,
     chunk: &[u8],
     from: usize,
+    end: usize,
     lines: &mut [u8],
     clocks: &mut [u8],
     words: &mut [u32],
     records: &mut [u8],
     marks: &mut [u8],
 ) -> Passed
-    requires { ⌜ Runnable stand (now chunk) from (now lines) (now clocks) (now words) (now records) (now marks) ⌝ }
+    requires { ⌜ Runnable stand (now chunk) from end (now lines) (now clocks) (now words) (now records) (now marks) ⌝ }
     ensures { λ r. ⌜ Passing stand (now (chunk .entry)) from (now (lines .entry)) (now (clocks .entry)) (now (words .entry)) (now (records .entry)) (now (marks .entry)) (r .stand) (r .next) (now (lines .exit)) (now (clocks .exit)) (now (words .exit)) (now (records .exit)) (now (marks .exit)) ⌝ }
 {
     let mut number = stand.number;
     let mut at = stand.at;
     let mut i = from;
-    while 8 <= chunk.len() - i {
-        if 1000000 < number {
-            let last = Stand {
-                number,
-                stopped: false,
-                ready: true,
-                at,
-            };
-            return Passed {
-                stand: last,
-                next: i,
-            };
-        }
+    while i < end {
         let outcome = running::step_record(chunk, i, clocks, words, records, marks);
         at = put_outcome(lines, at, number, outcome);
         number = number + 1;

@@ -6,4 +6,4 @@ use Rattle.stepfile.proofs.take_run.Tie as tie
 pub take-run-spec : {M : Type 1} → statement M
 take-run-spec =
     tie.close
-    (tie.spec (λ c. search passing-laws) (λ c. search passing-laws) (λ c. search passing-laws) (λ c κs. search passing-laws) (λ c. search passing-laws) (λ c. search passing-laws) (λ c. search passing-laws) (λ c. search passing-laws) (λ c. search passing-laws) (λ c. search passing-laws))
+    (tie.spec (λ c. search passing-laws) (λ c. search passing-laws) (λ c. search passing-laws) (λ c κs. search passing-laws) (λ c κs. search passing-laws) (λ c. search passing-laws) (λ c. search passing-laws) (λ c. search passing-laws) (λ c. search passing-laws) (λ c. search passing-laws) (λ c. search passing-laws))

@@ -1,24 +1,23 @@
 -- `take_steps` meets its contract: the steps before i are taken, and the next has this number. Assumes nothing.
 use Prim.Native.Nat.{_-_}
-use lib.ListN.{length}
 use borrow.Author.Needs.{needs}
 use Rattle.stepfile.proofs.Passing.{Running, running-more, passing-laws}
 use Rattle.stepfile.proofs.take_steps.Statement.{statement}
 use Rattle.stepfile.proofs.take_steps.Tie as tie
 
 abbrev Inv-loop : tie.InvT-loop
-Inv-loop chunk from lines₀ clocks₀ words₀ records₀ marks₀ number₀ at₀ i₀ lines clocks words records marks number at i =
-    Running number₀ at₀ chunk from lines₀ clocks₀ words₀ records₀ marks₀ number at i lines clocks words records marks
+Inv-loop chunk from end lines₀ clocks₀ words₀ records₀ marks₀ number₀ at₀ i₀ lines clocks words records marks number at i =
+    Running number₀ at₀ chunk from end lines₀ clocks₀ words₀ records₀ marks₀ number at i lines clocks words records marks
 
 abbrev μ-loop : tie.MeasureT-loop
-μ-loop chunk from lines₀ clocks₀ words₀ records₀ marks₀ number₀ at₀ i₀ lines clocks words records marks number at i =
-    length chunk - i
+μ-loop chunk from end lines₀ clocks₀ words₀ records₀ marks₀ number₀ at₀ i₀ lines clocks words records marks number at i =
+    end - i
 
 loop-again : tie.Need-loop-again Inv-loop μ-loop
 loop-again c =
-    running-more _ _ _ _ _ _ _ _ _ _ _ _ _ _ _ _ _ (c .before .before .before .before .before .before .before .before .before .before .before .before .before .before .before .before .before .before .before .loop .inv) (search needs) _ _ _ _ _ _ _ (search needs) (c .before .before .before .before .before .before .before .before .before .before .before .before .step-record .ensures) (c .before .before .put-outcome .ensures) (search needs) (search needs) (search needs) (search needs)
+    running-more _ _ _ _ _ _ _ _ _ _ _ _ _ _ _ _ _ _ (c .before .before .before .before .before .before .before .before .before .before .before .before .before .before .before .before .before .before .loop .inv) (search needs) _ _ _ _ _ _ _ (c .before .before .before .before .before .before .before .before .before .before .before .before .step-record .ensures) (c .before .before .put-outcome .ensures) (search needs) (search needs) (search needs) (search needs)
 
 pub take-steps-spec : {M : Type 1} → statement M
 take-steps-spec =
     tie.close
-    (tie.spec Inv-loop μ-loop (λ c. search passing-laws) (λ c. search passing-laws) (λ c. search passing-laws) (λ c. search passing-laws) (λ c. search passing-laws) (λ c. search passing-laws) (λ c. search passing-laws) (λ c. search passing-laws) (λ c κs. search passing-laws) (λ c κs. search passing-laws) (λ c. search passing-laws) (λ c. search passing-laws) (λ c. search passing-laws) loop-again (λ c. search passing-laws) (λ c. search passing-laws) (λ c. search passing-laws) (λ c. search passing-laws) (λ c. search passing-laws) (λ c. search passing-laws))
+    (tie.spec Inv-loop μ-loop (λ c. search passing-laws) (λ c κs. search passing-laws) (λ c κs. search passing-laws) (λ c. search passing-laws) (λ c. search passing-laws) (λ c. search passing-laws) loop-again (λ c. search passing-laws) (λ c. search passing-laws) (λ c. search passing-laws) (λ c. search passing-laws) (λ c. search passing-laws) (λ c. search passing-laws))
