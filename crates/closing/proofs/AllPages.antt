@@ -16,7 +16,8 @@ use Rattle.rules.specs.Tables.{any}
 use Rattle.rules.proofs.Facts.{InOrder}
 use Rattle.rules.proofs.Space.{closing-finds-room}
 use Rattle.memory.specs.Areas.{recordsIn, stateIn}
-use Rattle.closing.specs.Parts.{withRecords, pageRecorded, allRecorded, Holds, PageChanged, AnyChanged}
+use Rattle.memory.specs.Needed.{Holds}
+use Rattle.closing.specs.Parts.{withRecords, pageRecorded, allRecorded, PageChanged, AnyChanged}
 use Rattle.closing.specs.Needed.{Closable, Recordable}
 
 -- ---- every closing finds room

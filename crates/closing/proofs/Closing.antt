@@ -14,9 +14,9 @@ use Rattle.rules.specs.State.{mainframe, State, clock, own}
 use Rattle.rules.proofs.Facts.{InOrder}
 use Rattle.rules.proofs.Space.{closing-finds-room}
 use Rattle.memory.specs.Areas.{dirtyPlace, stateIn}
-use Rattle.memory.specs.Needed.{OnPage}
+use Rattle.memory.specs.Needed.{OnPage, Holds}
 use Rattle.memory.proofs.MarkLaws.{dirty-marks-cleared}
-use Rattle.closing.specs.Parts.{withClocks, withRecords, allRecorded, Holds, AnyChanged, Ticked}
+use Rattle.closing.specs.Parts.{withClocks, withRecords, allRecorded, AnyChanged, Ticked}
 use Rattle.closing.specs.Needed.{Closable, Tickable, MarksOf}
 
 -- ---- the dirty marks of a processor cleared

@@ -18,7 +18,8 @@ use Rattle.rules.proofs.Facts.{InOrder}
 use Rattle.rules.proofs.Tables.{any-holds, put-within}
 use Rattle.memory.specs.Areas.{dirtyPlace, pagesIn, stateIn}
 use Rattle.memory.proofs.PageLaws.{dirty-read}
-use Rattle.closing.specs.Parts.{Holds, AnyDirty}
+use Rattle.memory.specs.Needed.{Holds}
+use Rattle.closing.specs.Parts.{AnyDirty}
 use Rattle.closing.specs.Needed.{Closable, MarksOf}
 use Rattle.closing.proofs.Closing.{clean-on-page, clean-end}
 

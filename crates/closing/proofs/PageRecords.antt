@@ -17,13 +17,13 @@ use Rattle.rules.specs.Tables.{put}
 use Rattle.rules.proofs.Facts.{Within}
 use Rattle.memory.specs.Areas.{clockRow, copyRow, twinRow, recordsIn, stateIn}
 use Rattle.memory.specs.Layout.{rowOf}
-use Rattle.memory.specs.Needed.{RowThere, OnPage, ClocksOf}
+use Rattle.memory.specs.Needed.{RowThere, OnPage, ClocksOf, Holds}
 use Rattle.memory.proofs.ClockLaws.{clock-read}
 use Rattle.memory.proofs.MarkLaws.{standing-written}
 use Rattle.memory.proofs.PageLaws.{copy-row-there, twin-row-there, copy-read, twin-read}
 use Rattle.memory.proofs.RowLaws.{length-row, get-row}
 use Rattle.memory.proofs.SlotLaws.{slot-written}
-use Rattle.closing.specs.Parts.{withRecords, oneMore, Holds, recordOf, pageRecord, OwnEntry}
+use Rattle.closing.specs.Parts.{withRecords, oneMore, recordOf, pageRecord, OwnEntry}
 use Rattle.closing.specs.Needed.{Appendable, SlotThere, RecordFits}
 use Rattle.closing.proofs.SlotBytes.{part-stored}
 

@@ -13,10 +13,10 @@ use Rattle.rules.specs.Close.{differ, changed}
 use Rattle.rules.specs.State.{mainframe, dirtyAt}
 use Rattle.memory.specs.Areas.{copyRow, twinRow, dirtyPlace, stateIn}
 use Rattle.memory.specs.Layout.{rowOf}
-use Rattle.memory.specs.Needed.{OnPage}
+use Rattle.memory.specs.Needed.{OnPage, Holds}
 use Rattle.memory.proofs.PageLaws.{copy-read, twin-read, dirty-read}
 use Rattle.memory.proofs.RowLaws.{length-row}
-use Rattle.closing.specs.Parts.{withRecords, oneMore, pageRecorded, Holds, PageChanged}
+use Rattle.closing.specs.Parts.{withRecords, oneMore, pageRecorded, PageChanged}
 use Rattle.closing.specs.Needed.{Recordable, Appendable, PageThere}
 use Rattle.closing.proofs.PageRecords.{words-row}
 

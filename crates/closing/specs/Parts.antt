@@ -11,7 +11,6 @@ use Rattle.rules.specs.Tables.{any}
 use Rattle.rules.specs.Close.{changed, anyChanged, newRecord, recorded, ticked}
 use Rattle.memory.specs.Layout.{rowOf}
 use Rattle.memory.specs.Areas.{copyRow, twinRow, stateIn}
-use Rattle.memory.specs.Needed.{Lent}
 
 -- ---- the state after a part
 
@@ -34,11 +33,6 @@ pageRecorded s p g = withRecords s (cond (changed s p g) (appended (s .records) 
 -- "each page that differs gets one record"
 unfoldable pub allRecorded : State → ℕ → State
 allRecorded s p = withRecords s (recorded s p (s .counts .pages))
-
--- the areas have their sizes and hold the state s
-pub record Holds (c w r m : List ℕ) (s : State) : Type 0 where
-  pub lent : Lent c w r m
-  pub is : stateIn mainframe c w r m ≡ s
 
 -- ---- the record of a page
 

@@ -4,7 +4,7 @@ use native.Mathlib.Numerals.{add-one}
 use native.Mathlib.Omega.{arith}
 use mathlib.Core.Path.{_≡_, refl, sym, ap, _∙_}
 use mathlib.Core.Bool.{true}
-use mathlib.Core.List.{List, [], _∷_}
+use mathlib.Core.List.{List, _∷_}
 use lib.ListN.{length, getD, set, length-set}
 use lib.Seq.{sets, length-sets}
 use borrow.Author.Needs.{needs}
@@ -12,9 +12,9 @@ use borrow.Author.Tests.{eq-eqb, ne-eqb}
 use Rattle.diff.specs.Format.{Run}
 use Rattle.diff.specs.Reading.{runCount, mostRuns, runsAt, runsIn, wordsPlace, wordAt, wordsAt, wordCount, orderly, readRefusal, applied}
 use Rattle.diff.specs.Answers.{applyRefusal, pageAfter}
-use Rattle.diff.specs.Needed.{Readable, Applicable, NextThere, RunThere}
+use Rattle.diff.specs.Needed.{Applicable, NextThere, RunThere}
 use Rattle.diff.proofs.Runs.{orderly-parts}
-use Rattle.diff.proofs.Legal.{Legal, legal-when-read}
+use Rattle.diff.proofs.Legal.{legal-when-read}
 use Rattle.diff.proofs.Overlay.{lay, lay-applies}
 use Rattle.diff.proofs.Checking.{runs-left}
 

@@ -1,6 +1,5 @@
 -- What a diff does to a page: each word on its own, and, run by run, the words laid into the page one run after the other. Assumes nothing.
 use Prim.Native.Nat.{ℕ, zero, suc, _+_, _-_, _*_, _≤_, _<_}
-use native.Mathlib.Nat.{add-zero, zero-add}
 use native.Mathlib.Omega.{arith}
 use mathlib.Core.Path.{_≡_, refl, sym, ap, ap₂, _∙_}
 use mathlib.Core.Bool.{true}
@@ -10,7 +9,7 @@ use lib.ListN.{length, getD, take, drop, replicate, length-append, length-drop, 
 use lib.Seq.{sets, sets-eq, length-sets, take-at, drop-at, take-add, drop-drop, length-take-le}
 use Rattle.diff.specs.Format.{Run}
 use Rattle.diff.specs.Reading.{runsIn, wordsPlace, wordsAt, wordCount, orderly, settingsOf, settings, overlay, applied}
-use Rattle.diff.proofs.Runs.{Orderly, orderly-parts, orderly-earlier}
+use Rattle.diff.proofs.Runs.{orderly-parts, orderly-earlier}
 use Rattle.diff.proofs.Words.{length-words, words-split}
 
 -- ---- one word

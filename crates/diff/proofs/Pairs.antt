@@ -1,5 +1,5 @@
 -- The laws by which `pair_at`, its helper and `words_at` meet their contracts: what each way through their code says. Assumes nothing.
-use Prim.Native.Nat.{ℕ, zero, suc, _+_, _-_, _*_, _≤_, _<_}
+use Prim.Native.Nat.{ℕ, _+_, _-_, _*_, _≤_, _<_}
 use native.Mathlib.Omega.{arith}
 use mathlib.Core.Path.{_≡_, refl, sym, ap, _∙_}
 use mathlib.Core.Bool.{Bool, true, false, cond}
@@ -14,7 +14,7 @@ use Rattle.diff.specs.Answers.{pairAmong, pairAt, wordsOf}
 use Rattle.diff.specs.Needed.{Readable}
 use Rattle.diff.specs.declared.Pair.{Pair}
 use Rattle.diff.specs.declared.Pair.the-variants.{At, Nothing}
-use Rattle.diff.proofs.Legal.{Legal, legal-when-read}
+use Rattle.diff.proofs.Legal.{legal-when-read}
 use Rattle.diff.proofs.Checking.{runs-left}
 
 -- after some pairs: the place looked for is none of theirs, and `left` pairs stand from the place `first` on

@@ -1,16 +1,15 @@
 -- Runs and settings are two forms of one thing: the runs of a diff, with the words they set, give its settings back, and the other way
 -- round for runs that keep the pairs' rules. Generic in the page length w. Assumes nothing.
-use Prim.Native.Nat.{ℕ, zero, suc, _+_, _-_, _*_, _≤_, _<_}
+use Prim.Native.Nat.{ℕ, zero, suc, _+_, _-_, _≤_, _<_}
 use native.Mathlib.Nat.{add-zero, zero-add}
-use native.Mathlib.Numerals.{add-one}
 use native.Mathlib.Omega.{arith}
 use native.Mathlib.Decide.{decLt}
 use mathlib.Core.Path.{_≡_, refl, sym, ap, _∙_}
-use mathlib.Core.Bool.{Bool, true, false, _&&_, and-eq-true-iff}
+use mathlib.Core.Bool.{true, _&&_, and-eq-true-iff}
 use mathlib.Core.Option.{Option, none, some}
 use mathlib.Core.List.{List, [], _∷_, _++_, map, append-assoc, append-nil}
 use lib.ListN.{length, take, drop, replicate, length-append, length-replicate, length-map, length-take, length-drop, take-append-drop}
-use lib.Seq.{append-snoc, take-append-seam, drop-append-seam, take-at, drop-at, length-take-le}
+use lib.Seq.{append-snoc, take-append-seam, drop-append-seam, length-take-le}
 use lib.Dec.{leb, lit<}
 use borrow.Author.Tests.{leb-true, le-leb}
 use Rattle.diff.specs.Format.{Below, Run, ended, runsFrom, runs, setWords, pairBytes}

@@ -1,5 +1,5 @@
 -- What is promised of the format of diffs, for pages of any length w and words of 32 bits. Start reading here. Assumes nothing.
-use Prim.Native.Nat.{ℕ, zero, suc, _+_, _*_, _/_, _%_, _≤_, _<_}
+use Prim.Native.Nat.{ℕ, zero, suc, _+_, _*_, _≤_, _<_}
 use native.Mathlib.Omega.{arith}
 use mathlib.Core.Path.{_≡_, refl, sym, ap, ap₂, _∙_}
 use mathlib.Core.Bool.{Bool, true, false, cond}
@@ -9,9 +9,9 @@ use mathlib.Core.List.{List, [], _∷_, _++_, map}
 use lib.ListN.{length, getD, replicate, length-map}
 use lib.Seq.{ext-getD}
 use lib.Dec.{eqb, lit<, eqb·suc-zero, eqb·zero-suc}
-use borrow.Author.Tests.{eq-eqb, ne-eqb, eqb-true}
+use borrow.Author.Tests.{eq-eqb, eqb-true}
 use Rattle.diff.specs.Format.{Below, Run, setting, difference, runs, runsFrom, ended, setWords, pairBytes, wordsBytes, bytesOf, written}
-use Rattle.diff.specs.Reading.{readRefusal, runsIn, wordsPlace, wordsAt, wordCount, settingsOf, settings, settingAt, overlay, applied}
+use Rattle.diff.specs.Reading.{readRefusal, runsIn, wordsPlace, wordsAt, wordCount, settings, settingAt, overlay, applied}
 use Rattle.diff.proofs.Runs.{runs-gap, words-gap, length-settings, words-of-settings, orderly-bound, orderly-count, pairs-are-bytes}
 use Rattle.diff.proofs.Words.{length-words, words-fit, below-cons, below-append, words-are-bytes}
 use Rattle.diff.proofs.Legal.{Legal, legal-when-read, read-when-legal, legal-when-written, write-after-read, read-after-write, length-bytes, runs-in-order, words-of-runs}

@@ -1,6 +1,6 @@
 -- Document 01, "Changes as bytes": the one form in which a diff is written. A diff (document 01: a change) has a setting for each word of
 -- a page: none, the word is kept, or some v, the word is set to v. Generic in the page length. Assumes nothing.
-use Prim.Native.Nat.{ℕ, zero, suc, _+_, _*_, _/_, _%_, _<_}
+use Prim.Native.Nat.{ℕ, zero, suc, _+_, _/_, _%_, _<_}
 use mathlib.Core.Bool.{cond}
 use mathlib.Core.Option.{Option, none, some}
 use mathlib.Core.List.{List, [], _∷_, _++_}

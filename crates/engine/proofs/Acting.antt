@@ -15,9 +15,9 @@ use Rattle.rules.specs.State.{mainframe, State}
 use Rattle.rules.specs.Steps.{Effect, read, write, acquire, release, arrive}
 use Rattle.rules.proofs.Accepted.{Accepted, accepted-says, present-says, acquire-there, release-there}
 use Rattle.memory.specs.Areas.{stateIn}
+use Rattle.memory.specs.Needed.{Holds}
 use Rattle.refusals.specs.Parts as parts
 use Rattle.refusals.proofs.ByKind.{kind-zero-unknown, kind-above-unknown}
-use Rattle.closing.specs.Parts.{Holds}
 use Rattle.steps.specs.Effects.{AnsweredAs, CountedAs, Wanted}
 use Rattle.steps.specs.Needed.{Acts, ActsOnWord, ActsOnLock}
 use Rattle.engine.specs.declared.Outcome.{Outcome}

@@ -11,14 +11,12 @@ use Rattle.rules.specs.Refusals.{Step, Answer, refusedAs, answerInOrder, nextIn
 use Rattle.rules.specs.State.{mainframe, State}
 use Rattle.rules.proofs.InOrderSays.{in-order-says}
 use Rattle.memory.specs.Areas.{pagesIn, recordsIn, stateIn, pageWords, recordBytes, markBytes, sizesRight}
-use Rattle.memory.specs.Needed.{Lent}
+use Rattle.memory.specs.Needed.{Lent, Ready, Holds}
 use Rattle.memory.proofs.Encoding.{clock-bytes, page-words, record-bytes, mark-bytes, right-lent}
-use Rattle.refusals.specs.Needed.{Ready}
-use Rattle.closing.specs.Parts.{Holds}
-use Rattle.checking.specs.Areas as checked
+use Rattle.checking.specs.Areas.{areasInOrder}
 use Rattle.engine.specs.declared.Outcome.{Outcome}
 use Rattle.engine.specs.declared.Outcome.the-variants.{Refused}
-use Rattle.engine.specs.Promises.{areas, heldBy, holding, rightSizes, areasInOrder, answerOf, areasAfter}
+use Rattle.engine.specs.Promises.{areas, heldBy, holding, rightSizes, answerOf, areasAfter}
 use Rattle.engine.specs.Outcomes.{outcomeOf, OrderIs, SteppedAs}
 
 -- ---- areas and the state that they hold
@@ -39,13 +37,12 @@ holding-is c w r m s h = sym (held-again c w r m (h .lent)) ∙ ap (λ (x : Stat
 -- ---- in order or not
 
 -- the test of the crate checking says it
-pub order-checked : (c w r m : List ℕ) (b : Bool) → b ≡ checked.areasInOrder c w r m → OrderIs b c w r m
-unfolding areasInOrder areas heldBy rightSizes checked.areasInOrder
+pub order-checked : (c w r m : List ℕ) (b : Bool) → b ≡ areasInOrder c w r m → OrderIs b c w r m
 order-checked c w r m b e = record { is = e }
 
 module _ (c w r m : List ℕ) (t : Step) where
   -- the answer by the test of the whole memory
-  answer-by-test : answerOf (areas c w r m) t ≡ cond (areasInOrder (areas c w r m)) (answerInOrder mainframe (stateIn mainframe c w r m) t) (refusedAs 1)
+  answer-by-test : answerOf (areas c w r m) t ≡ cond (areasInOrder c w r m) (answerInOrder mainframe (stateIn mainframe c w r m) t) (refusedAs 1)
   unfolding answerOf answer areas heldBy rightSizes areasInOrder
   answer-by-test = go (sizesRight mainframe c w r m)
     where
@@ -55,7 +52,7 @@ module _ (c w r m : List ℕ) (t : Step) where
       go false = refl
 
   -- the areas by the same test
-  areas-by-test : areasAfter (areas c w r m) t ≡ cond (areasInOrder (areas c w r m)) (holding (nextInOrder mainframe (stateIn mainframe c w r m) t)) (areas c w r m)
+  areas-by-test : areasAfter (areas c w r m) t ≡ cond (areasInOrder c w r m) (holding (nextInOrder mainframe (stateIn mainframe c w r m) t)) (areas c w r m)
   unfolding areasAfter next areas heldBy rightSizes areasInOrder
   areas-by-test = go (sizesRight mainframe c w r m) (inOrder mainframe (stateIn mainframe c w r m)) refl
     where
@@ -71,7 +68,7 @@ module _ (c w r m : List ℕ) (t : Step) where
 
 module _ (c w r m : List ℕ) (b : Bool) (e : OrderIs b c w r m) where
   module _ (t : Step) (z : not b ≡ true) where
-    out : areasInOrder (areas c w r m) ≡ false
+    out : areasInOrder c w r m ≡ false
     out = sym (e .is) ∙ go b z
       where
         go : (x : Bool) → not x ≡ true → x ≡ false
@@ -92,12 +89,12 @@ module _ (c w r m : List ℕ) (b : Bool) (e : OrderIs b c w r m) where
         ∙ sym (areas-by-test c w r m t)
 
   module _ (z : not b ≡ false) where
-    fine : areasInOrder (areas c w r m) ≡ true
+    fine : areasInOrder c w r m ≡ true
     fine = sym (e .is) ∙ not-false b z
 
     -- memory in order
     pub ready-when-fine : Ready c w r m
-    unfolding areasInOrder areas heldBy rightSizes
+    unfolding areasInOrder
     ready-when-fine =
         let both = and-eq-true-iff (sizesRight mainframe c w r m) (inOrder mainframe (stateIn mainframe c w r m)) .0 fine in
         record { lent = right-lent c w r m (both .0); in-order = in-order-says mainframe (stateIn mainframe c w r m) (both .1) }

@@ -1,23 +1,20 @@
 -- What a caller has after an accepted opening and after each step: memory in order, that holds the rules' state. Assumes nothing.
 use Prim.Native.Nat.{ℕ}
-use mathlib.Core.Path.{_≡_, refl, sym, ap, _∙_}
+use mathlib.Core.Path.{_≡_, refl, ap, _∙_}
 use mathlib.Core.Bool.{Bool, true, false, cond, not}
 use mathlib.Core.List.{List}
 use lib.ListN.{length, replicate, length-replicate}
 use lib.Dec.{eqb}
 use native.Mathlib.Omega.{arith}
-use borrow.Author.Tests.{eq-eqb}
 use Rattle.clock.specs.Clocks.{zeros}
 use Rattle.rules.specs.InOrder.{slotSize}
 use Rattle.rules.specs.Opening.{openingRefusal, rows, zeroClocks, zeroPages, opened}
-use Rattle.rules.specs.Refusals.{Step, refusalInOrder, nextInOrder}
-use Rattle.rules.specs.State.{mainframe, Processor, Lock, Barrier, Applied, Interval, State}
+use Rattle.rules.specs.Refusals.{Step, nextInOrder}
+use Rattle.rules.specs.State.{mainframe, Processor, State}
 use Rattle.rules.proofs.OpenedInOrder.{opened-in-order, opening-counts}
-use Rattle.memory.specs.Areas.{lockRow, appliedRow, intervalRow, clockRow, copyRow, twinRow, arrivedPlace, holderPlace, dirtyPlace, clocksIn, pagesIn, recordsIn, marksIn, stateIn, clockBytes, pageWords, recordBytes, markBytes}
+use Rattle.memory.specs.Areas.{lockRow, appliedRow, intervalRow, clockRow, copyRow, twinRow, arrivedPlace, holderPlace, dirtyPlace, clocksIn, pagesIn, recordsIn, marksIn, stateIn}
 use Rattle.memory.specs.Layout.{rowOf, tabulate, perProcessor}
-use Rattle.memory.specs.Needed.{Lent}
-use Rattle.refusals.specs.Needed.{Ready}
-use Rattle.closing.specs.Parts.{Holds}
+use Rattle.memory.specs.Needed.{Ready, Holds}
 use Rattle.engine.specs.declared.Outcome.{Outcome}
 use Rattle.engine.specs.Promises.{Areas, areas, holding, rightSizes, openingOf, openRefusal, areasOpened}
 use Rattle.engine.specs.Outcomes.{SteppedAs, RefusalIs}

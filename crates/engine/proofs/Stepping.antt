@@ -12,8 +12,8 @@ use Rattle.rules.specs.Steps.{Effect}
 use Rattle.rules.specs.InOrder.{inOrder}
 use Rattle.rules.proofs.Kept.{next-keeps-order}
 use Rattle.memory.specs.Areas.{stateIn}
+use Rattle.memory.specs.Needed.{Ready}
 use Rattle.refusals.specs.Parts as parts
-use Rattle.refusals.specs.Needed.{Ready}
 use Rattle.engine.specs.declared.Outcome.{Outcome}
 use Rattle.engine.specs.declared.Outcome.the-variants.{Done, Refused}
 use Rattle.engine.specs.Promises.{areas, rightSizes, heldBy, stepOf, answerOf, Areas}

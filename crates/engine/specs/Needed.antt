@@ -5,7 +5,7 @@ use mathlib.Core.List.{List}
 use Rattle.rules.specs.State.{mainframe}
 use Rattle.rules.specs.Refusals.{refusalInOrder}
 use Rattle.memory.specs.Areas.{stateIn}
-use Rattle.refusals.specs.Needed.{Ready}
+use Rattle.memory.specs.Needed.{Ready}
 use Rattle.engine.specs.Promises.{stepOf}
 
 -- the areas hold a state in order, and no row from 3 to 10 refuses the step

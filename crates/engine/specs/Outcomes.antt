@@ -8,8 +8,8 @@ use lib.Dec.{eqb}
 use Rattle.rules.specs.State.{mainframe, State}
 use Rattle.rules.specs.Steps.{Effect}
 use Rattle.rules.specs.Refusals.{Step, Answer, refusalInOrder, answerInOrder, nextInOrder}
-use Rattle.closing.specs.Parts.{Holds}
-use Rattle.engine.specs.Promises.{areas, areasInOrder}
+use Rattle.memory.specs.Needed.{Holds}
+use Rattle.checking.specs.Areas.{areasInOrder}
 use Rattle.engine.specs.declared.Outcome.{Outcome}
 use Rattle.engine.specs.declared.Outcome.the-variants.{Done, Refused}
 
@@ -38,7 +38,7 @@ outcomeOf a = cond (eqb (a .refusal) 0) (Done (a .value) (a .count)) (Refused (a
 
 -- b says whether the areas are in order
 pub record OrderIs (b : Bool) (c w r m : List ℕ) : Type 0 where
-  pub is : b ≡ areasInOrder (areas c w r m)
+  pub is : b ≡ areasInOrder c w r m
 
 -- n is the first row from 3 to 10 that refuses the step t, or 0
 pub record RefusalIs (s : State) (t : Step) (n : ℕ) : Type 0 where

@@ -33,10 +33,6 @@ holding s = areas (clockBytes (s .clocks)) (pageWords (s .pages)) (recordBytes (
 unfoldable pub rightSizes : Areas → Bool
 rightSizes a = sizesRight mainframe (a .clocks) (a .words) (a .records) (a .marks)
 
--- in order: the fixed sizes, and the rules' "in order" of the state held
-unfoldable pub areasInOrder : Areas → Bool
-areasInOrder a = rightSizes a && inOrder mainframe (heldBy a)
-
 -- the step of four fields
 unfoldable pub stepOf : ℕ → ℕ → ℕ → ℕ → Step
 stepOf kind processor object value = record { kind = kind; processor = processor; object = object; value = value }

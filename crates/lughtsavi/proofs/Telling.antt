@@ -13,7 +13,8 @@ use Rattle.engine.specs.Outcomes.{outcomeRefusal, outcomeValue, outcomeCount, t
 use Rattle.engine.specs.declared.Outcome.{Outcome}
 use Rattle.engine.specs.declared.Outcome.the-variants.{Done, Refused}
 use Rattle.engine.proofs.Stepping.{outcome-tells}
-use Rattle.lughtsavi.specs.Numbers.{slices, answerWords, stepReturn, slicesAfter, ToldAs}
+use Rattle.running.specs.Records.{answerWords}
+use Rattle.lughtsavi.specs.Numbers.{slices, stepReturn, slicesAfter, ToldAs}
 
 -- three words laid into three
 pub three-laid : (l : List ℕ) (x y z : ℕ) → length l ≡ 3 → set (set (set l 0 x) 1 y) 2 z ≡ x ∷ y ∷ z ∷ []

@@ -12,6 +12,7 @@ use Rattle.diff.specs.declared.Written.the-variants.{Length, Refused}
 use Rattle.engine.specs.Promises.{Areas, answerOf, areasAfter}
 use Rattle.engine.specs.Outcomes.{outcomeRefusal, told}
 use Rattle.engine.specs.declared.Outcome.{Outcome}
+use Rattle.running.specs.Records.{answerWords}
 
 -- ---- a step
 
@@ -24,22 +25,18 @@ pub record Slices : Type 0 where
 unfoldable pub slices : List ℕ → Areas → Slices
 slices out a = record { answer = out; areas = a }
 
--- an answer in words, in the order of the run program's line: "refusal or 0, value, count"
-unfoldable pub answerWords : Answer → List ℕ
-answerWords a = a .refusal ∷ a .value ∷ a .count ∷ []
-
 -- what a step returns: 1 where the answer has not three words, else the refusal of its answer
 unfoldable pub stepReturn : List ℕ → Areas → Step → ℕ
 stepReturn out a t = cond (eqb (length out) 3) (answerOf a t .refusal) 1
 
 -- the slices after a step: its answer and the areas that it leaves; all as they were where the answer has not three words
 unfoldable pub slicesAfter : List ℕ → Areas → Step → Slices
-slicesAfter out a t = cond (eqb (length out) 3) (slices (answerWords (answerOf a t)) (areasAfter a t)) (slices out a)
+slicesAfter out a t = cond (eqb (length out) 3) (slices (answerWords (answerOf a t ∷ [])) (areasAfter a t)) (slices out a)
 
 -- n is the outcome's refusal, and the words are its three numbers
 pub record ToldAs (o : Outcome) (n : ℕ) (out : List ℕ) : Type 0 where
   pub returned : n ≡ outcomeRefusal o
-  pub laid : out ≡ answerWords (told o)
+  pub laid : out ≡ answerWords (told o ∷ [])
 
 -- ---- a diff written
 

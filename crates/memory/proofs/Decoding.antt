@@ -188,8 +188,3 @@ module _ (s : State) (h : Sized mainframe s) where
         records = record { standing = s .records .standing; slots = slots-again s h i };
         marks = record { holders = holders-again s h i; arrived = arrived-again s h z i; wanted = s .marks .wanted };
       }
-
--- areas hold a state of which that mark is 0
-pub held-nobody-arrived : (c w r m : List ℕ) → getD (stateIn mainframe c w r m .marks .arrived) 0 0 ≡ 0
-unfolding stateIn marksIn
-held-nobody-arrived c w r m = refl

@@ -32,16 +32,6 @@ module _ (c w r m : List ℕ) where
   unfolding stateIn
   pages-read = refl
 
-  -- how many locks
-  pub locks-read : stateIn mainframe c w r m .counts .locks ≡ getD m 2 0
-  unfolding stateIn
-  locks-read = refl
-
-  -- how many records stand
-  pub standing-read : stateIn mainframe c w r m .records .standing ≡ getD m 3 0
-  unfolding stateIn recordsIn
-  standing-read = refl
-
   -- the wish for collection
   pub wanted-read : stateIn mainframe c w r m .marks .wanted ≡ getD m 4 0
   unfolding stateIn marksIn
@@ -57,18 +47,6 @@ module _ (c w r m : List ℕ) where
   pub holder-read : (l : ℕ) → l < 16 → getD (stateIn mainframe c w r m .marks .holders) l 0 ≡ getD m (holderPlace mainframe l) 0
   unfolding stateIn marksIn mainframe
   holder-read l b = get-tabulate 16 (λ k. getD m (holderPlace mainframe k) 0) l 0 b
-
--- ---- the places lie within the area
-
--- an arrived mark
-pub arrived-place-there : (p : ℕ) → p ≤ 8 → arrivedPlace mainframe p < 93
-unfolding arrivedPlace mainframe
-arrived-place-there p h = omega arith
-
--- a holder
-pub holder-place-there : (l : ℕ) → l < 16 → holderPlace mainframe l < 93
-unfolding holderPlace mainframe
-holder-place-there l h = omega arith
 
 -- ---- the state after one mark is stored anew
 

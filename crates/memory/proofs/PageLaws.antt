@@ -31,11 +31,6 @@ pub twin-row-there : (p g : ℕ) → 1 ≤ p → p ≤ 8 → g < 8 → 32 * twin
 unfolding twinRow copyRow mainframe
 twin-row-there p g h k b = omega arith
 
--- the place of a dirty mark
-pub dirty-place-there : (p g : ℕ) → 1 ≤ p → p ≤ 8 → g < 8 → dirtyPlace mainframe p g < 93
-unfolding dirtyPlace mainframe
-dirty-place-there p g h k b = omega arith
-
 -- ---- reading
 
 module _ (w m : List ℕ) (p g : ℕ) (h : 1 ≤ p) (k : p ≤ 8) (b : g < 8) where

@@ -6,7 +6,7 @@ use native.Mathlib.Nat.{mul-suc, mul-le-mul-left}
 use mathlib.Core.Path.{_≡_, refl, sym, ap, _∙_}
 use mathlib.Core.Bool.{Bool, cond, _&&_}
 use mathlib.Core.List.{List, [], _∷_, _++_, map}
-use lib.ListN.{length, getD, take, drop, length-drop, replicate, List·getD-eq-default}
+use lib.ListN.{length, getD, take, drop, length-drop, replicate}
 use lib.Seq.{length-take-le, take-append-add, getD-take, getD-drop, drop-drop, ext-getD, sets}
 use lib.Dec.{eqb, eqb·suc-suc}
 use borrow.Author.Tests.{eq-eqb, ne-eqb}
@@ -89,10 +89,6 @@ module _ {A : Type 0} where
   get-tabulate (suc n) f zero d h = refl
   get-tabulate (suc n) f (suc i) d h = get-tabulate n (λ k. f (suc k)) i d (omega arith)
 
-  -- behind the last there is none
-  pub get-tabulate-beyond : (n : ℕ) (f : ℕ → A) (i : ℕ) (d : A) → n ≤ i → getD (tabulate n f) i d ≡ d
-  get-tabulate-beyond n f i d h = List·getD-eq-default (tabulate n f) d (omega (arith, length-tabulate n f))
-
   -- functions that agree below n list the same
   pub tabulate-same : (n : ℕ) (f h : ℕ → A) → ((i : ℕ) → i < n → f i ≡ h i) → tabulate n f ≡ tabulate n h
   unfolding tabulate
@@ -145,10 +141,6 @@ module _ {A : Type 0} where
   unfolding perProcessor
   get-per-processor n f zero d h k = absurd (omega arith)
   get-per-processor n f (suc p) d h k = get-tabulate n (λ k. f (suc k)) p d (omega arith)
-
-  -- behind the last processor there is none
-  pub get-per-processor-beyond : (n : ℕ) (f : ℕ → List A) (p : ℕ) (d : List A) → n < p → getD (perProcessor n f) p d ≡ d
-  get-per-processor-beyond n f p d h = List·getD-eq-default (perProcessor n f) d (omega (arith, length-per-processor n f))
 
   -- functions that agree for every processor give the same table
   pub per-processor-same : (n : ℕ) (f h : ℕ → List A) → ((p : ℕ) → 1 ≤ p → p ≤ n → f p ≡ h p) → perProcessor n f ≡ perProcessor n h

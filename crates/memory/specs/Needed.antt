@@ -1,8 +1,11 @@
--- What the functions on lent memory ask of one another: areas of the fixed sizes, and rows and places that lie within them. Assumes nothing.
+-- What the functions on lent memory ask of one another and promise: areas of the fixed sizes, the state in them, and rows and places that lie within them. Assumes nothing.
 use Prim.Native.Nat.{ℕ, _+_, _*_, _≤_, _<_}
 use mathlib.Core.Path.{_≡_}
 use mathlib.Core.List.{List}
 use lib.ListN.{length}
+use Rattle.rules.specs.State.{mainframe, State}
+use Rattle.rules.proofs.Facts.{InOrder}
+use Rattle.memory.specs.Areas.{stateIn}
 
 -- the four areas have the sizes of the mainframe's state
 pub record Lent (c w r m : List ℕ) : Type 0 where
@@ -10,6 +13,16 @@ pub record Lent (c w r m : List ℕ) : Type 0 where
   pub words : length w ≡ 4096
   pub records : length r ≡ 17280
   pub marks : length m ≡ 93
+
+-- they have their sizes, and the state in them is in order
+pub record Ready (c w r m : List ℕ) : Type 0 where
+  pub lent : Lent c w r m
+  pub in-order : InOrder mainframe (stateIn mainframe c w r m)
+
+-- they have their sizes and hold the state s
+pub record Holds (c w r m : List ℕ) (s : State) : Type 0 where
+  pub lent : Lent c w r m
+  pub is : stateIn mainframe c w r m ≡ s
 
 -- the row-th row of n elements lies within the area
 pub record RowThere {A : Type 0} (n : ℕ) (l : List A) (row : ℕ) : Type 0 where

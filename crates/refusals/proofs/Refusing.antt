@@ -12,8 +12,9 @@ use Rattle.rules.specs.Refusals.{Step, Action, Read, Write, Acquire, Release, A
 use Rattle.rules.specs.State.{mainframe, dirtyAt, State, clock, own, holder, hasArrived}
 use Rattle.rules.proofs.Accepted.{present-says}
 use Rattle.memory.specs.Areas.{pagesIn, recordsIn, stateIn}
+use Rattle.memory.specs.Needed.{Ready}
 use Rattle.refusals.specs.Parts.{stepOf, seen, fieldsFit, refusalOfKind, refusalOfFields, refusalOfKnown}
-use Rattle.refusals.specs.Needed.{Ready, Counted, Shown, ShownKind, KnownStep, FittingStep, KnownKind, MarkOf}
+use Rattle.refusals.specs.Needed.{Counted, Shown, ShownKind, KnownStep, FittingStep, KnownKind, MarkOf}
 use Rattle.refusals.proofs.Marked.{nobody-absent, count-decides, arrived-mark, holder-mark, on-page, dirty-mark, own-row-there, own-entry-is}
 use Rattle.refusals.proofs.Counting.{pages-begin, pages-next, pages-more-dirty, pages-more-clean, pages-all, pages-few, all-begin, all-next, all-more, all-counted, all-few, records-to-come-are, product-fits, sum-fits, marks-decide-room}
 use Rattle.refusals.proofs.ByKind.{kind-known, kind-zero-unknown, kind-above-unknown, write-uses-value, value-decides, value-unfit, object-decides, word-decides, lock-decides, no-object, word-there, lock-there, page-of-word, clocks-of-write, counted-of-write, dirty-takes-stores, no-interval-left, no-room-left, write-has-space, write-has-ample-space, lock-free, lock-held, holder-releases, not-the-holder, write-of-kind, lock-of-acquire, lock-of-release, write-decides, acquire-decides, release-decides, other-kinds-pass}

@@ -4,15 +4,6 @@ use Prim.Native.Nat.{ℕ, _≤_, _<_}
 use mathlib.Core.Path.{_≡_}
 use mathlib.Core.List.{List}
 use lib.ListN.{length, getD}
-use Rattle.rules.specs.State.{mainframe}
-use Rattle.rules.proofs.Facts.{InOrder}
-use Rattle.memory.specs.Areas.{stateIn}
-use Rattle.memory.specs.Needed.{Lent}
-
--- the four areas have their sizes, and the state in them is in order
-pub record Ready (c w r m : List ℕ) : Type 0 where
-  pub lent : Lent c w r m
-  pub in-order : InOrder mainframe (stateIn mainframe c w r m)
 
 -- the area of the marks, and counts in range in it
 pub record Counted (m : List ℕ) : Type 0 where

@@ -8,9 +8,9 @@ ghost use Rattle.rules.specs.State.{mainframe, dirtyAt, own, holder, hasArrived
 ghost use Rattle.rules.specs.InOrder.{present, dirtyPages};
 ghost use Rattle.rules.specs.Refusals.{Write, Acquire, Release, lateRefusal, refusalInOrder};
 ghost use Rattle.memory.specs.Areas.{stateIn};
-ghost use Rattle.memory.specs.Needed.{ClocksOf};
+ghost use Rattle.memory.specs.Needed.{ClocksOf, Ready};
 ghost use Rattle.refusals.specs.Parts.{stepOf, seen, fieldsFit, valueFits, refusalOfKind, refusalOfFields, refusalOfKnown, dirtyPagesOf, recordsToCome, roomIfAllDirty};
-ghost use Rattle.refusals.specs.Needed.{Ready, Shown, ShownKind, Counted, KnownStep, FittingStep, KnownKind, MarkOf, LockThere, PagesOf, PageOf, WriteOf};
+ghost use Rattle.refusals.specs.Needed.{Shown, ShownKind, Counted, KnownStep, FittingStep, KnownKind, MarkOf, LockThere, PagesOf, PageOf, WriteOf};
 use clock::PageId;
 use clock::ProcessorId;
 use memory::clock_at;

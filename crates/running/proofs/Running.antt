@@ -18,7 +18,7 @@ use Rattle.rules.specs.State.{Limits, mainframe, State}
 use Rattle.rules.proofs.InOrderRuns.{answers-in-order, state-in-order}
 use Rattle.rules.proofs.DemandThree.{demand-three}
 use Rattle.memory.specs.Areas.{stateIn}
-use Rattle.refusals.specs.Needed.{Ready}
+use Rattle.memory.specs.Needed.{Ready}
 use Rattle.engine.specs.Promises.{Areas, areas, holding, openingOf, openRefusal, areasOpened}
 use Rattle.engine.proofs.Answering.{holding-is}
 use Rattle.engine.proofs.Following.{opened-holds, opened-ready, accepted-opening}

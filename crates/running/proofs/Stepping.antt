@@ -11,7 +11,7 @@ use Rattle.rules.specs.Runs.{answersInOrder, stateInOrder}
 use Rattle.rules.specs.State.{mainframe, State}
 use Rattle.rules.proofs.Kept.{next-keeps-order}
 use Rattle.memory.specs.Areas.{stateIn}
-use Rattle.refusals.specs.Needed.{Ready}
+use Rattle.memory.specs.Needed.{Ready}
 use Rattle.engine.specs.declared.Outcome.{Outcome}
 use Rattle.engine.specs.Outcomes.{told, SteppedAs}
 use Rattle.engine.proofs.Stepping.{told-in-order}

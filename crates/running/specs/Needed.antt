@@ -7,8 +7,7 @@ use lib.Seq.{sets}
 use Rattle.rules.specs.Refusals.{refusedAs, answerInOrder, nextInOrder}
 use Rattle.rules.specs.Runs.{answersInOrder, stateInOrder}
 use Rattle.rules.specs.State.{mainframe, State}
-use Rattle.refusals.specs.Needed.{Ready}
-use Rattle.closing.specs.Parts.{Holds}
+use Rattle.memory.specs.Needed.{Ready, Holds}
 use Rattle.engine.specs.declared.Outcome.{Outcome}
 use Rattle.engine.specs.Outcomes.{told}
 use Rattle.engine.specs.Promises.{Areas, stepOf, areasOpened}

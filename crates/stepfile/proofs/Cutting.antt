@@ -149,11 +149,6 @@ pub eight-taken : (f : Feed) (chunk : List ℕ) (i : ℕ) → f .held ≡ [] →
 eight-taken f chunk i e s h =
     eight-first f (drop i chunk) e s h ∙ ap (λ (xs : List ℕ). bytesTaken (recordTaken f (take 8 (drop i chunk))) xs) (drop-drop 8 i chunk)
 
--- the same with the eight bytes written out
-pub eight-bytes : (f : Feed) (b0 b1 b2 b3 b4 b5 b6 b7 : ℕ) (rest : List ℕ) → f .held ≡ [] → f .stopped ≡ false
-    → bytesTaken f (b0 ∷ b1 ∷ b2 ∷ b3 ∷ b4 ∷ b5 ∷ b6 ∷ b7 ∷ rest) ≡ bytesTaken (recordTaken f (b0 ∷ b1 ∷ b2 ∷ b3 ∷ b4 ∷ b5 ∷ b6 ∷ b7 ∷ [])) rest
-eight-bytes f b0 b1 b2 b3 b4 b5 b6 b7 rest e s = eight-first f (b0 ∷ b1 ∷ b2 ∷ b3 ∷ b4 ∷ b5 ∷ b6 ∷ b7 ∷ rest) e s (omega arith)
-
 -- ---- what feeding makes
 
 -- fewer than eight bytes are held, and the next number is at most 1,000,001
@@ -244,7 +239,3 @@ module _ (a₀ a : Areas) (before chunk : List ℕ) (p : Progress) (h : Reached 
   pub cut-lines : after a₀ (before ++ chunk) .lines ≡ after a₀ before .lines ++ bytesTaken (standing p a) chunk .lines
   unfolding behind
   cut-lines = ap (λ (g : Feed). g .lines) cut-taken
-
-  -- the progress is one that feeding makes
-  pub reached-sound : sound p ≡ true
-  reached-sound = ap (λ (q : Progress). sound q) (h .progress) ∙ after-sound a₀ before

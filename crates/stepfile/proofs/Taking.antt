@@ -18,9 +18,10 @@ use Rattle.rules.specs.Refusals.{Answer, Step}
 use Rattle.rules.specs.State.{mainframe}
 use Rattle.memory.proofs.Encoding.{lent-right}
 use Rattle.memory.specs.Areas.{stateIn}
-use Rattle.refusals.specs.Needed.{Ready}
+use Rattle.memory.specs.Needed.{Ready}
 use Rattle.engine.specs.Outcomes.{OrderIs, SteppedAs, outcomeCount, outcomeRefusal, outcomeValue, told}
-use Rattle.engine.specs.Promises.{Areas, answerOf, areas, areasAfter, areasInOrder, areasOpened, heldBy, openRefusal, rightSizes}
+use Rattle.checking.specs.Areas.{areasInOrder}
+use Rattle.engine.specs.Promises.{Areas, answerOf, areas, areasAfter, areasOpened, heldBy, openRefusal, rightSizes}
 use Rattle.engine.specs.declared.Outcome.{Outcome}
 use Rattle.engine.specs.declared.Outcome.the-variants.{Done, Refused}
 use Rattle.engine.proofs.Answering.{in-order-after, in-order-answered, out-of-order, out-of-order-untouched, ready-when-fine}
@@ -89,7 +90,7 @@ module _ (out : List ℕ) (at number : ℕ) (out′ : List ℕ) (end : ℕ) wher
 
 -- memory that is ready is in order
 pub ready-order : (c w r m : List ℕ) → Ready c w r m → OrderIs true c w r m
-unfolding areasInOrder areas heldBy rightSizes
+unfolding areasInOrder
 ready-order c w r m h =
     record {
       is =
@@ -100,7 +101,9 @@ ready-order c w r m h =
 
 -- areas that are the same are in the same order
 same-order : (b : Bool) (c w r m c′ w′ r′ m′ : List ℕ) → OrderIs b c w r m → areas c′ w′ r′ m′ ≡ areas c w r m → OrderIs b c′ w′ r′ m′
-same-order b c w r m c′ w′ r′ m′ h e = record { is = h .is ∙ ap (λ (a : Areas). areasInOrder a) (sym e) }
+unfolding areas
+same-order b c w r m c′ w′ r′ m′ h e =
+    record { is = h .is ∙ ap (λ (a : Areas). areasInOrder (a .clocks) (a .words) (a .records) (a .marks)) (sym e) }
 
 -- ---- a step
 

@@ -21,8 +21,8 @@ use Rattle.rules.proofs.KeptParts.{among-when, parts-of, in-order-of}
 use Rattle.memory.specs.Areas.{clockRow, arrivedPlace, clocksIn, stateIn}
 use Rattle.memory.specs.Layout.{rowOf}
 use Rattle.memory.proofs.MarkLaws.{processors-read, arrived-written}
+use Rattle.memory.specs.Needed.{Holds}
 use Rattle.closing.specs.Needed.{Closable}
-use Rattle.closing.specs.Parts.{Holds}
 use Rattle.steps.specs.Needed.{Acts, ActsOnLock, RoundComplete, TwoRows, MarksThere}
 use Rattle.steps.specs.Effects.{CountedAs, ClosedAtLock, lockTaken, lockFreed, LockTaken, LockFreed, ArrivedAll, completed}
 use Rattle.steps.proofs.Learning.{learned-clock}

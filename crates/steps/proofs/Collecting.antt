@@ -19,10 +19,10 @@ use Rattle.rules.proofs.KeptFetch.{fetched-parts}
 use Rattle.rules.proofs.KeptParts.{among-when, Parts, parts-of, in-order-of}
 use Rattle.rules.proofs.Slots.{length-standing}
 use Rattle.memory.specs.Areas.{stateIn}
-use Rattle.memory.specs.Needed.{Lent}
+use Rattle.memory.specs.Needed.{Lent, Ready}
 use Rattle.memory.proofs.MarkLaws.{processors-read, pages-read}
 use Rattle.fetching.specs.Needed.{Fetchable}
-use Rattle.steps.specs.Needed.{Acts, Ready}
+use Rattle.steps.specs.Needed.{Acts}
 use Rattle.steps.specs.Effects.{CountedAs}
 
 -- ---- a fetch keeps order and counts at most as many records as stand

@@ -10,9 +10,9 @@ use borrow.Author.Needs.{needs}
 use Rattle.rules.specs.State.{mainframe, State}
 use Rattle.rules.specs.Steps.{roundDone, Fetches, allFetched, emptied, collected, wantsCollection}
 use Rattle.memory.specs.Areas.{stateIn}
-use Rattle.memory.specs.Needed.{Lent}
+use Rattle.memory.specs.Needed.{Lent, Ready}
 use Rattle.memory.proofs.MarkLaws.{wanted-read}
-use Rattle.steps.specs.Needed.{Ready, RoundComplete, ClocksAndMarks, RoundThere}
+use Rattle.steps.specs.Needed.{RoundComplete, ClocksAndMarks, RoundThere}
 use Rattle.steps.specs.Effects.{CountedAs, RoundDone, Emptied, completed}
 
 -- ---- collection

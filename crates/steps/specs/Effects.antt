@@ -9,7 +9,7 @@ use Rattle.rules.specs.State.{mainframe, Processor, Lock, Clocks, clockOf, with
 use Rattle.rules.specs.Close.{closed}
 use Rattle.rules.specs.Steps.{Effect, pageOfWord, twinTaken, stored, withHolder, learned, allArrived, roundDone, Fetches, emptied, collected, wantsCollection, want}
 use Rattle.memory.specs.Areas.{copyRow, clocksIn, stateIn}
-use Rattle.closing.specs.Parts.{Holds}
+use Rattle.memory.specs.Needed.{Holds}
 use Rattle.steps.specs.Needed.{LockThere}
 
 -- the value and the count answered are those of the effect e, and so is the state that the areas hold

@@ -28,11 +28,6 @@ pub record ActsOnLock (c w r m : List ℕ) (p l : ℕ) : Type 0 where
   pub acts : Acts c w r m p
   pub lock : l < stateIn mainframe c w r m .counts .locks
 
--- the areas have their sizes, and the state in them is in order
-pub record Ready (c w r m : List ℕ) : Type 0 where
-  pub lent : Lent c w r m
-  pub in-order : InOrder mainframe (stateIn mainframe c w r m)
-
 -- the areas have their sizes, and the state in them is in order once its round is completed
 pub record RoundComplete (c w r m : List ℕ) : Type 0 where
   pub lent : Lent c w r m

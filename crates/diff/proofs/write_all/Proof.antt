@@ -2,7 +2,6 @@
 use Rattle.diff.proofs.WriteLoops.{write-laws}
 use Rattle.diff.proofs.write_all.Statement.{statement}
 use Rattle.diff.proofs.write_all.Tie as tie
-use borrow.Author.Needs.{needs}
 
 pub write-all-spec : {M : Type 1} → statement M
 write-all-spec =
