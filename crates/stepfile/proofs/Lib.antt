@@ -7,6 +7,7 @@ pub mod Taking
 pub mod HeldBytes
 pub mod Sound
 pub mod Passing
+pub mod Runs
 pub mod Chunks
 pub mod Answers
 pub mod Finishing

@@ -1,7 +1,7 @@
 -- `take_steps` meets its contract: the steps before i are taken, and the next has this number. Assumes nothing.
 use Prim.Native.Nat.{_-_}
 use borrow.Author.Needs.{needs}
-use Rattle.stepfile.proofs.Passing.{Running, running-more, passing-laws}
+use Rattle.stepfile.proofs.Runs.{Running, running-more, run-laws}
 use Rattle.stepfile.proofs.take_steps.Statement.{statement}
 use Rattle.stepfile.proofs.take_steps.Tie as tie
 
@@ -20,4 +20,4 @@ loop-again c =
 pub take-steps-spec : {M : Type 1} → statement M
 take-steps-spec =
     tie.close
-    (tie.spec Inv-loop μ-loop (λ c. search passing-laws) (λ c κs. search passing-laws) (λ c κs. search passing-laws) (λ c. search passing-laws) (λ c. search passing-laws) (λ c. search passing-laws) loop-again (λ c. search passing-laws) (λ c. search passing-laws) (λ c. search passing-laws) (λ c. search passing-laws) (λ c. search passing-laws) (λ c. search passing-laws))
+    (tie.spec Inv-loop μ-loop (λ c. search run-laws) (λ c κs. search run-laws) (λ c κs. search run-laws) (λ c. search run-laws) (λ c. search run-laws) (λ c. search run-laws) loop-again (λ c. search run-laws) (λ c. search run-laws) (λ c. search run-laws) (λ c. search run-laws) (λ c. search run-laws) (λ c. search run-laws))
