@@ -1,10 +1,9 @@
 -- What the engine's entry points answer and leave in lent memory, for every input. Assumes nothing.
 use Prim.Native.Nat.{ℕ, _+_, _*_}
-use mathlib.Core.Bool.{Bool, cond, not, _&&_}
+use mathlib.Core.Bool.{Bool, cond, not}
 use mathlib.Core.List.{List}
 use lib.ListN.{length, getD}
 use lib.Dec.{eqb}
-use Rattle.rules.specs.InOrder.{inOrder}
 use Rattle.rules.specs.Opening.{Opening, openingRefusal, opened}
 use Rattle.rules.specs.Refusals.{Step, Answer, refusedAs, answer, next}
 use Rattle.rules.specs.State.{mainframe, State}

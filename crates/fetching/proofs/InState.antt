@@ -21,8 +21,9 @@ use Rattle.memory.specs.Needed.{OnPage}
 use Rattle.memory.proofs.ClockLaws.{clock-read}
 use Rattle.memory.proofs.RowLaws.{tabulate-same, map-tabulate}
 use Rattle.memory.proofs.SlotLaws.{slot-read, slot-byte, record-read}
+use Rattle.pending.specs.Pending.{recordOf}
 use Rattle.fetching.specs.Keys.{dueOf}
-use Rattle.fetching.specs.Slots.{recordOf, dueIn}
+use Rattle.fetching.specs.Slots.{dueIn}
 use Rattle.fetching.specs.Needed.{SlotSound, SlotsSound, Fetchable}
 
 -- ---- the same records

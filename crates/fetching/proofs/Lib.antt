@@ -1,5 +1,3 @@
-pub mod Spanning
-pub mod Listing
 pub mod Sorting
 pub mod Ordering
 pub mod Ranking

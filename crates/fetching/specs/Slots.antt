@@ -1,8 +1,6 @@
 -- The records in the area of the slots, and those that a fetch applies. Assumes nothing.
 use Prim.Native.Nat.{ℕ, _+_, _-_, _*_}
-use mathlib.Core.Bool.{Bool}
 use mathlib.Core.List.{List, map}
-use lib.ListN.{getD, take, drop}
 use lib.Seq.{sets}
 use lib.Dec.{ltb}
 use Rattle.diff.specs.Reading.{applied}
@@ -11,26 +9,8 @@ use Rattle.rules.specs.State.{mainframe, Record}
 use Rattle.rules.specs.Tables.{sortBy}
 use Rattle.memory.specs.Areas.{clocksIn}
 use Rattle.memory.specs.Layout.{rowOf, tabulate}
-use Rattle.fetching.specs.Keys.{keyOf, dueOf, pendingBy, slotsBy, among}
-
--- the record in slot i
-unfoldable pub recordOf : List ℕ → ℕ → Record
-recordOf r i =
-    record {
-      processor = getD r (135 * i) 0;
-      interval = getD r (135 * i + 1) 0;
-      page = getD r (135 * i + 2) 0;
-      diff = take (getD r (135 * i + 3) 0) (drop (135 * i + 4) r);
-    }
-
--- the interval and the page of the record in slot i as one number: intervals are below 256
-abbrev pub placeOf : List ℕ → ℕ → ℕ
-placeOf r i = getD r (135 * i + 1) 0 + 256 * getD r (135 * i + 2) 0
-
--- whether that number is among those that are news of the record's processor q: at q - 1, `lo` has the intervals that are known already
--- and `span` how many are news
-unfoldable pub dueAmong : List ℕ → List ℕ → List ℕ → ℕ → ℕ → Bool
-dueAmong r lo span first i = among (placeOf r i) (first + getD lo (getD r (135 * i) 0 - 1) 0) (getD span (getD r (135 * i) 0 - 1) 0)
+use Rattle.pending.specs.Pending.{recordOf, pendingBy, slotsBy}
+use Rattle.fetching.specs.Keys.{keyOf, dueOf}
 
 -- the records in the first n slots that are pending for processor p and page g, in the order in which they are applied
 unfoldable pub dueIn : List ℕ → List ℕ → ℕ → ℕ → ℕ → List Record

@@ -6,7 +6,7 @@ use mathlib.Core.Bool.{cond}
 use mathlib.Core.List.{List, [], _∷_}
 use lib.ListN.{length}
 use lib.Dec.{eqb}
-use Rattle.rules.specs.Refusals.{Step, Answer}
+use Rattle.rules.specs.Refusals.{Step}
 use Rattle.diff.specs.declared.Written.{Written}
 use Rattle.diff.specs.declared.Written.the-variants.{Length, Refused}
 use Rattle.engine.specs.Promises.{Areas, answerOf, areasAfter}

@@ -21,7 +21,7 @@ use Rattle.memory.specs.Areas.{stateIn}
 use Rattle.memory.specs.Needed.{Ready}
 use Rattle.engine.specs.Outcomes.{OrderIs, SteppedAs, outcomeCount, outcomeRefusal, outcomeValue, told}
 use Rattle.checking.specs.Areas.{areasInOrder}
-use Rattle.engine.specs.Promises.{Areas, answerOf, areas, areasAfter, areasOpened, heldBy, openRefusal, rightSizes}
+use Rattle.engine.specs.Promises.{Areas, answerOf, areas, areasAfter, areasOpened, openRefusal}
 use Rattle.engine.specs.declared.Outcome.{Outcome}
 use Rattle.engine.specs.declared.Outcome.the-variants.{Done, Refused}
 use Rattle.engine.proofs.Answering.{in-order-after, in-order-answered, out-of-order, out-of-order-untouched, ready-when-fine}

@@ -1,7 +1,7 @@
 -- `flag_among` meets its contract: the difference that wraps decides. Assumes nothing.
-use Rattle.fetching.proofs.Listing.{list-laws}
-use Rattle.fetching.proofs.flag_among.Statement.{statement}
-use Rattle.fetching.proofs.flag_among.Tie as tie
+use Rattle.pending.proofs.Listing.{list-laws}
+use Rattle.pending.proofs.flag_among.Statement.{statement}
+use Rattle.pending.proofs.flag_among.Tie as tie
 
 pub flag-among-spec : {M : Type 1} → statement M
 flag-among-spec =
