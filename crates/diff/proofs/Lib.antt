@@ -4,7 +4,6 @@ pub mod Legal
 pub mod Overlay
 pub mod Checking
 pub mod Applying
-pub mod Pairs
 pub mod Theorems
 pub mod Writing
 pub mod Measuring

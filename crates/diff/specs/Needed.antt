@@ -50,10 +50,6 @@ pub record PairsThere (bytes : List ℕ) (n : ℕ) : Type 0 where
   pub few : n ≤ 16
   pub within : 1 + 2 * n ≤ length bytes
 
--- the bytes are a diff
-pub record Readable (bytes : List ℕ) : Type 0 where
-  pub accepted : readRefusal 32 bytes ≡ 0
-
 -- the bytes are a diff and the page has 32 words
 pub record Applicable (bytes page : List ℕ) : Type 0 where
   pub accepted : readRefusal 32 bytes ≡ 0

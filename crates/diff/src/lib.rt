@@ -3,13 +3,13 @@
 ghost use mathlib.Core.Path.{_≡_};
 ghost use mathlib.Core.Bool.{cond};
 ghost use Prim.Native.Nat.{_+_, _-_, _*_, _<_, _≤_, min};
-ghost use lib.ListN.{length, getD, take, drop};
+ghost use lib.ListN.{length, getD};
 ghost use lib.Seq.{sets};
 ghost use lib.Dec.{eqb};
 ghost use Rattle.diff.specs.Format.{difference, ended, runs, setWords, pairBytes, wordBytes, wordsBytes, written};
-ghost use Rattle.diff.specs.Reading.{runsAt, runsIn, wordsPlace, wordAt, wordsAt, pairHolds, pairsRefusal, readRefusal, applied};
-ghost use Rattle.diff.specs.Answers.{writeAnswer, outAfter, applyRefusal, pageAfter, pairAmong, pairAt, wordsOf};
-ghost use Rattle.diff.specs.Needed.{PagesWhole, RoomForDiff, RoomForRuns, SetAhead, NoneBetween, RoomForPair, PairsThere, Readable, Applicable, NextThere, RunThere};
+ghost use Rattle.diff.specs.Reading.{runsAt, wordAt, wordsAt, pairHolds, pairsRefusal, readRefusal, applied};
+ghost use Rattle.diff.specs.Answers.{writeAnswer, outAfter, applyRefusal, pageAfter};
+ghost use Rattle.diff.specs.Needed.{PagesWhole, RoomForDiff, RoomForRuns, SetAhead, NoneBetween, RoomForPair, PairsThere, Applicable, NextThere, RunThere};
 
 // What writing a diff answers: how many bytes it has, or the number of a refusal.
 pub enum Written {
@@ -20,17 +20,6 @@ pub enum Written {
 // What applying a diff answers: the number of a refusal, or 0.
 pub struct Applied {
     pub refusal: u8,
-}
-
-// What stands at a place of a diff: a run's offset and length in words, where its words stand, and the next pair's place.
-pub enum Pair {
-    At {
-        offset: usize,
-        len: usize,
-        words: usize,
-        next: usize,
-    },
-    Nothing,
 }
 
 // Writes what turns the page `old` into the page `new` as a diff at the start of `out`.
@@ -314,95 +303,6 @@ fn word_at(bytes: &[u8], at: usize) -> u32
     let b2 = wide32(bytes[at + 2]);
     let b3 = wide32(bytes[at + 3]);
     b0 + 256 * b1 + 65536 * b2 + 16777216 * b3
-}
-
-// The pair at a place of a diff, or that there is none.
-pub fn pair_at(bytes: &[u8], at: usize) -> Pair
-    ensures { λ r. ⌜ r ≡ pairAt 32 (now (bytes .entry)) at ⌝ }
-{
-    if check(bytes) != 0 {
-        return Pair::Nothing;
-    }
-    find_pair(bytes, at)
-}
-
-// The same where the bytes are known to be a diff.
-fn find_pair(bytes: &[u8], at: usize) -> Pair
-    requires { ⌜ Readable (now bytes) ⌝ }
-    ensures { λ r. ⌜ r ≡ pairAmong (runsIn (now (bytes .entry))) 1 (wordsPlace (now (bytes .entry))) at ⌝ }
-{
-    let n = wide(bytes[0]);
-    let mut first: usize = 1;
-    let mut left = n;
-    let mut words = 1 + 2 * n;
-    while 0 < left {
-        let offset = wide(bytes[first]);
-        let len = wide(bytes[first + 1]);
-        if at == first {
-            return Pair::At {
-                offset,
-                len,
-                words,
-                next: first + 2,
-            };
-        }
-        words = words + 4 * len;
-        first = first + 2;
-        left = left - 1;
-    }
-    Pair::Nothing
-}
-
-// A reader stands at a place of a diff's bytes.
-pub struct Reader<'a> {
-    pub bytes: &'a [u8],
-    pub at: usize,
-}
-
-// The reader that stands at a place; the first pair's is 1.
-pub fn stand<'a>(bytes: &'a [u8], at: usize) -> Reader<'a>
-    ensures { λ r. ⌜ (r .bytes ≡ bytes .entry) × (r .at ≡ at) ⌝ }
-{
-    Reader { bytes, at }
-}
-
-// The pair at which a reader stands, with the place of the next, or that there is none.
-pub fn next<'a>(r: Reader<'a>) -> Pair
-    ensures { λ p. ⌜ p ≡ pairAt 32 (now (r .entry .bytes)) (r .entry .at) ⌝ }
-{
-    pair_at(r.bytes, r.at)
-}
-
-// The same on plain parameters, for every other caller.
-pub fn read_pair(bytes: &[u8], at: usize) -> Pair
-    ensures { λ r. ⌜ r ≡ pairAt 32 (now (bytes .entry)) at ⌝ }
-{
-    next(stand(bytes, at))
-}
-
-// The words of the run at a place, as that part of the caller's bytes; no bytes where there is no pair.
-pub fn words_at(bytes: &[u8], at: usize) -> &[u8]
-    ensures { λ r. ⌜ now r ≡ wordsOf (pairAt 32 (now (bytes .entry)) at) (now (bytes .entry)) ⌝ }
-{
-    let Pair::At {
-        offset: _,
-        len,
-        words,
-        next: _,
-    } = pair_at(bytes, at)
-    else {
-        return &bytes[..0];
-    };
-    words_part(bytes, words, len)
-}
-
-// The len words from a place on, as that part of the bytes.
-fn words_part(bytes: &[u8], words: usize, len: usize) -> &[u8]
-    requires { ⌜ words + 4 * len ≤ length (now bytes) ⌝ }
-    ensures { λ r. ⌜ now r ≡ take (4 * len) (drop words (now (bytes .entry))) ⌝ }
-{
-    let end = words + 4 * len;
-    &bytes[words..end]
 }
 
 fn wide(x: u8) -> usize

@@ -1,7 +1,7 @@
 -- `words_part` meets its contract. Assumes nothing.
-use Rattle.diff.proofs.Pairs.{pair-laws}
-use Rattle.diff.proofs.words_part.Statement.{statement}
-use Rattle.diff.proofs.words_part.Tie as tie
+use Rattle.reader.proofs.Pairs.{pair-laws}
+use Rattle.reader.proofs.words_part.Statement.{statement}
+use Rattle.reader.proofs.words_part.Tie as tie
 
 pub words-part-spec : {M : Type 1} → statement M
 words-part-spec =

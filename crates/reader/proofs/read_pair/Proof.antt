@@ -38,25 +38,25 @@ use denote.Triple.Table.{entered, cited}
 use denote.Triple.Walked.{says, Stays, stay-none, stay-none-slice, walkOf, goes-none, goes-none-slice, Walks, ends-at, walked, walk-meets}
 use denote.Exit.{yes}
 use denote.Triple.Clauses.{ensured, lasts}
-use Rattle.diff.specs.Answers.{pairAt}
-use Rattle.diff.specs.declared.Reader.{Reader}
-use Rattle.diff.specs.declared.Pair.{Pair}
-use Rattle.diff.proofs.Reader as T
-use Rattle.diff.proofs.Reader.Laws as T′
-use Rattle.diff.proofs.Pair as S
-use Rattle.diff.proofs.Pair.Laws as S′
-use Rattle.diff.proofs.stand as stand
-use Rattle.diff.proofs.stand.Symbol as stand-def
-use Rattle.diff.proofs.stand.Symbol.{name as #diff·stand}
-use Rattle.diff.proofs.stand.Met as stand-thm
-use Rattle.diff.proofs.next as next
-use Rattle.diff.proofs.next.Symbol as next-def
-use Rattle.diff.proofs.next.Symbol.{name as #diff·next}
-use Rattle.diff.proofs.next.Met as next-thm
-use Rattle.diff.proofs.read_pair.Key.{name as #diff·read-pair}
-use Rattle.diff.proofs.read_pair as read-pair
-use Rattle.diff.proofs.read_pair.Statement as stated
-use Rattle.diff.proofs.read_pair.Code as code
+use Rattle.reader.specs.Pairs.{pairAt}
+use Rattle.reader.specs.declared.Reader.{Reader}
+use Rattle.reader.specs.declared.Pair.{Pair}
+use Rattle.reader.proofs.Reader as T
+use Rattle.reader.proofs.Reader.Laws as T′
+use Rattle.reader.proofs.Pair as S
+use Rattle.reader.proofs.Pair.Laws as S′
+use Rattle.reader.proofs.stand as stand
+use Rattle.reader.proofs.stand.Symbol as stand-def
+use Rattle.reader.proofs.stand.Symbol.{name as #reader·stand}
+use Rattle.reader.proofs.stand.Met as stand-thm
+use Rattle.reader.proofs.next as next
+use Rattle.reader.proofs.next.Symbol as next-def
+use Rattle.reader.proofs.next.Symbol.{name as #reader·next}
+use Rattle.reader.proofs.next.Met as next-thm
+use Rattle.reader.proofs.read_pair.Key.{name as #reader·read-pair}
+use Rattle.reader.proofs.read_pair as read-pair
+use Rattle.reader.proofs.read_pair.Statement as stated
+use Rattle.reader.proofs.read_pair.Code as code
 
 -- the struct's type, over the signature's lifetimes
 abbrev B : Lfts 1 → RattleType
@@ -124,7 +124,7 @@ module _ {M : Type 1} (𝓤 : URA M) (H : Heap 𝓤) (A : Atoms 𝓤) (W : Given
       suffices ! _ (ends-at 𝓤 H A read-pair.ended stayed (read-pair.clauses 𝓤 H A mem run) W (((κ, tt), (q, tt), tt, (s, (n, tt)), passed), tt) u t (tt, (tt, tt)) (tt, (tt, tt))) $ says ! e $
       move ! (1 ∷ []) $ frame ! $ nothing ! $ owned ! usize (Is usize) (uint-makes 𝓤 H A W w64) n _ (refl, ok) $ fjoin ! $ move ! (2 ∷ 0 ∷ []) $ fjoin ! $ frame ! $ done !
 
-  module _ (C : Calls 𝓤 H) (Λ : Loops 𝓤 H) (fm : FmC 𝓤 H (W .laws) C) (known-stand : Triple 𝓤 (C #diff·stand) (Stand 𝓤 H A mem run)) (known-next : Triple 𝓤 (C #diff·next) (Next 𝓤 H A mem run)) where
+  module _ (C : Calls 𝓤 H) (Λ : Loops 𝓤 H) (fm : FmC 𝓤 H (W .laws) C) (known-stand : Triple 𝓤 (C #reader·stand) (Stand 𝓤 H A mem run)) (known-next : Triple 𝓤 (C #reader·next) (Next 𝓤 H A mem run)) where
     walk : Is (ShrSlice (named 0) κ u8) s (v ∷ []) → ent 𝓤 (onEntry 𝓤 H A read-pair.signature (κ, tt) (q, tt) (s, (n, tt)) passed) (WpFn 𝓤 H C Λ code.function (v ∷ vint w64 n ∷ []) Post)
     walk p =
         qed W (raw (onEntry 𝓤 H A read-pair.signature (κ, tt) (q, tt) (s, (n, tt)) passed) ∷ []) ∵ enter ! C Λ code.function (v ∷ vint w64 n ∷ []) _ $
@@ -150,13 +150,13 @@ module _ {M : Type 1} (𝓤 : URA M) (H : Heap 𝓤) (A : Atoms 𝓤) (W : Given
         by ! (exits t u′ (e′ ∙ (ap (λ (x : RefT (List ℕ)). pairAt 32 (now x) (r .at)) (e .0) ∙ ap (pairAt 32 (now s)) (e .1))))))))))))))))
 
 module _ {M : Type 1} (𝓤 : URA M) (H : Heap 𝓤) (A : Atoms 𝓤) (W : Given 𝓤 H A) (mem : Memory → SProp 𝓤) (run : Routine → Fun 𝓤) where
-  read-pair-walks : (C : Calls 𝓤 H) (Λ : Loops 𝓤 H) → FmC 𝓤 H (W .laws) C → Triple 𝓤 (C #diff·stand) (Stand 𝓤 H A mem run) → Triple 𝓤 (C #diff·next) (Next 𝓤 H A mem run)
+  read-pair-walks : (C : Calls 𝓤 H) (Λ : Loops 𝓤 H) → FmC 𝓤 H (W .laws) C → Triple 𝓤 (C #reader·stand) (Stand 𝓤 H A mem run) → Triple 𝓤 (C #reader·next) (Next 𝓤 H A mem run)
       → Walks 𝓤 H A read-pair.ended stayed (WpFn 𝓤 H C Λ code.function) (read-pair.clauses 𝓤 H A mem run)
   read-pair-walks C Λ fm known-stand known-next = walked 𝓤 H A read-pair.ended stayed (read-pair.clauses 𝓤 H A mem run) (WpFn 𝓤 H C Λ code.function) (λ κs. (slice-vals, (uint-vals w64, tt))) (λ κs. (shr-slice-tells (named 0) (κs .0) u8, (uint-tells w64, tt)))
       (λ κs qs bounds a g are. via 𝓤 _ (fst∗ 𝓤 _ (emp 𝓤)) (walk 𝓤 H A W mem run (κs .0) (qs .0) (a .0) (a .1 .0) (are .1 .0 .1) C Λ fm known-stand known-next (are .0)))
 
 read-pair-meets : {M : Type 1} (𝓤 : URA M) (H : Heap 𝓤) (A : Atoms 𝓤) (W : Given 𝓤 H A) (mem : Memory → SProp 𝓤) (run : Routine → Fun 𝓤) (𝓣 : Tables 𝓤 H)
-    → Triple 𝓤 (𝓣 .C #diff·stand) (Stand 𝓤 H A mem run) → Triple 𝓤 (𝓣 .C #diff·next) (Next 𝓤 H A mem run)
+    → Triple 𝓤 (𝓣 .C #reader·stand) (Stand 𝓤 H A mem run) → Triple 𝓤 (𝓣 .C #reader·next) (Next 𝓤 H A mem run)
     → Meets 𝓤 H A read-pair.signature (WpFn 𝓤 H (𝓣 .C) (𝓣 .Λ) code.function) (read-pair.spec 𝓤 H A mem run)
 read-pair-meets 𝓤 H A W mem run 𝓣 known-stand known-next = walk-meets 𝓤 H A read-pair.ended stayed W (goes-none-slice 𝓤 H A W 1 (0 ∷ []) tt (plain (λ _. u8)) yes, (goes-none 𝓤 H A W 1 (λ _. usize) yes (λ κs x f. refl), tt)) (read-pair.clauses 𝓤 H A mem run) (WpFn 𝓤 H (𝓣 .C) (𝓣 .Λ) code.function) (WpFn-mono 𝓤 H (W .laws) 𝓣 code.function)
     (read-pair-walks 𝓤 H A W mem run (𝓣 .C) (𝓣 .Λ) (fmOf 𝓤 H (W .laws) 𝓣) known-stand known-next)
@@ -165,7 +165,7 @@ pub read-pair-spec : {M : Type 1} → stated.statement M
 unfolding code.routine tablesOf
 read-pair-spec 𝓤 H 𝓜 𝓖 𝓡 =
     entered 𝓤 H (tripleOf 𝓤 H (𝓖 .A) read-pair.signature (read-pair.spec 𝓤 H (𝓖 .A) (𝓜 .mem) (𝓡 .run)))
-    (tables 𝓤 H 𝓜 𝓡 code.env .C) (tables 𝓤 H 𝓜 𝓡 code.env .Λ) #diff·read-pair code.function (code.unfolded 𝓤 H 𝓜 𝓡)
+    (tables 𝓤 H 𝓜 𝓡 code.env .C) (tables 𝓤 H 𝓜 𝓡 code.env .Λ) #reader·read-pair code.function (code.unfolded 𝓤 H 𝓜 𝓡)
     (read-pair-meets 𝓤 H (𝓖 .A) (givenOf 𝓤 H 𝓜 𝓖) (𝓜 .mem) (𝓡 .run) (tablesOf 𝓤 H 𝓜 (tables 𝓤 H 𝓜 𝓡 code.env))
-    (cited 𝓤 H (Stand 𝓤 H (𝓖 .A) (𝓜 .mem) (𝓡 .run)) 𝓜 𝓡 code.env #diff·stand stand-def.routine code.calls-diff·stand (stand-thm.met 𝓤 H 𝓜 𝓖 𝓡))
-    (cited 𝓤 H (Next 𝓤 H (𝓖 .A) (𝓜 .mem) (𝓡 .run)) 𝓜 𝓡 code.env #diff·next next-def.routine code.calls-diff·next (next-thm.met 𝓤 H 𝓜 𝓖 𝓡)))
+    (cited 𝓤 H (Stand 𝓤 H (𝓖 .A) (𝓜 .mem) (𝓡 .run)) 𝓜 𝓡 code.env #reader·stand stand-def.routine code.calls-reader·stand (stand-thm.met 𝓤 H 𝓜 𝓖 𝓡))
+    (cited 𝓤 H (Next 𝓤 H (𝓖 .A) (𝓜 .mem) (𝓡 .run)) 𝓜 𝓡 code.env #reader·next next-def.routine code.calls-reader·next (next-thm.met 𝓤 H 𝓜 𝓖 𝓡)))

@@ -34,13 +34,13 @@ use denote.Triple.Spec.{Meets, tripleOf}
 use denote.Triple.Table.{entered}
 use denote.Triple.Walked.{says, Stays, stay-none, stay-none-slice, walkOf, goes-none, goes-none-slice, Walks, ends-at, walked, walk-meets}
 use denote.Exit.{yes}
-use Rattle.diff.specs.declared.Reader.{Reader}
-use Rattle.diff.proofs.Reader as T
-use Rattle.diff.proofs.Reader.Laws as T′
-use Rattle.diff.proofs.stand.Key.{name as #diff·stand}
-use Rattle.diff.proofs.stand as stand
-use Rattle.diff.proofs.stand.Statement as stated
-use Rattle.diff.proofs.stand.Code as code
+use Rattle.reader.specs.declared.Reader.{Reader}
+use Rattle.reader.proofs.Reader as T
+use Rattle.reader.proofs.Reader.Laws as T′
+use Rattle.reader.proofs.stand.Key.{name as #reader·stand}
+use Rattle.reader.proofs.stand as stand
+use Rattle.reader.proofs.stand.Statement as stated
+use Rattle.reader.proofs.stand.Code as code
 
 abbrev stayed : Stays (stand.ended .signature .params) (stand.ended .kept)
 stayed = (stay-none-slice (0 ∷ []) tt (plain (λ _. u8)) yes, (stay-none (λ _. usize) yes, tt))
@@ -96,5 +96,5 @@ pub stand-spec : {M : Type 1} → stated.statement M
 unfolding code.routine tablesOf
 stand-spec 𝓤 H 𝓜 𝓖 𝓡 =
     entered 𝓤 H (tripleOf 𝓤 H (𝓖 .A) stand.signature (stand.spec 𝓤 H (𝓖 .A) (𝓜 .mem) (𝓡 .run)))
-    (tables 𝓤 H 𝓜 𝓡 code.env .C) (tables 𝓤 H 𝓜 𝓡 code.env .Λ) #diff·stand code.function (code.unfolded 𝓤 H 𝓜 𝓡)
+    (tables 𝓤 H 𝓜 𝓡 code.env .C) (tables 𝓤 H 𝓜 𝓡 code.env .Λ) #reader·stand code.function (code.unfolded 𝓤 H 𝓜 𝓡)
     (stand-meets 𝓤 H (𝓖 .A) (givenOf 𝓤 H 𝓜 𝓖) (𝓜 .mem) (𝓡 .run) (tablesOf 𝓤 H 𝓜 (tables 𝓤 H 𝓜 𝓡 code.env)))

@@ -1,7 +1,7 @@
 -- `pair_at` meets its contract. Assumes nothing.
-use Rattle.diff.proofs.Pairs.{pair-laws}
-use Rattle.diff.proofs.pair_at.Statement.{statement}
-use Rattle.diff.proofs.pair_at.Tie as tie
+use Rattle.reader.proofs.Pairs.{pair-laws}
+use Rattle.reader.proofs.pair_at.Statement.{statement}
+use Rattle.reader.proofs.pair_at.Tie as tie
 
 pub pair-at-spec : {M : Type 1} → statement M
 pair-at-spec =

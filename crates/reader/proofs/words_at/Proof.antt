@@ -1,7 +1,7 @@
 -- `words_at` meets its contract. Assumes nothing.
-use Rattle.diff.proofs.Pairs.{pair-laws}
-use Rattle.diff.proofs.words_at.Statement.{statement}
-use Rattle.diff.proofs.words_at.Tie as tie
+use Rattle.reader.proofs.Pairs.{pair-laws}
+use Rattle.reader.proofs.words_at.Statement.{statement}
+use Rattle.reader.proofs.words_at.Tie as tie
 
 pub words-at-spec : {M : Type 1} → statement M
 words-at-spec =

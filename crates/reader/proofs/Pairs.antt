@@ -8,14 +8,13 @@ use lib.ListN.{length, getD, take, drop}
 use lib.Dec.{eqb}
 use borrow.Author.Needs.{needs}
 use borrow.Author.Tests.{eq-eqb, ne-eqb, eqb-true}
 use Rattle.diff.specs.Format.{Run}
 use Rattle.diff.specs.Reading.{runCount, mostRuns, runsAt, runsIn, wordsPlace, wordCount, readRefusal}
-use Rattle.diff.specs.Answers.{pairAmong, pairAt, wordsOf}
-use Rattle.diff.specs.Needed.{Readable}
-use Rattle.diff.specs.declared.Pair.{Pair}
-use Rattle.diff.specs.declared.Pair.the-variants.{At, Nothing}
+use Rattle.reader.specs.Pairs.{pairAmong, pairAt, wordsOf, Readable}
+use Rattle.reader.specs.declared.Pair.{Pair}
+use Rattle.reader.specs.declared.Pair.the-variants.{At, Nothing}
 use Rattle.diff.proofs.Legal.{legal-when-read}
 use Rattle.diff.proofs.Checking.{runs-left}
 
 -- after some pairs: the place looked for is none of theirs, and `left` pairs stand from the place `first` on
 pub record Finding (bytes : List ℕ) (at n first left words : ℕ) : Type 0 where

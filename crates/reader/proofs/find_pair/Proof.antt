@@ -1,7 +1,7 @@
 -- `find_pair` meets its contract: the place is that of no pair passed, and the pairs that are left decide. Assumes nothing.
-use Rattle.diff.proofs.Pairs.{Finding, pair-laws}
-use Rattle.diff.proofs.find_pair.Statement.{statement}
-use Rattle.diff.proofs.find_pair.Tie as tie
+use Rattle.reader.proofs.Pairs.{Finding, pair-laws}
+use Rattle.reader.proofs.find_pair.Statement.{statement}
+use Rattle.reader.proofs.find_pair.Tie as tie
 
 abbrev Inv-loop : tie.InvT-loop
 Inv-loop bytes at n first₀ left₀ words₀ first left words = Finding bytes at n first left words
