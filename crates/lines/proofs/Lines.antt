@@ -5,7 +5,7 @@ use native.Mathlib.Nat.{add-zero}
 use mathlib.Core.Path.{_≡_, refl, sym, ap, _∙_}
 use mathlib.Core.List.{List, [], _∷_, _++_, append-assoc}
 use lib.ListN.{length, set, length-append}
-use lib.Seq.{set-comm, sets}
+use lib.Seq.{set-comm, set-set, sets}
 use Rattle.lines.specs.Decimal.{digitsWithin, digits}
 use Rattle.lines.specs.Lines.{lineBytes}
 use Rattle.lines.specs.Needed.{fieldBytes, halfBytes}
@@ -50,6 +50,15 @@ sets-last-first l i (x ∷ vs) ws =
     sets-last-first (set l i x) (suc i) vs ws
     ∙ ap (λ (n : ℕ). sets (sets (set l i x) n ws) (suc i) vs) place
     ∙ ap (λ (m : List ℕ). sets m (suc i) vs) (set-after l i (i + length (x ∷ vs)) x ws (omega arith))
+
+-- what is stored over others, as many at least, leaves nothing of them
+pub sets-over : (l : List ℕ) (i : ℕ) (vs ws : List ℕ) → length vs ≤ length ws → sets (sets l i vs) i ws ≡ sets l i ws
+sets-over l i [] ws h = refl
+sets-over l i (v ∷ vs) [] h = absurd (omega arith)
+sets-over l i (v ∷ vs) (w ∷ ws) h =
+    ap (λ (m : List ℕ). sets (set m i w) (suc i) ws) (set-after l i (suc i) v vs (omega arith))
+    ∙ ap (λ (m : List ℕ). sets m (suc i) ws) (set-set (sets l (suc i) vs) i v w ∙ sym (set-after l i (suc i) w vs (omega arith)))
+    ∙ sets-over (set l i w) (suc i) vs ws (omega arith)
 
 -- ---- lines of Listing A, and the largest number
 

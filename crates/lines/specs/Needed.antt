@@ -2,7 +2,7 @@
 use Prim.Native.Nat.{ℕ, _+_, _/_, _%_, _≤_, _<_}
 use mathlib.Core.Path.{_≡_}
 use mathlib.Core.List.{List, [], _∷_, _++_}
-use lib.ListN.{length}
+use lib.ListN.{length, take}
 use lib.Seq.{sets}
 use Rattle.lines.specs.Decimal.{digits}
 
@@ -37,3 +37,31 @@ pub record Put (out : List ℕ) (at : ℕ) (vs : List ℕ) (most : ℕ) (out′ 
   pub stored : out′ ≡ sets out at vs
   pub place : end ≡ at + length vs
   pub near : end ≤ at + most
+
+-- ---- the digits of a number that is counted on
+
+-- eight bytes are lent, and a number has at most seven digits
+pub record Eight (d : List ℕ) (n : ℕ) : Type 0 where
+  pub long : length d ≡ 8
+  pub few : n < 10000000
+
+-- the first len of eight bytes are the digits of n
+pub record Counted (d : List ℕ) (len n : ℕ) : Type 0 where
+  pub long : length d ≡ 8
+  pub few : len ≤ 8
+  pub said : take len d ≡ digits n
+  pub counted : len ≡ length (digits n)
+
+-- the same, and there is room for one more
+pub record Countable (d : List ℕ) (len n : ℕ) : Type 0 where
+  pub now-counted : Counted d len n
+  pub few : n < 10000000
+
+-- eight bytes have room from a place on
+pub record EightFit (out : List ℕ) (at : ℕ) (d : List ℕ) : Type 0 where
+  pub room : at + 8 ≤ length out
+  pub long : length d ≡ 8
+
+-- what stands behind the number of a line
+unfoldable pub behindNumber : ℕ → ℕ → ℕ → List ℕ
+behindNumber refusal value count = 32 ∷ (fieldBytes refusal 32 ++ halfBytes value count 10)

@@ -5,7 +5,7 @@ ghost use lib.ListN.{length};
 ghost use lib.Seq.{sets};
 ghost use Rattle.lines.specs.Decimal.{digits};
 ghost use Rattle.lines.specs.Lines.{lineBytes, lineFits, lineAnswer, lineLeft};
-ghost use Rattle.lines.specs.Needed.{Room, DigitsFit, PairFits, Put, pairBytes, fieldBytes, halfBytes};
+ghost use Rattle.lines.specs.Needed.{Room, DigitsFit, PairFits, Put, pairBytes, fieldBytes, halfBytes, Eight, Counted, Countable, EightFit, behindNumber};
 
 // What writing a line answers: the place behind it, or that the longest line would not fit.
 pub enum Placed {
@@ -58,6 +58,49 @@ pub fn put_line(
     put_half(out, half, value, count, 10)
 }
 
+// Writes the line of a record whose number's digits are at hand, from a place on, and says the place behind it: all eight bytes of
+// the digits, and then, over those that are none, what stands behind the number. The number itself is named for the contract alone.
+pub fn put_counted(
+    out: &mut [u8],
+    at: usize,
+    digits: [u8; 8],
+    len: usize,
+    number: u32,
+    refusal: u32,
+    value: u32,
+    count: u32,
+) -> usize
+    requires { ⌜ Room (now out) at 44 ⌝ }
+    requires { ⌜ Counted digits len number ⌝ }
+    ensures { λ r. ⌜ r ≡ at + length (lineBytes number refusal value count) ⌝ }
+    ensures { λ r. ⌜ now (out .exit) ≡ sets (now (out .entry)) at (lineBytes number refusal value count) ⌝ }
+{
+    put_eight(out, at, digits);
+    put_behind(out, at + len, refusal, value, count)
+}
+
+// Writes eight bytes from a place on.
+fn put_eight(out: &mut [u8], at: usize, digits: [u8; 8])
+    requires { ⌜ EightFit (now out) at digits ⌝ }
+    ensures { λ _. ⌜ now (out .exit) ≡ sets (now (out .entry)) at digits ⌝ }
+{
+    let mut i: usize = 0;
+    while i < 8 {
+        out[at + i] = digits[i];
+        i = i + 1;
+    }
+}
+
+// Writes what stands behind the number of a line, and says the place behind it.
+fn put_behind(out: &mut [u8], at: usize, refusal: u32, value: u32, count: u32) -> usize
+    requires { ⌜ Room (now out) at 34 ⌝ }
+    ensures { λ r. ⌜ Put (now (out .entry)) at (behindNumber refusal value count) 34 (now (out .exit)) r ⌝ }
+{
+    out[at] = 32;
+    let half = put_field(out, at + 1, refusal, 32);
+    put_half(out, half, value, count, 10)
+}
+
 // Writes two numbers with a space between and a byte behind, and says the place behind them.
 fn put_half(out: &mut [u8], at: usize, first: u32, second: u32, behind: u8) -> usize
     requires { ⌜ Room (now out) at 22 ⌝ }
@@ -91,6 +134,36 @@ pub fn put_number(out: &mut [u8], at: usize, n: u32) -> usize
     let len = width(n);
     put_digits(out, at, len, n);
     at + len
+}
+
+// Writes the digits of a number into eight bytes, from the first on, and says how many they are.
+pub fn counter(digits: &mut [u8], number: u32) -> usize
+    requires { ⌜ Eight (now digits) number ⌝ }
+    ensures { λ r. ⌜ Counted (now (digits .exit)) r number ⌝ }
+{
+    let len = width(number);
+    put_digits(digits, 0, len, number);
+    len
+}
+
+// The digits of a number, of which there are len, become those of the next, without a division; says how many those are.
+// The number itself is named for the contract alone.
+pub fn count_on(digits: &mut [u8], len: usize, number: u32) -> usize
+    requires { ⌜ Countable (now digits) len number ⌝ }
+    ensures { λ r. ⌜ Counted (now (digits .exit)) r (number + 1) ⌝ }
+{
+    let mut i = len;
+    while 0 < i {
+        i = i - 1;
+        if digits[i] < 57 {
+            digits[i] = digits[i] + 1;
+            return len;
+        }
+        digits[i] = 48;
+    }
+    digits[len] = 48;
+    digits[0] = 49;
+    len + 1
 }
 
 // How many digits a number has, by comparisons and one division at most.

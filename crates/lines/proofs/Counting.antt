@@ -1,0 +1,346 @@
+-- The digits of a number counted on by one, and a line with such digits. One law for each way of the code, and `count-laws`.
+-- Rests on Digits, Lines and Writing. Assumes nothing.
+use Prim.Native.Nat.{ℕ, zero, suc, _+_, _-_, _/_, _%_, _≤_, _<_}
+use native.Mathlib.Numerals.{add-one}
+use native.Mathlib.Omega.{arith}
+use mathlib.Core.Path.{_≡_, refl, sym, ap, _∙_}
+use mathlib.Core.Bool.{cond}
+use mathlib.Core.List.{List, [], _∷_, _++_, append-assoc, append-nil}
+use lib.ListN.{length, take, drop, getD, set, replicate, length-append, length-drop, length-set, length-replicate, take-append-drop}
+use lib.Seq.{append-snoc, drop-cons, getD-at, length-sets, length-take-le, set-at, sets, sets-eq, take-all, take-at, take-suc}
+use lib.Dec.{ltb}
+use borrow.Author.Tests.{lt-ltb, le-ltb}
+use borrow.Author.Needs.{needs}
+use Rattle.lines.specs.Decimal.{digits}
+use Rattle.lines.specs.Lines.{lineBytes}
+use Rattle.lines.specs.Needed.{Room, DigitsFit, Put, fieldBytes, halfBytes, Eight, Counted, Countable, EightFit, behindNumber}
+use Rattle.lines.proofs.Digits.{by-digits, digits-one, digits-more, digits-at-most, some-digit}
+use Rattle.lines.proofs.Lines.{length-line, sets-append, sets-over}
+use Rattle.lines.proofs.Writing.{put-keeps-length, sets-keep-length}
+
+-- ---- the digits of a number and of the next
+
+-- the digits before the last
+unfoldable above : ℕ → List ℕ
+above m = cond (ltb m 10) [] (digits (m / 10))
+
+above-one : (m : ℕ) → m < 10 → above m ≡ []
+unfolding above
+above-one m h = rw (lt-ltb m 10 h)
+
+above-more : (m : ℕ) → 10 ≤ m → above m ≡ digits (m / 10)
+unfolding above
+above-more m h = rw (le-ltb m 10 h)
+
+-- where there are some, they are those of the tenth; where there are none, the tenth is 0
+above-some : (m : ℕ) → 1 ≤ length (above m) → above m ≡ digits (m / 10)
+above-some =
+    by-digits (λ m. 1 ≤ length (above m) → above m ≡ digits (m / 10)) (λ m h k. absurd (omega (arith, ap length (above-one m h)))) (λ m h before k. above-more m h)
+
+above-none : (m : ℕ) → length (above m) ≡ 0 → m / 10 ≡ 0
+above-none =
+    by-digits (λ m. length (above m) ≡ 0 → m / 10 ≡ 0) (λ m h k. omega arith)
+    (λ m h before k. absurd (omega (arith, ap length (above-more m h), some-digit (m / 10))))
+
+digits-last : (m : ℕ) → digits m ≡ above m ++ (48 + m % 10) ∷ []
+digits-last =
+    by-digits (λ m. digits m ≡ above m ++ (48 + m % 10) ∷ [])
+    (λ m h. digits-one m h ∙ ap (λ (k : ℕ). (48 + k) ∷ []) (omega arith) ∙ ap (λ (l : List ℕ). l ++ (48 + m % 10) ∷ []) (sym (above-one m h)))
+    (λ m h before. digits-more m h ∙ ap (λ (l : List ℕ). l ++ (48 + m % 10) ∷ []) (sym (above-more m h)))
+
+-- a last digit that is no 9 rises
+digits-risen : (m : ℕ) → m % 10 < 9 → digits (m + 1) ≡ above m ++ (48 + m % 10 + 1) ∷ []
+digits-risen =
+    by-digits (λ m. m % 10 < 9 → digits (m + 1) ≡ above m ++ (48 + m % 10 + 1) ∷ [])
+    (λ m h k.
+    let next : 48 + (m + 1) ≡ 48 + m % 10 + 1 = omega arith in
+    digits-one (m + 1) (omega arith) ∙ ap (λ (b : ℕ). b ∷ []) next ∙ ap (λ (l : List ℕ). l ++ (48 + m % 10 + 1) ∷ []) (sym (above-one m h)))
+    (λ m h before k.
+    let next : 48 + (m + 1) % 10 ≡ 48 + m % 10 + 1 = omega arith in
+    let same : (m + 1) / 10 ≡ m / 10 = omega arith in
+    digits-more (m + 1) (omega arith)
+    ∙ ap (λ (b : ℕ). digits ((m + 1) / 10) ++ b ∷ []) next
+    ∙ ap (λ (l : List ℕ). l ++ (48 + m % 10 + 1) ∷ []) (ap digits same ∙ sym (above-more m h)))
+
+-- behind a 9 the tenth rises, and a zero is last
+digits-carried : (m : ℕ) → m % 10 ≡ 9 → digits (m + 1) ≡ digits (m / 10 + 1) ++ 48 ∷ []
+digits-carried m h =
+    let next : 48 + (m + 1) % 10 ≡ 48 = omega arith in
+    let tenth : (m + 1) / 10 ≡ m / 10 + 1 = omega arith in
+    digits-more (m + 1) (omega arith)
+    ∙ ap (λ (b : ℕ). digits ((m + 1) / 10) ++ b ∷ []) next
+    ∙ ap (λ (k : ℕ). digits k ++ 48 ∷ []) tenth
+
+-- ---- eight bytes
+
+counted-front : (d bs : List ℕ) (len n : ℕ) → d ≡ digits n ++ bs → length d ≡ 8 → len ≡ length (digits n) → Counted d len n
+counted-front d bs len n e l c =
+    record {
+      long = l;
+      few = omega (arith, ap length e, length-append (digits n) bs);
+      said = ap (λ (x : List ℕ). take len x) e ∙ take-at (digits n) bs len (sym c);
+      counted = c;
+    }
+
+-- the first digits
+module _ (d : List ℕ) (len n : ℕ) (p : Eight d n) (c : len ≡ length (digits n)) where
+  pub eight-fit : DigitsFit d 0 len n
+  eight-fit = record { counted = c; room = omega (arith, p .long, p .few, digits-at-most 6 n (omega (arith, p .few))) }
+
+  pub counted-first : (d′ : List ℕ) → d′ ≡ sets d 0 (digits n) → Counted d′ len n
+  counted-first d′ e =
+      counted-front d′ (drop (0 + length (digits n)) d) len n (e ∙ sets-eq (digits n) d 0 (omega (arith, c, eight-fit .room)))
+      (ap length e ∙ length-sets d 0 (digits n) ∙ p .long) c
+
+-- ---- counting on
+
+-- from place i on the digits are zeros, and the carry goes on to those of rest, which stand before it
+pub record Carrying (d : List ℕ) (len n i : ℕ) : Type 0 where
+  pub rest : ℕ
+  pub front : List ℕ
+  pub behind : List ℕ
+  pub all : d ≡ front ++ (replicate {A = ℕ} (len - i) 48 ++ behind)
+  pub place : length front ≡ i
+  pub long : length d ≡ 8
+  pub few : len < 8
+  pub on : i ≤ len
+  pub some : 1 ≤ i → front ≡ digits rest
+  pub none : i ≡ 0 → rest ≡ 0
+  pub carried : digits (n + 1) ≡ digits (rest + 1) ++ replicate {A = ℕ} (len - i) 48
+
+-- before the loop
+pub carrying-begins : (d : List ℕ) (len n : ℕ) → Countable d len n → Carrying d len n len
+carrying-begins d len n p =
+    let q = p .now-counted in
+    let no-zeros : 0 ≡ len - len = omega arith in
+    record {
+      rest = n;
+      front = take len d;
+      behind = drop len d;
+      all = sym (take-append-drop len d) ∙ ap (λ (k : ℕ). take len d ++ (replicate {A = ℕ} k 48 ++ drop len d)) no-zeros;
+      place = ap length (q .said) ∙ sym (q .counted);
+      long = q .long;
+      few = omega (arith, q .counted, digits-at-most 6 n (omega (arith, p .few)));
+      on = omega arith;
+      some = λ h. q .said;
+      none = λ z. absurd (omega (arith, q .counted, some-digit n));
+      carried = sym (append-nil (digits (n + 1))) ∙ ap (λ (k : ℕ). digits (n + 1) ++ replicate {A = ℕ} k 48) no-zeros;
+    }
+
+module _ (d : List ℕ) (len n i : ℕ) (p : Carrying d len n i) where
+  -- in a turn
+  module _ (h : 0 < i) where
+    opened : d ≡ above (p .rest) ++ (48 + p .rest % 10) ∷ (replicate {A = ℕ} (len - i) 48 ++ p .behind)
+    opened =
+        p .all
+        ∙ ap (λ (f : List ℕ). f ++ (replicate {A = ℕ} (len - i) 48 ++ p .behind)) (p .some h ∙ digits-last (p .rest))
+        ∙ append-snoc (above (p .rest)) (48 + p .rest % 10) (replicate {A = ℕ} (len - i) 48 ++ p .behind)
+
+    before-last : length (above (p .rest)) ≡ i - 1
+    before-last = omega (arith, p .place, ap length (p .some h ∙ digits-last (p .rest)), length-append (above (p .rest)) ((48 + p .rest % 10) ∷ []))
+
+    last-is : getD d (i - 1) 0 ≡ 48 + p .rest % 10
+    last-is =
+        ap (λ (l : List ℕ). getD l (i - 1) 0) opened
+        ∙ getD-at (above (p .rest)) (48 + p .rest % 10) (replicate {A = ℕ} (len - i) 48 ++ p .behind) 0 (i - 1) before-last
+
+    last-stored : (v : ℕ) → set d (i - 1) v ≡ above (p .rest) ++ v ∷ (replicate {A = ℕ} (len - i) 48 ++ p .behind)
+    last-stored v =
+        ap (λ (l : List ℕ). set l (i - 1) v) opened
+        ∙ set-at (above (p .rest)) (48 + p .rest % 10) (replicate {A = ℕ} (len - i) 48 ++ p .behind) v (i - 1) before-last
+
+    pub last-within : i - 1 < length d
+    last-within = omega (arith, p .long, p .few, p .on)
+
+    -- no 9: it rises, and all is done
+    pub last-rises : getD d (i - 1) 0 < 57 → Counted (set d (i - 1) (getD d (i - 1) 0 + 1)) len (n + 1)
+    last-rises low =
+        let value : 48 + p .rest % 10 + 1 ≡ getD d (i - 1) 0 + 1 = omega (arith, last-is) in
+        let risen = digits-risen (p .rest) (omega (arith, last-is)) ∙ ap (λ (v : ℕ). above (p .rest) ++ v ∷ []) value in
+        let whole : set d (i - 1) (getD d (i - 1) 0 + 1) ≡ digits (n + 1) ++ p .behind =
+        last-stored (getD d (i - 1) 0 + 1)
+        ∙ sym (append-snoc (above (p .rest)) (getD d (i - 1) 0 + 1) (replicate {A = ℕ} (len - i) 48 ++ p .behind))
+        ∙ ap (λ (l : List ℕ). l ++ (replicate {A = ℕ} (len - i) 48 ++ p .behind)) (sym risen)
+        ∙ sym (append-assoc (digits (p .rest + 1)) (replicate {A = ℕ} (len - i) 48) (p .behind))
+        ∙ ap (λ (l : List ℕ). l ++ p .behind) (sym (p .carried)) in
+        counted-front (set d (i - 1) (getD d (i - 1) 0 + 1)) (p .behind) len (n + 1) whole (length-set d (i - 1) (getD d (i - 1) 0 + 1) ∙ p .long)
+        (omega (arith, ap length (p .carried), length-append (digits (p .rest + 1)) (replicate {A = ℕ} (len - i) 48), length-replicate {A = ℕ} (len - i) 48, ap length risen, length-append (above (p .rest)) ((getD d (i - 1) 0 + 1) ∷ []), before-last, p .on))
+
+    -- a 9 becomes a zero, and the carry goes on
+    pub carrying-more : 57 ≤ getD d (i - 1) 0 → Carrying (set d (i - 1) 48) len n (i - 1)
+    carrying-more high =
+        let one-more : suc (len - i) ≡ len - (i - 1) = omega (arith, p .on) in
+        record {
+          rest = p .rest / 10;
+          front = above (p .rest);
+          behind = p .behind;
+          all = last-stored 48 ∙ ap (λ (k : ℕ). above (p .rest) ++ (replicate {A = ℕ} k 48 ++ p .behind)) one-more;
+          place = before-last;
+          long = length-set d (i - 1) 48 ∙ p .long;
+          few = p .few;
+          on = omega (arith, p .on);
+          some = λ k. above-some (p .rest) (omega (arith, before-last));
+          none = λ z. above-none (p .rest) (before-last ∙ z);
+          carried =
+              p .carried
+              ∙ ap (λ (l : List ℕ). l ++ replicate {A = ℕ} (len - i) 48) (digits-carried (p .rest) (omega (arith, last-is)))
+              ∙ append-snoc (digits (p .rest / 10 + 1)) 48 (replicate {A = ℕ} (len - i) 48)
+              ∙ ap (λ (k : ℕ). digits (p .rest / 10 + 1) ++ replicate {A = ℕ} k 48) one-more;
+        }
+
+  -- behind the loop
+  pub one-more-within : len < length d
+  one-more-within = omega (arith, p .long, p .few)
+
+  -- all were nines: a 1, and zeros behind it
+  pub all-nines : i ≤ 0 → Counted (set (set d len 48) 0 49) (len + 1) (n + 1)
+  all-nines z =
+      let none-before : i ≡ 0 = omega arith in
+      let zeros : len - i ≡ len = omega arith in
+      let d-is : d ≡ replicate {A = ℕ} len 48 ++ p .behind =
+      p .all
+      ∙ ap (λ (f : List ℕ). f ++ (replicate {A = ℕ} (len - i) 48 ++ p .behind)) (empty (p .front) (p .place ∙ none-before))
+      ∙ ap (λ (k : ℕ). replicate {A = ℕ} k 48 ++ p .behind) zeros in
+      let left : 0 < length (p .behind) =
+      omega (arith, p .long, p .few, ap length d-is, length-append (replicate {A = ℕ} len 48) (p .behind), length-replicate {A = ℕ} len 48) in
+      let longer : set d len 48 ≡ 48 ∷ (replicate {A = ℕ} len 48 ++ drop 1 (p .behind)) =
+      ap (λ (l : List ℕ). set l len 48) (d-is ∙ ap (λ (l : List ℕ). replicate {A = ℕ} len 48 ++ l) (drop-cons (p .behind) 0 0 left))
+      ∙ set-at (replicate {A = ℕ} len 48) (getD (p .behind) 0 0) (drop 1 (p .behind)) 48 len (length-replicate {A = ℕ} len 48)
+      ∙ one-behind len (drop 1 (p .behind)) in
+      let said : digits (n + 1) ≡ 49 ∷ replicate {A = ℕ} len 48 =
+      p .carried
+      ∙ ap (λ (k : ℕ). digits (k + 1) ++ replicate {A = ℕ} (len - i) 48) (p .none none-before)
+      ∙ ap (λ (l : List ℕ). l ++ replicate {A = ℕ} (len - i) 48) (digits-one 1 (omega arith))
+      ∙ ap (λ (k : ℕ). 49 ∷ replicate {A = ℕ} k 48) zeros in
+      counted-front (set (set d len 48) 0 49) (drop 1 (p .behind)) (len + 1) (n + 1)
+      (ap (λ (l : List ℕ). set l 0 49) longer ∙ ap (λ (l : List ℕ). l ++ drop 1 (p .behind)) (sym said))
+      (length-set (set d len 48) 0 49 ∙ length-set d len 48 ∙ p .long)
+      (omega (arith, ap length said, length-replicate {A = ℕ} len 48))
+    where
+      empty : (l : List ℕ) → length l ≡ 0 → l ≡ []
+      empty [] e = refl
+      empty (x ∷ l) e = absurd (omega arith)
+
+      one-behind : (k : ℕ) (bs : List ℕ) → replicate {A = ℕ} k 48 ++ 48 ∷ bs ≡ 48 ∷ (replicate {A = ℕ} k 48 ++ bs)
+      one-behind zero bs = refl
+      one-behind (suc k) bs = ap (λ (l : List ℕ). 48 ∷ l) (one-behind k bs)
+
+-- what is stored keeps the length
+module _ (d₀ d : List ℕ) (len n i : ℕ) (p : Countable d₀ len n) (q : Carrying d len n i) (j v : ℕ) where
+  pub long-after-one : length (set d j v) ≡ length d₀
+  long-after-one = length-set d j v ∙ q .long ∙ sym (p .now-counted .long)
+
+  pub long-after-two : (k w : ℕ) → length (set (set d j v) k w) ≡ length d₀
+  long-after-two k w = length-set (set d j v) k w ∙ long-after-one
+
+-- ---- a line
+
+-- the first i of eight bytes are stored
+pub record Laying (out₀ out : List ℕ) (at : ℕ) (d : List ℕ) (i : ℕ) : Type 0 where
+  pub fits : EightFit out₀ at d
+  pub on : i ≤ 8
+  pub laid : out ≡ sets out₀ at (take i d)
+
+pub laying-begins : (out : List ℕ) (at : ℕ) (d : List ℕ) → EightFit out at d → Laying out out at d 0
+laying-begins out at d p = record { fits = p; on = omega arith; laid = refl }
+
+module _ (out₀ out : List ℕ) (at : ℕ) (d : List ℕ) (i : ℕ) (p : Laying out₀ out at d i) where
+  as-long : length out ≡ length out₀
+  as-long = sets-keep-length out₀ out at (take i d) (p .laid)
+
+  pub next-place : i < 8 → at + i < length out
+  next-place h = omega (arith, p .fits .room, as-long)
+
+  pub laying-more : i < 8 → Laying out₀ (set out (at + i) (getD d i 0)) at d (i + 1)
+  laying-more h =
+      let within : i < length d = omega (arith, p .fits .long) in
+      let place : at + i ≡ at + length (take i d) = ap (λ (k : ℕ). at + k) (sym (length-take-le i d (omega arith))) in
+      record {
+        fits = p .fits;
+        on = omega arith;
+        laid =
+            ap (λ (l : List ℕ). set l (at + i) (getD d i 0)) (p .laid)
+            ∙ ap (λ (k : ℕ). set (sets out₀ at (take i d)) k (getD d i 0)) place
+            ∙ sym (sets-append out₀ at (take i d) (getD d i 0 ∷ []))
+            ∙ ap (λ (l : List ℕ). sets out₀ at l) (sym (take-suc d i 0 within) ∙ ap (λ (k : ℕ). take k d) (sym (add-one i)));
+      }
+
+  pub laid-all : 8 ≤ i → out ≡ sets out₀ at d
+  laid-all h = p .laid ∙ ap (λ (l : List ℕ). sets out₀ at l) (take-all i d (omega (arith, p .fits .long)))
+
+-- what stands behind the number: a space, the refusal, the value and the count
+module _ (out : List ℕ) (at : ℕ) (p : Room out at 34) where
+  pub room-for-space : at < length out
+  room-for-space = omega (arith, p .room)
+
+  pub room-for-refusal : Room (set out at 32) (at + 1) 11
+  room-for-refusal = record { room = omega (arith, p .room, length-set out at 32) }
+
+  pub room-for-rest : (out₁ : List ℕ) (at₁ : ℕ) (vs : List ℕ) → Put (set out at 32) (at + 1) vs 11 out₁ at₁ → Room out₁ at₁ 22
+  room-for-rest out₁ at₁ vs q =
+      record { room = omega (arith, p .room, q .near, length-set out at 32, put-keeps-length (set out at 32) out₁ (at + 1) at₁ 11 vs q) }
+
+  pub behind-put : (out₁ out₂ : List ℕ) (at₁ at₂ refusal value count : ℕ) → Put (set out at 32) (at + 1) (fieldBytes refusal 32) 11 out₁ at₁
+      → Put out₁ at₁ (halfBytes value count 10) 22 out₂ at₂ → Put out at (behindNumber refusal value count) 34 out₂ at₂
+  unfolding behindNumber
+  behind-put out₁ out₂ at₁ at₂ refusal value count q r =
+      let vs = fieldBytes refusal 32 in
+      let ws = halfBytes value count 10 in
+      record {
+        stored =
+            r .stored
+            ∙ ap (λ (l : List ℕ). sets l at₁ ws) (q .stored)
+            ∙ ap (λ (k : ℕ). sets (sets (set out at 32) (at + 1) vs) k ws) (q .place)
+            ∙ sym (sets-append (set out at 32) (at + 1) vs ws)
+            ∙ ap (λ (k : ℕ). sets (set out at 32) k (vs ++ ws)) (add-one at);
+        place = omega (arith, q .place, r .place, length-append vs ws);
+        near = omega (arith, q .near, r .near);
+      }
+
+  pub behind-keeps-length : (out₁ out₂ : List ℕ) (at₁ at₂ : ℕ) (vs ws : List ℕ) → Put (set out at 32) (at + 1) vs 11 out₁ at₁ → Put out₁ at₁ ws 22 out₂ at₂
+      → length out₂ ≡ length out
+  behind-keeps-length out₁ out₂ at₁ at₂ vs ws q r =
+      put-keeps-length out₁ out₂ at₁ at₂ 22 ws r ∙ put-keeps-length (set out at 32) out₁ (at + 1) at₁ 11 vs q ∙ length-set out at 32
+
+-- a line is its number and what stands behind it
+line-is-number-and-rest : (number refusal value count : ℕ) → digits number ++ behindNumber refusal value count ≡ lineBytes number refusal value count
+unfolding behindNumber lineBytes halfBytes fieldBytes
+line-is-number-and-rest number refusal value count = simp append-assoc
+
+-- at least seven bytes stand behind the number
+behind-covers : (refusal value count : ℕ) → 7 ≤ length (behindNumber refusal value count)
+behind-covers refusal value count =
+    omega (arith, ap length (line-is-number-and-rest 0 refusal value count), length-append (digits 0) (behindNumber refusal value count), length-line 0 refusal value count, some-digit refusal, some-digit value, some-digit count)
+
+module _ (out : List ℕ) (at : ℕ) (d : List ℕ) (len n : ℕ) (p : Room out at 44) (q : Counted d len n) where
+  pub room-for-eight : EightFit out at d
+  room-for-eight = record { room = omega (arith, p .room); long = q .long }
+
+  module _ (out₁ : List ℕ) (e : out₁ ≡ sets out at d) where
+    pub room-behind-number : Room out₁ (at + len) 34
+    room-behind-number = record { room = omega (arith, p .room, q .few, sets-keep-length out out₁ at d e) }
+
+    module _ (out₂ : List ℕ) (end refusal value count : ℕ) (r : Put out₁ (at + len) (behindNumber refusal value count) 34 out₂ end) where
+      pub counted-line-end : end ≡ at + length (lineBytes n refusal value count)
+      counted-line-end =
+          omega (arith, r .place, q .counted, ap length (line-is-number-and-rest n refusal value count), length-append (digits n) (behindNumber refusal value count))
+
+      pub counted-line-stored : out₂ ≡ sets out at (lineBytes n refusal value count)
+      counted-line-stored =
+          let rest = behindNumber refusal value count in
+          let front : length (take len d) ≡ len = length-take-le len d (omega (arith, q .few, q .long)) in
+          let none-left : length (drop len d) ≤ length rest =
+          omega (arith, length-drop len d, q .long, q .counted, some-digit n, behind-covers refusal value count) in
+          r .stored
+          ∙ ap (λ (l : List ℕ). sets l (at + len) rest) (e ∙ ap (λ (l : List ℕ). sets out at l) (sym (take-append-drop len d)) ∙ sets-append out at (take len d) (drop len d))
+          ∙ ap (λ (k : ℕ). sets (sets (sets out at (take len d)) (at + k) (drop len d)) (at + len) rest) front
+          ∙ sets-over (sets out at (take len d)) (at + len) (drop len d) rest none-left
+          ∙ ap (λ (k : ℕ). sets (sets out at (take len d)) (at + k) rest) (sym front)
+          ∙ sym (sets-append out at (take len d) rest)
+          ∙ ap (λ (l : List ℕ). sets out at (l ++ rest)) (q .said)
+          ∙ ap (λ (l : List ℕ). sets out at l) (line-is-number-and-rest n refusal value count)
+
+      pub counted-line-keeps-length : length out₂ ≡ length out
+      counted-line-keeps-length = put-keeps-length out₁ out₂ (at + len) end 34 (behindNumber refusal value count) r ∙ sets-keep-length out out₁ at d e
+
+pub ruleset count-laws = (eight-fit, counted-first, carrying-begins, last-within, last-rises, carrying-more, one-more-within, all-nines, long-after-one, long-after-two, laying-begins, next-place, laying-more, laid-all, room-for-space, room-for-refusal, room-for-rest, behind-put, behind-keeps-length, room-for-eight, room-behind-number, counted-line-end, counted-line-stored, counted-line-keeps-length, sets-keep-length, needs)
