@@ -15,7 +15,7 @@ use Rattle.engine.specs.Promises.{areas}
 use Rattle.engine.specs.declared.Outcome.{Outcome}
 use Rattle.running.specs.Needed.{StepThere}
 use Rattle.running.specs.Records.{stepFrom}
-use Rattle.lines.specs.Needed.{Room}
+use Rattle.lines.specs.Needed.{Countable, Counted, Room}
 use Rattle.stepfile.specs.Feeding.{bytesTaken}
 use Rattle.stepfile.specs.declared.Stand.{Stand}
 use Rattle.stepfile.specs.Needed.{Ahead, LinePut, Passable, Passing, Runnable, Steppable, Takeable, outcomeLine, standsAt}
@@ -94,6 +94,10 @@ module _ (number₀ at₀ : ℕ) (chunk : List ℕ) (from end : ℕ) (out₀ c�
     pub room-for-next : Room out at 44
     room-for-next = record { room = omega (arith, next-within, h .passing .able .room) }
 
+    -- the digits of its number may be counted on
+    pub next-countable : (d : List ℕ) (len : ℕ) → Counted d len number → Countable d len number
+    next-countable d len k = record { now-counted = k; few = omega (arith, next-numbered) }
+
     -- one more is taken
     pub running-more : (o : Outcome) (c′ w′ r′ m′ out′ : List ℕ) (at′ : ℕ) → SteppedAs (stateIn mainframe c w r m) (stepFrom (drop i chunk)) o c′ w′ r′ m′
         → LinePut out at (outcomeLine number o) out′ at′
@@ -121,4 +125,4 @@ module _ (number₀ at₀ : ℕ) (chunk : List ℕ) (from end : ℕ) (out₀ c�
           opened = omega arith;
         }
 
-pub ruleset run-laws = (passing-begins, lines-sized, clocks-sized, words-sized, records-sized, marks-sized, runnable, running-begins, running-ends, running-passes, next-there, room-for-next, needs)
+pub ruleset run-laws = (passing-begins, lines-sized, clocks-sized, words-sized, records-sized, marks-sized, runnable, running-begins, running-ends, running-passes, next-there, room-for-next, next-countable, needs)

@@ -7,7 +7,7 @@ ghost use Rattle.engine.specs.Promises.{areas};
 ghost use Rattle.engine.specs.Outcomes.{OrderIs};
 ghost use Rattle.running.specs.Records.{stepFrom};
 ghost use Rattle.lines.specs.Lines.{lineBytes};
-ghost use Rattle.lines.specs.Needed.{Room};
+ghost use Rattle.lines.specs.Needed.{Room, Counted};
 ghost use Rattle.stepfile.specs.Feeding.{bytesTaken, openingTaken, stepTaken, recordTaken};
 ghost use Rattle.stepfile.specs.Promises.{standing, Started, FedAs, FinishedAs};
 ghost use Rattle.stepfile.specs.Needed.{ZerosBehind, FeedableIs, EndsShort, LinePut, outcomeLine, standsAt, Takeable, StepTakeable, StoppedAt, Steppable, Took, OpenedAs, Answered, firstStand, Passable, Passing, Ahead, Runnable, Passes, Holdable, HeldAll, Feedable, Completes, Endable, Ended, ChunkFed};
@@ -416,9 +416,12 @@ fn take_steps(
     let mut number = stand.number;
     let mut at = stand.at;
     let mut i = from;
+    let mut digits = [48u8; 8];
+    let mut len = lines::counter(&mut digits, number);
     while i < end {
         let outcome = running::step_record(chunk, i, clocks, words, records, marks);
-        at = put_outcome(lines, at, number, outcome);
+        at = put_next(lines, at, digits, len, number, outcome);
+        len = lines::count_on(&mut digits, len, number);
         number = number + 1;
         i = i + 8;
     }
@@ -652,12 +655,58 @@ fn put_outcome(out: &mut [u8], at: usize, number: u32, outcome: Outcome) -> usiz
     }
 }
 
+// The same where the digits of the number are at hand.
+fn put_next(
+    out: &mut [u8],
+    at: usize,
+    digits: [u8; 8],
+    len: usize,
+    number: u32,
+    outcome: Outcome,
+) -> usize
+    requires { ⌜ Room (now out) at 44 ⌝ }
+    requires { ⌜ Counted digits len number ⌝ }
+    ensures { λ r. ⌜ LinePut (now (out .entry)) at (outcomeLine number outcome) (now (out .exit)) r ⌝ }
+{
+    match outcome {
+        Outcome::Done { value, count } => put_counted(
+            out,
+            at,
+            digits,
+            len,
+            number,
+            0,
+            value,
+            count,
+        ),
+        Outcome::Refused(refusal) => put_counted(out, at, digits, len, number, wide(refusal), 0, 0),
+    }
+}
+
 // Writes a line from a place on, and says the place behind it.
 fn put_line(out: &mut [u8], at: usize, number: u32, refusal: u32, value: u32, count: u32) -> usize
     requires { ⌜ Room (now out) at 44 ⌝ }
     ensures { λ r. ⌜ LinePut (now (out .entry)) at (lineBytes number refusal value count) (now (out .exit)) r ⌝ }
 {
     lines::put_line(out, at, number, refusal, value, count)
+}
+
+// The same where the digits of the number are at hand.
+fn put_counted(
+    out: &mut [u8],
+    at: usize,
+    digits: [u8; 8],
+    len: usize,
+    number: u32,
+    refusal: u32,
+    value: u32,
+    count: u32,
+) -> usize
+    requires { ⌜ Room (now out) at 44 ⌝ }
+    requires { ⌜ Counted digits len number ⌝ }
+    ensures { λ r. ⌜ LinePut (now (out .entry)) at (lineBytes number refusal value count) (now (out .exit)) r ⌝ }
+{
+    lines::put_counted(out, at, digits, len, number, refusal, value, count)
 }
 
 fn wide(x: u8) -> u32
