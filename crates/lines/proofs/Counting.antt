@@ -20,7 +20,7 @@ use Rattle.lines.proofs.Writing.{put-keeps-length, sets-keep-length}
 
 -- ---- the digits of a number and of the next
 
--- the digits before the last
+-- the digits before the last: none, or those of the tenth
 unfoldable above : ℕ → List ℕ
 above m = cond (ltb m 10) [] (digits (m / 10))
 
@@ -42,6 +42,7 @@ above-none =
     by-digits (λ m. length (above m) ≡ 0 → m / 10 ≡ 0) (λ m h k. omega arith)
     (λ m h before k. absurd (omega (arith, ap length (above-more m h), some-digit (m / 10))))
 
+-- the last digit stands behind them
 digits-last : (m : ℕ) → digits m ≡ above m ++ (48 + m % 10) ∷ []
 digits-last =
     by-digits (λ m. digits m ≡ above m ++ (48 + m % 10) ∷ [])
@@ -73,6 +74,7 @@ digits-carried m h =
 
 -- ---- eight bytes
 
+-- digits with bytes behind them, eight together
 counted-front : (d bs : List ℕ) (len n : ℕ) → d ≡ digits n ++ bs → length d ≡ 8 → len ≡ length (digits n) → Counted d len n
 counted-front d bs len n e l c =
     record {
@@ -94,19 +96,23 @@ module _ (d : List ℕ) (len n : ℕ) (p : Eight d n) (c : len ≡ length (digit
 
 -- ---- counting on
 
+-- so many zeros in ASCII
+abbrev zeros : ℕ → List ℕ
+zeros k = replicate k 48
+
 -- from place i on the digits are zeros, and the carry goes on to those of rest, which stand before it
 pub record Carrying (d : List ℕ) (len n i : ℕ) : Type 0 where
   pub rest : ℕ
   pub front : List ℕ
   pub behind : List ℕ
-  pub all : d ≡ front ++ (replicate {A = ℕ} (len - i) 48 ++ behind)
+  pub all : d ≡ front ++ (zeros (len - i) ++ behind)
   pub place : length front ≡ i
   pub long : length d ≡ 8
   pub few : len < 8
   pub on : i ≤ len
   pub some : 1 ≤ i → front ≡ digits rest
   pub none : i ≡ 0 → rest ≡ 0
-  pub carried : digits (n + 1) ≡ digits (rest + 1) ++ replicate {A = ℕ} (len - i) 48
+  pub carried : digits (n + 1) ≡ digits (rest + 1) ++ zeros (len - i)
 
 -- before the loop
 pub carrying-begins : (d : List ℕ) (len n : ℕ) → Countable d len n → Carrying d len n len
@@ -117,24 +123,25 @@ carrying-begins d len n p =
       rest = n;
       front = take len d;
       behind = drop len d;
-      all = sym (take-append-drop len d) ∙ ap (λ (k : ℕ). take len d ++ (replicate {A = ℕ} k 48 ++ drop len d)) no-zeros;
+      all = sym (take-append-drop len d) ∙ ap (λ (k : ℕ). take len d ++ (zeros k ++ drop len d)) no-zeros;
       place = ap length (q .said) ∙ sym (q .counted);
       long = q .long;
       few = omega (arith, q .counted, digits-at-most 6 n (omega (arith, p .few)));
       on = omega arith;
       some = λ h. q .said;
       none = λ z. absurd (omega (arith, q .counted, some-digit n));
-      carried = sym (append-nil (digits (n + 1))) ∙ ap (λ (k : ℕ). digits (n + 1) ++ replicate {A = ℕ} k 48) no-zeros;
+      carried = sym (append-nil (digits (n + 1))) ∙ ap (λ (k : ℕ). digits (n + 1) ++ zeros k) no-zeros;
     }
 
 module _ (d : List ℕ) (len n i : ℕ) (p : Carrying d len n i) where
   -- in a turn
   module _ (h : 0 < i) where
-    opened : d ≡ above (p .rest) ++ (48 + p .rest % 10) ∷ (replicate {A = ℕ} (len - i) 48 ++ p .behind)
+    -- the last digit of the rest stands before place i: what is read there, and what a store leaves
+    opened : d ≡ above (p .rest) ++ (48 + p .rest % 10) ∷ (zeros (len - i) ++ p .behind)
     opened =
         p .all
-        ∙ ap (λ (f : List ℕ). f ++ (replicate {A = ℕ} (len - i) 48 ++ p .behind)) (p .some h ∙ digits-last (p .rest))
-        ∙ append-snoc (above (p .rest)) (48 + p .rest % 10) (replicate {A = ℕ} (len - i) 48 ++ p .behind)
+        ∙ ap (λ (f : List ℕ). f ++ (zeros (len - i) ++ p .behind)) (p .some h ∙ digits-last (p .rest))
+        ∙ append-snoc (above (p .rest)) (48 + p .rest % 10) (zeros (len - i) ++ p .behind)
 
     before-last : length (above (p .rest)) ≡ i - 1
     before-last = omega (arith, p .place, ap length (p .some h ∙ digits-last (p .rest)), length-append (above (p .rest)) ((48 + p .rest % 10) ∷ []))
@@ -142,12 +149,12 @@ module _ (d : List ℕ) (len n i : ℕ) (p : Carrying d len n i) where
     last-is : getD d (i - 1) 0 ≡ 48 + p .rest % 10
     last-is =
         ap (λ (l : List ℕ). getD l (i - 1) 0) opened
-        ∙ getD-at (above (p .rest)) (48 + p .rest % 10) (replicate {A = ℕ} (len - i) 48 ++ p .behind) 0 (i - 1) before-last
+        ∙ getD-at (above (p .rest)) (48 + p .rest % 10) (zeros (len - i) ++ p .behind) 0 (i - 1) before-last
 
-    last-stored : (v : ℕ) → set d (i - 1) v ≡ above (p .rest) ++ v ∷ (replicate {A = ℕ} (len - i) 48 ++ p .behind)
+    last-stored : (v : ℕ) → set d (i - 1) v ≡ above (p .rest) ++ v ∷ (zeros (len - i) ++ p .behind)
     last-stored v =
         ap (λ (l : List ℕ). set l (i - 1) v) opened
-        ∙ set-at (above (p .rest)) (48 + p .rest % 10) (replicate {A = ℕ} (len - i) 48 ++ p .behind) v (i - 1) before-last
+        ∙ set-at (above (p .rest)) (48 + p .rest % 10) (zeros (len - i) ++ p .behind) v (i - 1) before-last
 
     pub last-within : i - 1 < length d
     last-within = omega (arith, p .long, p .few, p .on)
@@ -159,12 +166,12 @@ module _ (d : List ℕ) (len n i : ℕ) (p : Carrying d len n i) where
         let risen = digits-risen (p .rest) (omega (arith, last-is)) ∙ ap (λ (v : ℕ). above (p .rest) ++ v ∷ []) value in
         let whole : set d (i - 1) (getD d (i - 1) 0 + 1) ≡ digits (n + 1) ++ p .behind =
         last-stored (getD d (i - 1) 0 + 1)
-        ∙ sym (append-snoc (above (p .rest)) (getD d (i - 1) 0 + 1) (replicate {A = ℕ} (len - i) 48 ++ p .behind))
-        ∙ ap (λ (l : List ℕ). l ++ (replicate {A = ℕ} (len - i) 48 ++ p .behind)) (sym risen)
-        ∙ sym (append-assoc (digits (p .rest + 1)) (replicate {A = ℕ} (len - i) 48) (p .behind))
+        ∙ sym (append-snoc (above (p .rest)) (getD d (i - 1) 0 + 1) (zeros (len - i) ++ p .behind))
+        ∙ ap (λ (l : List ℕ). l ++ (zeros (len - i) ++ p .behind)) (sym risen)
+        ∙ sym (append-assoc (digits (p .rest + 1)) (zeros (len - i)) (p .behind))
         ∙ ap (λ (l : List ℕ). l ++ p .behind) (sym (p .carried)) in
         counted-front (set d (i - 1) (getD d (i - 1) 0 + 1)) (p .behind) len (n + 1) whole (length-set d (i - 1) (getD d (i - 1) 0 + 1) ∙ p .long)
-        (omega (arith, ap length (p .carried), length-append (digits (p .rest + 1)) (replicate {A = ℕ} (len - i) 48), length-replicate {A = ℕ} (len - i) 48, ap length risen, length-append (above (p .rest)) ((getD d (i - 1) 0 + 1) ∷ []), before-last, p .on))
+        (omega (arith, ap length (p .carried), length-append (digits (p .rest + 1)) (zeros (len - i)), length-replicate {A = ℕ} (len - i) 48, ap length risen, length-append (above (p .rest)) ((getD d (i - 1) 0 + 1) ∷ []), before-last, p .on))
 
     -- a 9 becomes a zero, and the carry goes on
     pub carrying-more : 57 ≤ getD d (i - 1) 0 → Carrying (set d (i - 1) 48) len n (i - 1)
@@ -174,7 +181,7 @@ module _ (d : List ℕ) (len n i : ℕ) (p : Carrying d len n i) where
           rest = p .rest / 10;
           front = above (p .rest);
           behind = p .behind;
-          all = last-stored 48 ∙ ap (λ (k : ℕ). above (p .rest) ++ (replicate {A = ℕ} k 48 ++ p .behind)) one-more;
+          all = last-stored 48 ∙ ap (λ (k : ℕ). above (p .rest) ++ (zeros k ++ p .behind)) one-more;
           place = before-last;
           long = length-set d (i - 1) 48 ∙ p .long;
           few = p .few;
@@ -183,9 +190,9 @@ module _ (d : List ℕ) (len n i : ℕ) (p : Carrying d len n i) where
           none = λ z. above-none (p .rest) (before-last ∙ z);
           carried =
               p .carried
-              ∙ ap (λ (l : List ℕ). l ++ replicate {A = ℕ} (len - i) 48) (digits-carried (p .rest) (omega (arith, last-is)))
-              ∙ append-snoc (digits (p .rest / 10 + 1)) 48 (replicate {A = ℕ} (len - i) 48)
-              ∙ ap (λ (k : ℕ). digits (p .rest / 10 + 1) ++ replicate {A = ℕ} k 48) one-more;
+              ∙ ap (λ (l : List ℕ). l ++ zeros (len - i)) (digits-carried (p .rest) (omega (arith, last-is)))
+              ∙ append-snoc (digits (p .rest / 10 + 1)) 48 (zeros (len - i))
+              ∙ ap (λ (k : ℕ). digits (p .rest / 10 + 1) ++ zeros k) one-more;
         }
 
   -- behind the loop
@@ -196,22 +203,22 @@ module _ (d : List ℕ) (len n i : ℕ) (p : Carrying d len n i) where
   pub all-nines : i ≤ 0 → Counted (set (set d len 48) 0 49) (len + 1) (n + 1)
   all-nines z =
       let none-before : i ≡ 0 = omega arith in
-      let zeros : len - i ≡ len = omega arith in
-      let d-is : d ≡ replicate {A = ℕ} len 48 ++ p .behind =
+      let all-zeros : len - i ≡ len = omega arith in
+      let d-is : d ≡ zeros len ++ p .behind =
       p .all
-      ∙ ap (λ (f : List ℕ). f ++ (replicate {A = ℕ} (len - i) 48 ++ p .behind)) (empty (p .front) (p .place ∙ none-before))
-      ∙ ap (λ (k : ℕ). replicate {A = ℕ} k 48 ++ p .behind) zeros in
+      ∙ ap (λ (f : List ℕ). f ++ (zeros (len - i) ++ p .behind)) (empty (p .front) (p .place ∙ none-before))
+      ∙ ap (λ (k : ℕ). zeros k ++ p .behind) all-zeros in
       let left : 0 < length (p .behind) =
-      omega (arith, p .long, p .few, ap length d-is, length-append (replicate {A = ℕ} len 48) (p .behind), length-replicate {A = ℕ} len 48) in
-      let longer : set d len 48 ≡ 48 ∷ (replicate {A = ℕ} len 48 ++ drop 1 (p .behind)) =
-      ap (λ (l : List ℕ). set l len 48) (d-is ∙ ap (λ (l : List ℕ). replicate {A = ℕ} len 48 ++ l) (drop-cons (p .behind) 0 0 left))
-      ∙ set-at (replicate {A = ℕ} len 48) (getD (p .behind) 0 0) (drop 1 (p .behind)) 48 len (length-replicate {A = ℕ} len 48)
+      omega (arith, p .long, p .few, ap length d-is, length-append (zeros len) (p .behind), length-replicate {A = ℕ} len 48) in
+      let longer : set d len 48 ≡ 48 ∷ (zeros len ++ drop 1 (p .behind)) =
+      ap (λ (l : List ℕ). set l len 48) (d-is ∙ ap (λ (l : List ℕ). zeros len ++ l) (drop-cons (p .behind) 0 0 left))
+      ∙ set-at (zeros len) (getD (p .behind) 0 0) (drop 1 (p .behind)) 48 len (length-replicate {A = ℕ} len 48)
       ∙ one-behind len (drop 1 (p .behind)) in
-      let said : digits (n + 1) ≡ 49 ∷ replicate {A = ℕ} len 48 =
+      let said : digits (n + 1) ≡ 49 ∷ zeros len =
       p .carried
-      ∙ ap (λ (k : ℕ). digits (k + 1) ++ replicate {A = ℕ} (len - i) 48) (p .none none-before)
-      ∙ ap (λ (l : List ℕ). l ++ replicate {A = ℕ} (len - i) 48) (digits-one 1 (omega arith))
-      ∙ ap (λ (k : ℕ). 49 ∷ replicate {A = ℕ} k 48) zeros in
+      ∙ ap (λ (k : ℕ). digits (k + 1) ++ zeros (len - i)) (p .none none-before)
+      ∙ ap (λ (l : List ℕ). l ++ zeros (len - i)) (digits-one 1 (omega arith))
+      ∙ ap (λ (k : ℕ). 49 ∷ zeros k) all-zeros in
       counted-front (set (set d len 48) 0 49) (drop 1 (p .behind)) (len + 1) (n + 1)
       (ap (λ (l : List ℕ). set l 0 49) longer ∙ ap (λ (l : List ℕ). l ++ drop 1 (p .behind)) (sym said))
       (length-set (set d len 48) 0 49 ∙ length-set d len 48 ∙ p .long)
@@ -221,7 +228,7 @@ module _ (d : List ℕ) (len n i : ℕ) (p : Carrying d len n i) where
       empty [] e = refl
       empty (x ∷ l) e = absurd (omega arith)
 
-      one-behind : (k : ℕ) (bs : List ℕ) → replicate {A = ℕ} k 48 ++ 48 ∷ bs ≡ 48 ∷ (replicate {A = ℕ} k 48 ++ bs)
+      one-behind : (k : ℕ) (bs : List ℕ) → zeros k ++ 48 ∷ bs ≡ 48 ∷ (zeros k ++ bs)
       one-behind zero bs = refl
       one-behind (suc k) bs = ap (λ (l : List ℕ). 48 ∷ l) (one-behind k bs)
 
