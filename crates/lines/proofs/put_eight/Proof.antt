@@ -1,6 +1,6 @@
 -- `put_eight` meets its contract: the first i bytes are stored. Assumes nothing.
 use Prim.Native.Nat.{_-_}
-use Rattle.lines.proofs.Counting.{Laying, count-laws}
+use Rattle.lines.proofs.CountedLines.{Laying, counted-laws}
 use Rattle.lines.proofs.put_eight.Statement.{statement}
 use Rattle.lines.proofs.put_eight.Tie as tie
 
@@ -13,4 +13,4 @@ abbrev μ-loop : tie.MeasureT-loop
 pub put-eight-spec : {M : Type 1} → statement M
 put-eight-spec =
     tie.close
-    (tie.spec Inv-loop μ-loop (λ c. search count-laws) (λ c. search count-laws) (λ c. search count-laws) (λ c. search count-laws) (λ c. search count-laws) (λ c. search count-laws) (λ c. search count-laws) (λ c. search count-laws) (λ c. search count-laws))
+    (tie.spec Inv-loop μ-loop (λ c. search counted-laws) (λ c. search counted-laws) (λ c. search counted-laws) (λ c. search counted-laws) (λ c. search counted-laws) (λ c. search counted-laws) (λ c. search counted-laws) (λ c. search counted-laws) (λ c. search counted-laws))
