@@ -1,4 +1,4 @@
--- Collection, and what completes a round of the barrier: one law for each way of the code, and `collect-laws`. Assumes nothing.
+-- What completes a round of the barrier, with a collection if one is wanted: one law for each way of the code, and `complete-laws`. Assumes nothing.
 use Prim.Native.Nat.{ℕ}
 use mathlib.Core.Path.{_≡_, sym, ap, _∙_}
 use mathlib.Core.Bool.{true, false, not}
@@ -8,35 +8,12 @@ use lib.Dec.{eqb}
 use borrow.Author.Tests.{ne-eqb}
 use borrow.Author.Needs.{needs}
 use Rattle.rules.specs.State.{mainframe, State}
-use Rattle.rules.specs.Steps.{roundDone, Fetches, allFetched, emptied, collected, wantsCollection}
+use Rattle.rules.specs.Steps.{roundDone, Fetches, collected, wantsCollection}
 use Rattle.memory.specs.Areas.{stateIn}
 use Rattle.memory.specs.Needed.{Lent, Ready}
 use Rattle.memory.proofs.MarkLaws.{wanted-read}
-use Rattle.steps.specs.Needed.{RoundComplete, ClocksAndMarks, RoundThere}
-use Rattle.steps.specs.Effects.{CountedAs, RoundDone, Emptied, completed}
-
--- ---- collection
-
--- the areas of the clocks and of the marks have their sizes
-pub clocks-and-marks : (f : Fetches) (x : ℕ) (c w r m : List ℕ) → CountedAs f x c w r m → ClocksAndMarks c m
-clocks-and-marks f x c w r m h = record { clocks = h .areas .lent .clocks; marks = h .areas .lent .marks }
-
--- all have fetched, then all was emptied
-pub collected-done : (s : State) (x : ℕ) (c₁ w₁ r m c₂ m₂ : List ℕ) → CountedAs (allFetched mainframe s (s .counts .processors)) x c₁ w₁ r m → Emptied c₁ m c₂ m₂
-    → CountedAs (collected mainframe s) x c₂ w₁ r m₂
-unfolding collected
-collected-done s x c₁ w₁ r m c₂ m₂ h e =
-    let l = h .areas .lent in
-    record {
-      applied = h .applied;
-      areas =
-          record {
-            lent = record { clocks = e .clocks; words = l .words; records = l .records; marks = e .marks };
-            is = e .is w₁ r ∙ ap (λ (t : State). emptied t) (h .areas .is);
-          };
-    }
-
--- ---- a round is completed
+use Rattle.steps.specs.Needed.{RoundComplete, RoundThere}
+use Rattle.steps.specs.Effects.{CountedAs, RoundDone, completed}
 
 completed-plain : (s : State) → s .marks .wanted ≡ 0 → completed s ≡ record { after = roundDone s; count = 0 }
 unfolding completed
@@ -93,4 +70,4 @@ module _ (c w r m c₁ m₁ : List ℕ) (h : RoundComplete c w r m) (d : RoundDo
           areas = record { lent = e .areas .lent; is = e .areas .is ∙ ap (λ (f : Fetches). f .after) with-collection };
         }
 
-pub ruleset collect-laws = (clocks-and-marks, collected-done, round-there, plain-done, round-ready, collecting-done, needs)
+pub ruleset complete-laws = (round-there, plain-done, round-ready, collecting-done, needs)

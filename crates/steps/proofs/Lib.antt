@@ -2,7 +2,6 @@ pub mod Learning
 pub mod Rounds
 pub mod Locking
 pub mod Storing
-pub mod Collecting
 pub mod Completing
 pub mod Acting
 pub mod Accessing

@@ -1,4 +1,4 @@
--- The barrier's marks and what a completed round and a collection leave; the wish for collection. One law for each way of the code, and
+-- The barrier's marks and what a completed round leaves; the wish for collection. One law for each way of the code, and
 -- `round-laws`. Rests on Learning. Assumes nothing.
 use Prim.Native.Nat.{ℕ, suc, _+_, _-_, _*_, _≤_, _<_}
 use native.Mathlib.Numerals.{add-one}
@@ -11,19 +11,19 @@ use lib.Seq.{length-take-le, drop-drop, sets, length-sets, sets-eq}
 use lib.Dec.{eqb}
 use borrow.Author.Tests.{eq-eqb, ne-eqb}
 use borrow.Author.Needs.{needs}
-use Rattle.rules.specs.State.{mainframe, Barrier, Clocks, withClock, cleared, State, hasArrived}
-use Rattle.rules.specs.Steps.{allArrived, allLearned, roundDone, emptied, wantsCollection, want}
+use Rattle.rules.specs.State.{mainframe, Barrier, Clocks, withClock, cleared, hasArrived}
+use Rattle.rules.specs.Steps.{allArrived, allLearned, roundDone, wantsCollection, want}
 use Rattle.rules.specs.Tables.{every}
 use Rattle.rules.proofs.Facts.{Within}
 use Rattle.rules.proofs.Tables.{every-at}
-use Rattle.memory.specs.Areas.{clockRow, arrivedPlace, clocksIn, recordsIn, stateIn}
+use Rattle.memory.specs.Areas.{clockRow, arrivedPlace, clocksIn, stateIn}
 use Rattle.memory.specs.Layout.{rowOf}
 use Rattle.memory.specs.Needed.{RowThere}
-use Rattle.memory.proofs.ClockLaws.{clock-written, clocks-zeros}
-use Rattle.memory.proofs.MarkLaws.{processors-read, wanted-read, arrived-read, standing-written, wanted-written, arrived-cleared}
+use Rattle.memory.proofs.ClockLaws.{clock-written}
+use Rattle.memory.proofs.MarkLaws.{processors-read, wanted-read, arrived-read, wanted-written, arrived-cleared}
 use Rattle.memory.proofs.RowLaws.{length-row, map-replicate}
-use Rattle.steps.specs.Needed.{ClocksOfFirst, MarksThere, ClocksAndMarks, RoundThere}
-use Rattle.steps.specs.Effects.{HoldsClocks, ArrivedAll, RoundDone, Emptied, Wanted}
+use Rattle.steps.specs.Needed.{ClocksOfFirst, MarksThere, RoundThere}
+use Rattle.steps.specs.Effects.{HoldsClocks, ArrivedAll, RoundDone, Wanted}
 
 -- ---- whether all processors have arrived
 
@@ -132,24 +132,6 @@ round-done c m c₁ c₂ m₂ n h e k ec em =
           (round-clocks c c₁ c₂ n (h .clocks) k ec ∙ ap (λ (j : ℕ). withClock (allLearned (clocksIn mainframe c) j) Barrier (cleared (clocksIn mainframe c .barrier))) e);
     }
 
--- ---- collection
-
--- the records go, all clocks are zeros, the wish is clear
-pub emptied-areas : (c m c′ : List ℕ) → ClocksAndMarks c m → c′ ≡ replicate (length c) 0 → Emptied c m c′ (set (set m 3 0) 4 0)
-unfolding emptied stateIn recordsIn
-emptied-areas c m c′ h e =
-    let long : length (set m 3 0) ≡ 93 = length-set m 3 0 ∙ h .marks in
-    record {
-      clocks = ap length e ∙ length-replicate {A = ℕ} (length c) 0 ∙ h .clocks;
-      marks = length-set (set m 3 0) 4 0 ∙ long;
-      is =
-          λ w r.
-          wanted-written c′ w r (set m 3 0) 0 long
-          ∙ ap (λ (s : State). record { counts = s .counts; clocks = s .clocks; pages = s .pages; records = s .records; marks = record { holders = s .marks .holders; arrived = s .marks .arrived; wanted = 0 } })
-          (standing-written c′ w r m 0 (h .marks))
-          ∙ rw (e, clocks-zeros c);
-    }
-
 -- ---- the wish for collection
 
 -- it is set
@@ -170,4 +152,4 @@ wish-kept m h e =
       is = λ c w r. rw (wanted-read c w r m, ne-eqb (getD m 4 0) 0 e);
     }
 
-pub ruleset round-laws = (arriving-begins, arriving-missing, arriving-more, arriving-ends, arrived-part, learners-there, barrier-row-there, round-done, emptied-areas, wish-set, wish-kept, needs)
+pub ruleset round-laws = (arriving-begins, arriving-missing, arriving-more, arriving-ends, arrived-part, learners-there, barrier-row-there, round-done, wish-set, wish-kept, needs)

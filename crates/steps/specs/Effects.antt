@@ -1,5 +1,5 @@
 -- What steps and their parts leave in the lent areas, in the words of the rules: the state that the areas hold, and that they keep their
--- sizes. Where a part does not touch an area, it holds whatever that area has. Assumes nothing.
+-- sizes. Where a part does not touch an area, it holds whatever that area has. `CountedAs` is that of collecting. Assumes nothing.
 use Prim.Native.Nat.{ℕ, _+_, _*_, _/_, _%_}
 use mathlib.Core.Path.{_≡_}
 use mathlib.Core.Bool.{Bool, cond}
@@ -7,9 +7,10 @@ use mathlib.Core.List.{List}
 use lib.ListN.{length}
 use Rattle.rules.specs.State.{mainframe, Processor, Lock, Clocks, clockOf, withClock, Pages, State}
 use Rattle.rules.specs.Close.{closed}
-use Rattle.rules.specs.Steps.{Effect, pageOfWord, twinTaken, stored, withHolder, learned, allArrived, roundDone, Fetches, emptied, collected, wantsCollection, want}
+use Rattle.rules.specs.Steps.{Effect, pageOfWord, twinTaken, stored, withHolder, learned, allArrived, roundDone, Fetches, collected, wantsCollection, want}
 use Rattle.memory.specs.Areas.{copyRow, clocksIn, stateIn}
 use Rattle.memory.specs.Needed.{Holds}
+pub use Rattle.collecting.specs.Effects.{CountedAs}
 use Rattle.steps.specs.Needed.{LockThere}
 
 -- the value and the count answered are those of the effect e, and so is the state that the areas hold
@@ -17,11 +18,6 @@ pub record AnsweredAs (e : Effect) (value count : ℕ) (c w r m : List ℕ) : Ty
   pub answer : value ≡ e .value
   pub applied : count ≡ e .count
   pub areas : Holds c w r m (e .after)
-
--- the count answered is that of the fetches f, and the areas hold the state that they leave
-pub record CountedAs (f : Fetches) (count : ℕ) (c w r m : List ℕ) : Type 0 where
-  pub applied : count ≡ f .count
-  pub areas : Holds c w r m (f .after)
 
 -- the areas hold the state s with the interval of p closed, and p and lock l have their places in them
 pub record ClosedAtLock (s : State) (c w r m : List ℕ) (p l : ℕ) : Type 0 where
@@ -104,12 +100,6 @@ pub record RoundDone (c m c′ m′ : List ℕ) : Type 0 where
   pub clocks : length c′ ≡ 4744
   pub marks : length m′ ≡ 93
   pub is : (w r : List ℕ) → stateIn mainframe c′ w r m′ ≡ roundDone (stateIn mainframe c w r m)
-
--- the records went, the clocks became zeros and the wish was cleared
-pub record Emptied (c m c′ m′ : List ℕ) : Type 0 where
-  pub clocks : length c′ ≡ 4744
-  pub marks : length m′ ≡ 93
-  pub is : (w r : List ℕ) → stateIn mainframe c′ w r m′ ≡ emptied (stateIn mainframe c w r m)
 
 -- "When the last card arrives": the round is completed, and garbage is collected if that is wanted
 unfoldable pub completed : State → Fetches

@@ -1,4 +1,4 @@
--- What a step asks of the memory that it is given, and what its parts ask of one another. Assumes nothing.
+-- What a step asks of the memory that it is given, and what its parts ask of one another. `Acts` is that of collecting. Assumes nothing.
 use Prim.Native.Nat.{ℕ, _*_, _≤_, _<_}
 use mathlib.Core.Path.{_≡_}
 use mathlib.Core.List.{List}
@@ -8,22 +8,16 @@ use Rattle.rules.specs.Steps.{roundDone}
 use Rattle.rules.proofs.Facts.{InOrder}
 use Rattle.memory.specs.Areas.{stateIn}
 use Rattle.memory.specs.Needed.{Lent}
+pub use Rattle.collecting.specs.Needed.{Acts}
 
 -- ---- the steps
 
--- the areas have their sizes, the state in them is in order, and p is one of its processors
-pub record Acts (c w r m : List ℕ) (p : ℕ) : Type 0 where
-  pub lent : Lent c w r m
-  pub in-order : InOrder mainframe (stateIn mainframe c w r m)
-  pub from : 1 ≤ p
-  pub to : p ≤ stateIn mainframe c w r m .counts .processors
-
--- the same, and a is a word of a present page
+-- p acts, and a is a word of a present page
 pub record ActsOnWord (c w r m : List ℕ) (p a : ℕ) : Type 0 where
   pub acts : Acts c w r m p
   pub word : a < stateIn mainframe c w r m .counts .pages * 32
 
--- the same, and l is a present lock
+-- p acts, and l is a present lock
 pub record ActsOnLock (c w r m : List ℕ) (p l : ℕ) : Type 0 where
   pub acts : Acts c w r m p
   pub lock : l < stateIn mainframe c w r m .counts .locks
@@ -52,12 +46,7 @@ pub record MarksThere (m : List ℕ) : Type 0 where
   pub marks : length m ≡ 93
   pub few : getD m 0 0 ≤ 8
 
--- the areas of the clocks and of the marks
-pub record ClocksAndMarks (c m : List ℕ) : Type 0 where
-  pub clocks : length c ≡ 4744
-  pub marks : length m ≡ 93
-
--- the same, with a place for each processor
+-- the areas of the clocks and of the marks, with a place for each processor
 pub record RoundThere (c m : List ℕ) : Type 0 where
   pub clocks : length c ≡ 4744
   pub marks : length m ≡ 93

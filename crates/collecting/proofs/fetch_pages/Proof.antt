@@ -1,8 +1,8 @@
 -- `fetch_pages` meets its contract: the pages below g are fetched. Assumes nothing.
 use Prim.Native.Nat.{_-_}
-use Rattle.steps.proofs.Collecting.{PagesFetching, fetches-laws}
-use Rattle.steps.proofs.fetch_pages.Statement.{statement}
-use Rattle.steps.proofs.fetch_pages.Tie as tie
+use Rattle.collecting.proofs.Collecting.{PagesFetching, fetches-laws}
+use Rattle.collecting.proofs.fetch_pages.Statement.{statement}
+use Rattle.collecting.proofs.fetch_pages.Tie as tie
 
 abbrev Inv-loop : tie.InvT-loop
 Inv-loop p clocks₀ words₀ records marks n count₀ g₀ clocks words count g = PagesFetching clocks₀ words₀ clocks words records marks (p .0) n g count

@@ -1,8 +1,8 @@
 -- `fetch_all` meets its contract: the first k processors have fetched. Assumes nothing.
 use Prim.Native.Nat.{_-_}
-use Rattle.steps.proofs.Collecting.{AllFetching, fetches-laws}
-use Rattle.steps.proofs.fetch_all.Statement.{statement}
-use Rattle.steps.proofs.fetch_all.Tie as tie
+use Rattle.collecting.proofs.Collecting.{AllFetching, fetches-laws}
+use Rattle.collecting.proofs.fetch_all.Statement.{statement}
+use Rattle.collecting.proofs.fetch_all.Tie as tie
 
 abbrev Inv-loop : tie.InvT-loop
 Inv-loop clocks₀ words₀ records marks n count₀ k₀ clocks words count k = AllFetching clocks₀ words₀ clocks words records marks n k count

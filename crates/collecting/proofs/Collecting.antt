@@ -22,8 +22,8 @@ use Rattle.memory.specs.Areas.{stateIn}
 use Rattle.memory.specs.Needed.{Lent, Ready}
 use Rattle.memory.proofs.MarkLaws.{processors-read, pages-read}
 use Rattle.fetching.specs.Needed.{Fetchable}
-use Rattle.steps.specs.Needed.{Acts}
-use Rattle.steps.specs.Effects.{CountedAs}
+use Rattle.collecting.specs.Needed.{Acts}
+use Rattle.collecting.specs.Effects.{CountedAs}
 
 -- ---- a fetch keeps order and counts at most as many records as stand
 

@@ -1,0 +1,21 @@
+-- What a collection and its parts leave in the lent areas, in the words of the rules: the state that the areas hold, and that they keep
+-- their sizes. Assumes nothing.
+use Prim.Native.Nat.{ℕ}
+use mathlib.Core.Path.{_≡_}
+use mathlib.Core.List.{List}
+use lib.ListN.{length}
+use Rattle.rules.specs.State.{mainframe}
+use Rattle.rules.specs.Steps.{Fetches, emptied}
+use Rattle.memory.specs.Areas.{stateIn}
+use Rattle.memory.specs.Needed.{Holds}
+
+-- the count answered is that of the fetches f, and the areas hold the state that they leave
+pub record CountedAs (f : Fetches) (count : ℕ) (c w r m : List ℕ) : Type 0 where
+  pub applied : count ≡ f .count
+  pub areas : Holds c w r m (f .after)
+
+-- the records went, the clocks became zeros and the wish was cleared
+pub record Emptied (c m c′ m′ : List ℕ) : Type 0 where
+  pub clocks : length c′ ≡ 4744
+  pub marks : length m′ ≡ 93
+  pub is : (w r : List ℕ) → stateIn mainframe c′ w r m′ ≡ emptied (stateIn mainframe c w r m)

@@ -1,9 +1,0 @@
--- `collect` meets its contract. Assumes nothing.
-use Rattle.steps.proofs.Completing.{collect-laws}
-use Rattle.steps.proofs.collect.Statement.{statement}
-use Rattle.steps.proofs.collect.Tie as tie
-
-pub collect-spec : {M : Type 1} → statement M
-collect-spec =
-    tie.close
-    (tie.spec (λ c κs. search collect-laws) (λ c κs. search collect-laws) (λ c. search collect-laws) (λ c. search collect-laws) (λ c. search collect-laws) (λ c. search collect-laws))
