@@ -22,8 +22,10 @@ use Rattle.memory.specs.Areas.{stateIn}
 use Rattle.memory.specs.Needed.{Lent, Ready}
 use Rattle.memory.proofs.MarkLaws.{processors-read, pages-read}
 use Rattle.fetching.specs.Needed.{Fetchable}
-use Rattle.collecting.specs.Needed.{Acts}
+use Rattle.ranking.specs.Needed.{Brought}
+use Rattle.collecting.specs.Needed.{Acts, PagesRanked}
 use Rattle.collecting.specs.Effects.{CountedAs}
+use Rattle.collecting.proofs.Ranked.{ranks-kept}
 
 -- ---- a fetch keeps order and counts at most as many records as stand
 
@@ -77,8 +79,9 @@ pages-kept s p (suc g) o h k l =
 -- ---- one processor fetches each page
 
 -- the pages below g are fetched
-pub record PagesFetching (c₀ w₀ c w r m : List ℕ) (p n g count : ℕ) : Type 0 where
+pub record PagesFetching (c₀ w₀ c w r m l counts : List ℕ) (p n g count : ℕ) : Type 0 where
   pub acts : Acts c₀ w₀ r m p
+  pub ranked : PagesRanked c r m l counts
   pub lent : Lent c w r m
   pub pages : n ≡ getD m 1 0
   pub upto : g ≤ n
@@ -86,11 +89,12 @@ pub record PagesFetching (c₀ w₀ c w r m : List ℕ) (p n g count : ℕ) : Ty
   pub counted : count ≡ pagesFetched mainframe (stateIn mainframe c₀ w₀ r m) p g .count
 
 -- none is fetched yet
-pub pages-begin : (c w r m : List ℕ) (p n : ℕ) → Acts c w r m p → n ≡ getD m 1 0 → PagesFetching c w c w r m p n 0 0
+pub pages-begin : (c w r m l counts : List ℕ) (p n : ℕ) → Acts c w r m p → PagesRanked c r m l counts → n ≡ getD m 1 0
+    → PagesFetching c w c w r m l counts p n 0 0
 unfolding pagesFetched
-pages-begin c w r m p n a e = record { acts = a; lent = a .lent; pages = e; upto = omega arith; is = refl; counted = refl }
+pages-begin c w r m l counts p n a k e = record { acts = a; ranked = k; lent = a .lent; pages = e; upto = omega arith; is = refl; counted = refl }
 
-module _ (c₀ w₀ c w r m : List ℕ) (p n g count : ℕ) (f : PagesFetching c₀ w₀ c w r m p n g count) where
+module _ (c₀ w₀ c w r m l counts : List ℕ) (p n g count : ℕ) (f : PagesFetching c₀ w₀ c w r m l counts p n g count) where
   kept-here : PagesKept (stateIn mainframe c₀ w₀ r m) (pagesFetched mainframe (stateIn mainframe c₀ w₀ r m) p g) g
   kept-here =
       let a = f .acts in
@@ -111,7 +115,11 @@ module _ (c₀ w₀ c w r m : List ℕ) (p n g count : ℕ) (f : PagesFetching c
         page-present = omega (arith, f .pages);
       }
 
-  module _ (x : ℕ) (h : g < n) (e : x ≡ fetchCount (stateIn mainframe c w r m) p g) where
+  -- its records are ranked
+  pub next-ranked : PagesRanked c r m l counts
+  next-ranked = f .ranked
+
+  module _ (x : ℕ) (c′ w′ : List ℕ) (h : g < n) (b : Brought c w r m p g c′ w′ x) where
     -- the sum has room
     pub pages-count-fits : Fits w32 (count + x)
     unfolding mainframe
@@ -120,6 +128,7 @@ module _ (c₀ w₀ c w r m : List ℕ) (p n g count : ℕ) (f : PagesFetching c
           arith,
           kept-here .few,
           f .counted,
+          b .counted,
           few-fetched (stateIn mainframe c w r m) p g in-order-here,
           f .pages,
           pages-read c₀ w₀ r m,
@@ -127,23 +136,27 @@ module _ (c₀ w₀ c w r m : List ℕ) (p n g count : ℕ) (f : PagesFetching c
         )
 
     -- one more is fetched
-    pub pages-more : (c′ w′ : List ℕ) → stateIn mainframe c′ w′ r m ≡ fetched mainframe (stateIn mainframe c w r m) p g → Lent c′ w′ r m
-        → PagesFetching c₀ w₀ c′ w′ r m p n (g + 1) (count + x)
+    pub pages-more : PagesFetching c₀ w₀ c′ w′ r m l counts p n (g + 1) (count + x)
     unfolding pagesFetched
-    pages-more c′ w′ s l =
+    pages-more =
         record {
           acts = f .acts;
-          lent = l;
+          ranked = ranks-kept c w r m l counts p g c′ w′ x (f .ranked) b;
+          lent = b .lent;
           pages = f .pages;
           upto = omega arith;
-          is = s ∙ rw (add-one g) (ap (λ (t : State). fetched mainframe t p g) (f .is));
-          counted = rw (add-one g, e, f .counted, f .is);
+          is = b .holds ∙ rw (add-one g) (ap (λ (t : State). fetched mainframe t p g) (f .is));
+          counted = rw (add-one g, b .counted, f .counted, f .is);
         }
 
   -- at most 128 records were applied to each
   pub pages-few : n ≤ g → count ≤ 1024
   unfolding mainframe
   pages-few h = omega (arith, kept-here .few, f .counted, f .upto, f .pages, pages-read c₀ w₀ r m, f .acts .in-order .pages-fit)
+
+  -- the records are ranked still
+  pub pages-ranked : n ≤ g → PagesRanked c r m l counts
+  pages-ranked h = f .ranked
 
   -- every page is fetched
   pub pages-end : n ≤ g → CountedAs (pagesFetched mainframe (stateIn mainframe c₀ w₀ r m) p (stateIn mainframe c₀ w₀ r m .counts .pages)) count c w r m
@@ -183,8 +196,9 @@ unfolding allFetched
 next-counted s t k pages count x e d a b = rw (a, b, add-one k, e, d)
 
 -- the first k processors have fetched
-pub record AllFetching (c₀ w₀ c w r m : List ℕ) (n k count : ℕ) : Type 0 where
+pub record AllFetching (c₀ w₀ c w r m l counts : List ℕ) (n k count : ℕ) : Type 0 where
   pub ready : Ready c₀ w₀ r m
+  pub ranked : PagesRanked c r m l counts
   pub lent : Lent c w r m
   pub processors : n ≡ getD m 0 0
   pub eight : n ≤ 8
@@ -194,11 +208,12 @@ pub record AllFetching (c₀ w₀ c w r m : List ℕ) (n k count : ℕ) : Type 0
   pub counted : count ≡ allFetched mainframe (stateIn mainframe c₀ w₀ r m) k .count
 
 -- none has fetched yet
-pub all-begin : (c w r m : List ℕ) (n : ℕ) → Ready c w r m → n ≡ getD m 0 0 → AllFetching c w c w r m n 0 0
+pub all-begin : (c w r m l counts : List ℕ) (n : ℕ) → Ready c w r m → PagesRanked c r m l counts → n ≡ getD m 0 0 → AllFetching c w c w r m l counts n 0 0
 unfolding allFetched mainframe
-all-begin c w r m n a e =
+all-begin c w r m l counts n a q e =
     record {
       ready = a;
+      ranked = q;
       lent = a .lent;
       processors = e;
       eight = omega (arith, e, processors-read c w r m, a .in-order .processors-fit);
@@ -208,7 +223,7 @@ all-begin c w r m n a e =
       counted = refl;
     }
 
-module _ (c₀ w₀ c w r m : List ℕ) (n k count : ℕ) (f : AllFetching c₀ w₀ c w r m n k count) where
+module _ (c₀ w₀ c w r m l counts : List ℕ) (n k count : ℕ) (f : AllFetching c₀ w₀ c w r m l counts n k count) where
   all-kept-here : AllKept (stateIn mainframe c₀ w₀ r m) (allFetched mainframe (stateIn mainframe c₀ w₀ r m) k)
   all-kept-here = all-kept (stateIn mainframe c₀ w₀ r m) k (f .ready .in-order) (omega (arith, f .processors, f .upto, processors-read c₀ w₀ r m))
 
@@ -220,16 +235,21 @@ module _ (c₀ w₀ c w r m : List ℕ) (n k count : ℕ) (f : AllFetching c₀ 
   unfolding stateIn
   next-acts h = record { lent = f .lent; in-order = order-here; from = omega arith; to = omega (arith, f .processors) }
 
+  -- from records that are ranked
+  pub ranked-still : PagesRanked c r m l counts
+  ranked-still = f .ranked
+
   -- one more has fetched
-  pub all-more : (x : ℕ) (c′ w′ : List ℕ) → k < n → x ≤ 1024
+  pub all-more : (x : ℕ) (c′ w′ : List ℕ) → k < n → x ≤ 1024 → PagesRanked c′ r m l counts
       → CountedAs (pagesFetched mainframe (stateIn mainframe c w r m) (k + 1) (stateIn mainframe c w r m .counts .pages)) x c′ w′ r m
-      → AllFetching c₀ w₀ c′ w′ r m n (k + 1) (count + x)
-  all-more x c′ w′ h small s =
+      → AllFetching c₀ w₀ c′ w′ r m l counts n (k + 1) (count + x)
+  all-more x c′ w′ h small q s =
       let s₀ : State = stateIn mainframe c₀ w₀ r m in
       let s₁ : State = stateIn mainframe c w r m in
       let pages : s₁ .counts .pages ≡ s₀ .counts .pages = unfold stateIn in refl in
       record {
         ready = f .ready;
+        ranked = q;
         lent = s .areas .lent;
         processors = f .processors;
         eight = f .eight;
@@ -249,4 +269,4 @@ module _ (c₀ w₀ c w r m : List ℕ) (n k count : ℕ) (f : AllFetching c₀ 
         areas = record { lent = f .lent; is = f .is ∙ ap (λ (i : ℕ). allFetched mainframe s i .after) e };
       }
 
-pub ruleset fetches-laws = (pages-begin, next-fetchable, pages-count-fits, pages-more, pages-few, pages-end, all-begin, next-acts, all-more, all-end, needs)
+pub ruleset fetches-laws = (pages-begin, next-fetchable, next-ranked, pages-count-fits, pages-more, pages-few, pages-ranked, pages-end, all-begin, next-acts, ranked-still, all-more, all-end, needs)

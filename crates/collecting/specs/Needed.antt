@@ -1,12 +1,15 @@
 -- What a collection and its parts ask of the memory that they are given. Assumes nothing.
-use Prim.Native.Nat.{ℕ, _≤_}
+use Prim.Native.Nat.{ℕ, _≤_, _<_}
 use mathlib.Core.Path.{_≡_}
 use mathlib.Core.List.{List}
-use lib.ListN.{length}
+use lib.ListN.{length, getD, take}
 use Rattle.rules.specs.State.{mainframe}
 use Rattle.rules.proofs.Facts.{InOrder}
 use Rattle.memory.specs.Areas.{stateIn}
+use Rattle.memory.specs.Layout.{rowOf}
 use Rattle.memory.specs.Needed.{Lent}
+use Rattle.ranking.specs.Needed.{Rankable}
+use Rattle.ranking.specs.Ranks.{pageNumbers}
 
 -- the areas have their sizes, the state in them is in order, and p is one of its processors
 pub record Acts (c w r m : List ℕ) (p : ℕ) : Type 0 where
@@ -14,6 +17,18 @@ pub record Acts (c w r m : List ℕ) (p : ℕ) : Type 0 where
   pub in-order : InOrder mainframe (stateIn mainframe c w r m)
   pub from : 1 ≤ p
   pub to : p ≤ stateIn mainframe c w r m .counts .processors
+
+-- the records that stand can be ranked
+pub record StandingRankable (c r m l : List ℕ) : Type 0 where
+  pub marks : length m ≡ 93
+  pub rankable : Rankable c r (getD m 3 0) l
+
+-- the row of each page begins with the numbers of the page's records, upwards, and `counts` says how many they are
+pub record PagesRanked (c r m l counts : List ℕ) : Type 0 where
+  pub whole : length l ≡ 1024
+  pub pages : length counts ≡ 8
+  pub few : (g : ℕ) → g < 8 → getD counts g 0 ≤ 128
+  pub row : (g : ℕ) → g < 8 → take (getD counts g 0) (rowOf 128 l g) ≡ pageNumbers c r g (getD m 3 0)
 
 -- the areas of the clocks and of the marks
 pub record ClocksAndMarks (c m : List ℕ) : Type 0 where

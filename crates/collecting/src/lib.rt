@@ -6,7 +6,10 @@ ghost use Rattle.rules.specs.State.{mainframe};
 ghost use Rattle.rules.specs.Steps.{pagesFetched, allFetched, collected};
 ghost use Rattle.memory.specs.Areas.{stateIn};
 ghost use Rattle.memory.specs.Needed.{Ready};
-ghost use Rattle.collecting.specs.Needed.{Acts, ClocksAndMarks};
+ghost use lib.ListN.{replicate};
+ghost use Rattle.fetching.specs.Needed.{Fetchable};
+ghost use Rattle.ranking.specs.Needed.{Brought};
+ghost use Rattle.collecting.specs.Needed.{Acts, StandingRankable, PagesRanked, ClocksAndMarks};
 ghost use Rattle.collecting.specs.Effects.{CountedAs, Emptied};
 use clock::PageId;
 use clock::ProcessorId;
@@ -22,16 +25,58 @@ pub fn collect(clocks: &mut [u8], words: &mut [u32], records: &[u8], marks: &mut
     count
 }
 
-// Every processor, upwards, fetches every page. Yields how many records were applied.
+// Every processor, upwards, fetches every page. Yields how many records were applied. The records are ranked once for all fetches.
 fn fetch_all(clocks: &mut [u8], words: &mut [u32], records: &[u8], marks: &[u8]) -> u32
     requires { ⌜ Ready (now clocks) (now words) (now records) (now marks) ⌝ }
+    ensures { λ r. ⌜ CountedAs (allFetched mainframe (stateIn mainframe (now (clocks .entry)) (now (words .entry)) (now (records .entry)) (now (marks .entry))) (stateIn mainframe (now (clocks .entry)) (now (words .entry)) (now (records .entry)) (now (marks .entry)) .counts .processors)) r (now (clocks .exit)) (now (words .exit)) (now (records .entry)) (now (marks .entry)) ⌝ }
+{
+    let mut ranks = no_ranks();
+    let counts = rank_standing(clocks, records, marks, &mut ranks);
+    fetch_each(clocks, words, records, marks, &ranks, counts)
+}
+
+// Ranks the records that stand: the row of each page begins with their numbers. Yields how many each page has.
+fn rank_standing(clocks: &[u8], records: &[u8], marks: &[u8], ranks: &mut [u32]) -> [u8; 8]
+    requires { ⌜ StandingRankable (now clocks) (now records) (now marks) (now ranks) ⌝ }
+    ensures { λ r. ⌜ PagesRanked (now (clocks .entry)) (now (records .entry)) (now (marks .entry)) (now (ranks .exit)) r ⌝ }
+{
+    ranking::rank_records(clocks, records, wide(marks[3]), ranks)
+}
+
+// Room for the number of each record that can stand, for each page.
+fn no_ranks() -> [u32; 1024]
+    ensures { λ r. ⌜ r ≡ replicate 1024 0 ⌝ }
+{
+    [0; 1024]
+}
+
+// Every processor, upwards, fetches every page from the ranked records. Yields how many were applied.
+fn fetch_each(
+    clocks: &mut [u8],
+    words: &mut [u32],
+    records: &[u8],
+    marks: &[u8],
+    ranks: &[u32],
+    counts: [u8; 8],
+) -> u32
+    requires { ⌜ Ready (now clocks) (now words) (now records) (now marks) ⌝ }
+    requires { ⌜ PagesRanked (now clocks) (now records) (now marks) (now ranks) counts ⌝ }
     ensures { λ r. ⌜ CountedAs (allFetched mainframe (stateIn mainframe (now (clocks .entry)) (now (words .entry)) (now (records .entry)) (now (marks .entry))) (stateIn mainframe (now (clocks .entry)) (now (words .entry)) (now (records .entry)) (now (marks .entry)) .counts .processors)) r (now (clocks .exit)) (now (words .exit)) (now (records .entry)) (now (marks .entry)) ⌝ }
 {
     let n = wide(marks[0]);
     let mut count: u32 = 0;
     let mut k: usize = 0;
     while k < n {
-        count = count + fetch_pages(ProcessorId(k + 1), clocks, words, records, marks);
+        count = count
+            + fetch_pages(
+                ProcessorId(k + 1),
+                clocks,
+                words,
+                records,
+                marks,
+                ranks,
+                counts,
+            );
         k = k + 1;
     }
     count
@@ -44,19 +89,45 @@ fn fetch_pages(
     words: &mut [u32],
     records: &[u8],
     marks: &[u8],
+    ranks: &[u32],
+    counts: [u8; 8],
 ) -> u32
     requires { ⌜ Acts (now clocks) (now words) (now records) (now marks) (p .0) ⌝ }
+    requires { ⌜ PagesRanked (now clocks) (now records) (now marks) (now ranks) counts ⌝ }
     ensures { λ r. ⌜ CountedAs (pagesFetched mainframe (stateIn mainframe (now (clocks .entry)) (now (words .entry)) (now (records .entry)) (now (marks .entry))) (p .0) (stateIn mainframe (now (clocks .entry)) (now (words .entry)) (now (records .entry)) (now (marks .entry)) .counts .pages)) r (now (clocks .exit)) (now (words .exit)) (now (records .entry)) (now (marks .entry)) ⌝ }
     ensures few { λ r. ⌜ r ≤ 1024 ⌝ }
+    ensures ranked { λ r. ⌜ PagesRanked (now (clocks .exit)) (now (records .entry)) (now (marks .entry)) (now (ranks .entry)) counts ⌝ }
 {
     let n = wide(marks[1]);
     let mut count: u32 = 0;
     let mut g: usize = 0;
     while g < n {
-        count = count + fetching::fetch_page(p, PageId(g), clocks, words, records, marks);
+        count = count + fetch_from(p, PageId(g), clocks, words, records, marks, ranks, counts);
         g = g + 1;
     }
     count
+}
+
+// Fetches page g for processor p from the row of the page. The count is the records applied.
+fn fetch_from(
+    p: ProcessorId,
+    g: PageId,
+    clocks: &mut [u8],
+    words: &mut [u32],
+    records: &[u8],
+    marks: &[u8],
+    ranks: &[u32],
+    counts: [u8; 8],
+) -> u32
+    requires { ⌜ Fetchable (now clocks) (now words) (now records) (now marks) (p .0) (g .0) ⌝ }
+    requires { ⌜ PagesRanked (now clocks) (now records) (now marks) (now ranks) counts ⌝ }
+    ensures { λ r. ⌜ Brought (now (clocks .entry)) (now (words .entry)) (now (records .entry)) (now (marks .entry)) (p .0) (g .0) (now (clocks .exit)) (now (words .exit)) r ⌝ }
+{
+    let at = g.0;
+    let from = 128 * at;
+    let to = from + 128;
+    let n = wide(counts[at]);
+    ranking::fetch_ranked(p, g, clocks, words, records, marks, &ranks[from..to], n)
 }
 
 // The records go, all clocks become zeros and the wish clears.

@@ -107,6 +107,13 @@ module _ (c w r m : List ℕ) (p g : ℕ) (h : Fetchable c w r m p g) where
   record-is : (i : ℕ) → i < getD m 3 0 → recordAt state i ≡ recordOf r i
   record-is i l = record-at c w r m i (omega (arith, l, few-standing)) (diff-fits-at i l)
 
+  -- the page of a record that stands is one of eight
+  pub page-fits-at : (i : ℕ) → i < getD m 3 0 → getD r (135 * i + 2) 0 < 8
+  unfolding recordOf mainframe
+  page-fits-at i l =
+      let eg : recordAt state i .page ≡ getD r (135 * i + 2) 0 = ap (λ (q : Record). q .page) (record-is i l) in
+      omega (arith, eg, sound-at i l .page, h .in-order .pages-fit)
+
   -- the interval of a sound record keeps a clock of eight entries
   sum-fits-at : (q i : ℕ) → 1 ≤ q → q ≤ 8 → 1 ≤ i → i ≤ 63 → sumOf (clockOf (clocksIn mainframe c) (Interval q i)) ≤ 504
   unfolding stateIn mainframe Within

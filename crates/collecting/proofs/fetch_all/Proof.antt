@@ -1,16 +1,9 @@
--- `fetch_all` meets its contract: the first k processors have fetched. Assumes nothing.
-use Prim.Native.Nat.{_-_}
-use Rattle.collecting.proofs.Collecting.{AllFetching, fetches-laws}
+-- `fetch_all` meets its contract: the records are ranked, and each processor fetches each page from them. Assumes nothing.
+use Rattle.collecting.proofs.Ranked.{ranks-laws}
 use Rattle.collecting.proofs.fetch_all.Statement.{statement}
 use Rattle.collecting.proofs.fetch_all.Tie as tie
-
-abbrev Inv-loop : tie.InvT-loop
-Inv-loop clocks₀ words₀ records marks n count₀ k₀ clocks words count k = AllFetching clocks₀ words₀ clocks words records marks n k count
-
-abbrev μ-loop : tie.MeasureT-loop
-μ-loop clocks₀ words₀ records marks n count₀ k₀ clocks words count k = n - k
 
 pub fetch-all-spec : {M : Type 1} → statement M
 fetch-all-spec =
     tie.close
-    (tie.spec Inv-loop μ-loop (λ c. search fetches-laws) (λ c κs. search fetches-laws) (λ c. search fetches-laws) (λ c. search fetches-laws) (λ c κs. search fetches-laws) (λ c. search fetches-laws) (λ c. search fetches-laws) (λ c. search fetches-laws) (λ c. search fetches-laws) (λ c. search fetches-laws) (λ c. search fetches-laws) (λ c. search fetches-laws))
+    (tie.spec (λ c κs. search ranks-laws) (λ c. search ranks-laws) (λ c κs. search ranks-laws) (λ c. search ranks-laws) (λ c κs. search ranks-laws) (λ c. search ranks-laws) (λ c. search ranks-laws) (λ c. search ranks-laws))
