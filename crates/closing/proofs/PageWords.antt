@@ -11,7 +11,7 @@ use lib.Seq.{drop-cons}
 use lib.Dec.{eqb}
 use borrow.Author.Tests.{eq-eqb, ne-eqb}
 use borrow.Author.Needs.{needs}
-use Rattle.diff.specs.Needed.{PagesWhole}
+use Rattle.writer.specs.Needed.{PagesWhole}
 use Rattle.rules.specs.Close.{differ}
 use Rattle.memory.specs.Layout.{rowOf}
 

@@ -8,7 +8,7 @@ use lib.ListN.{length, getD}
 use lib.Dec.{eqb}
 use borrow.Author.Tests.{eq-eqb, ne-eqb}
 use borrow.Author.Needs.{needs}
-use Rattle.diff.specs.Needed.{PagesWhole}
+use Rattle.writer.specs.Needed.{PagesWhole}
 use Rattle.rules.specs.Close.{differ, changed}
 use Rattle.rules.specs.State.{mainframe, dirtyAt}
 use Rattle.memory.specs.Areas.{copyRow, twinRow, dirtyPlace, stateIn}

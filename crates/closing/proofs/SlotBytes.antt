@@ -8,14 +8,14 @@ use lib.ListN.{length, take, drop, set, take-append-drop, length-drop, length-se
 use lib.Seq.{length-take-le, drop-append-le, set-comm, drop-drop, sets, length-sets, sets-eq}
 use borrow.Author.Tests.{le-ltb, eq-eqb}
 use borrow.Author.Needs.{needs}
-use Rattle.diff.specs.Answers.{writeRefusal, writeAnswer, outAfter}
+use Rattle.writer.specs.Answers.{writeRefusal, writeAnswer, outAfter}
 use Rattle.diff.specs.Format.{written}
 use Rattle.diff.proofs.Theorems.{at-most-131-bytes}
 use Rattle.rules.specs.State.{slotBytes}
 use Rattle.closing.specs.Parts.{recordOf}
 use Rattle.closing.specs.Needed.{RecordFits, SlotFits, DiffFits}
-use Rattle.diff.specs.declared.Written.{Written}
-use Rattle.diff.specs.declared.Written.the-variants.{Length, Refused}
+use Rattle.writer.specs.declared.Written.{Written}
+use Rattle.writer.specs.declared.Written.the-variants.{Length, Refused}
 
 -- a list stored into a part of another, and the part put back
 pub part-stored : (xs ys vs : List ℕ) (a k : ℕ) → a + k ≤ length xs → length vs ≤ k → ys ≡ sets (take k (drop a xs)) 0 vs

@@ -7,7 +7,7 @@ ghost use lib.ListN.{length, replicate};
 ghost use lib.Seq.{sets};
 ghost use lib.Dec.{eqb};
 ghost use Rattle.diff.specs.Format.{written};
-ghost use Rattle.diff.specs.Needed.{PagesWhole};
+ghost use Rattle.writer.specs.Needed.{PagesWhole};
 ghost use Rattle.rules.specs.State.{mainframe, slotBytes};
 ghost use Rattle.rules.specs.Close.{differ, raised, closed};
 ghost use Rattle.memory.specs.Layout.{rowOf};
@@ -19,7 +19,6 @@ use clock::Clock;
 use clock::IntervalId;
 use clock::PageId;
 use clock::ProcessorId;
-use diff::Written;
 use memory::clear;
 use memory::clock_at;
 use memory::copy_row;
@@ -27,6 +26,7 @@ use memory::dirty_place;
 use memory::interval_row;
 use memory::put_clock;
 use memory::twin_row;
+use writer::Written;
 
 // Closes the interval of a processor: for each page that changed one record, if there is one the clock of the interval, and clean pages.
 // A processor without a dirty page has nothing to close.
@@ -231,7 +231,7 @@ fn lay_diff(old: &[u32], new: &[u32], out: &mut [u8]) -> u8
     ensures { λ r. ⌜ r ≡ length (written (now (old .entry)) (now (new .entry))) ⌝ }
     ensures { λ r. ⌜ now (out .exit) ≡ sets (now (out .entry)) 0 (written (now (old .entry)) (now (new .entry))) ⌝ }
 {
-    let Written::Length(n) = diff::write(old, new, out) else {
+    let Written::Length(n) = writer::write(old, new, out) else {
         return 0;
     };
     (n % 256) as u8

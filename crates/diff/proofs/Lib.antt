@@ -5,7 +5,4 @@ pub mod Overlay
 pub mod Checking
 pub mod Applying
 pub mod Theorems
-pub mod Writing
-pub mod Measuring
-pub mod WriteLoops
 pub mod Cases

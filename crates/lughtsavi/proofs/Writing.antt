@@ -10,9 +10,9 @@ use lib.Dec.{eqb, ltb}
 use borrow.Author.Tests.{eqb-true, eq-eqb, ne-eqb}
 use borrow.Author.Needs.{needs}
 use Rattle.diff.specs.Format.{written}
-use Rattle.diff.specs.Answers.{writeRefusal, writeAnswer}
-use Rattle.diff.specs.declared.Written.{Written}
-use Rattle.diff.specs.declared.Written.the-variants.{Length, Refused}
+use Rattle.writer.specs.Answers.{writeRefusal, writeAnswer}
+use Rattle.writer.specs.declared.Written.{Written}
+use Rattle.writer.specs.declared.Written.the-variants.{Length, Refused}
 use Rattle.diff.proofs.Theorems.{at-most-131-bytes}
 use Rattle.lughtsavi.specs.Numbers.{writtenNumber}
 

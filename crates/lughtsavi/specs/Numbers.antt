@@ -7,8 +7,8 @@ use mathlib.Core.List.{List, [], _∷_}
 use lib.ListN.{length}
 use lib.Dec.{eqb}
 use Rattle.rules.specs.Refusals.{Step}
-use Rattle.diff.specs.declared.Written.{Written}
-use Rattle.diff.specs.declared.Written.the-variants.{Length, Refused}
+use Rattle.writer.specs.declared.Written.{Written}
+use Rattle.writer.specs.declared.Written.the-variants.{Length, Refused}
 use Rattle.engine.specs.Promises.{Areas, answerOf, areasAfter}
 use Rattle.engine.specs.Outcomes.{outcomeRefusal, told}
 use Rattle.engine.specs.declared.Outcome.{Outcome}

@@ -6,13 +6,14 @@ ghost use mathlib.Core.List.{_∷_, []};
 ghost use Prim.Native.Nat.{_<_};
 ghost use lib.ListN.{length};
 ghost use Rattle.diff.specs.Reading.{readRefusal};
-ghost use Rattle.diff.specs.Answers.{writeAnswer, outAfter, applyRefusal, pageAfter};
+ghost use Rattle.diff.specs.Answers.{applyRefusal, pageAfter};
+ghost use Rattle.writer.specs.Answers.{writeAnswer, outAfter};
 ghost use Rattle.checking.specs.Areas.{areasInOrder};
 ghost use Rattle.engine.specs.Promises.{areas, stepOf, openRefusal, areasOpened};
 ghost use Rattle.running.specs.Runs.{Ran};
 ghost use Rattle.lughtsavi.specs.Numbers.{stepReturn, slices, slicesAfter, ToldAs, writtenNumber};
-use diff::Written;
 use engine::Outcome;
+use writer::Written;
 
 // Opens a mainframe: 1 for areas of a wrong size, 2 for an opening that is not eight bytes or does not fit, else 0, and the areas
 // are exactly the opened state, whatever they held.
@@ -126,7 +127,7 @@ pub extern "C" fn lughtsavi_diff_write(old: &[u32], new: &[u32], out: &mut [u8])
     ensures answer { λ r. ⌜ r ≡ writtenNumber (writeAnswer 32 (now (old .entry)) (now (new .entry)) (now (out .entry))) ⌝ }
     ensures memory { λ r. ⌜ now (out .exit) ≡ outAfter 32 (now (old .entry)) (now (new .entry)) (now (out .entry)) ⌝ }
 {
-    let written = diff::write(old, new, out);
+    let written = writer::write(old, new, out);
     number(written)
 }
 

@@ -1,9 +1,9 @@
 -- `measure` meets its contract: what is counted and what is left are all runs and words. Assumes nothing.
 use Prim.Native.Nat.{_-_}
-use Rattle.diff.proofs.Measuring.{Measuring}
-use Rattle.diff.proofs.WriteLoops.{write-laws}
-use Rattle.diff.proofs.measure.Statement.{statement}
-use Rattle.diff.proofs.measure.Tie as tie
+use Rattle.writer.proofs.Measuring.{Measuring}
+use Rattle.writer.proofs.WriteLoops.{write-laws}
+use Rattle.writer.proofs.measure.Statement.{statement}
+use Rattle.writer.proofs.measure.Tie as tie
 
 abbrev Inv-loop : tie.InvT-loop
 Inv-loop old new runs₀ words₀ before₀ i₀ runs words before i = Measuring old new runs words before i

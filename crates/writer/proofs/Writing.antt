@@ -10,9 +10,9 @@ use mathlib.Core.List.{List, [], _∷_, _++_, append-nil}
 use lib.ListN.{length, getD, set, drop, length-set, length-append, length-drop, drop-of-length-le}
 use lib.Seq.{sets, set-comm}
 use borrow.Author.Tests.{eq-eqb, ne-eqb}
 use Rattle.diff.specs.Format.{Run, setting, difference, ended, runsFrom, runs, setWords, pairBytes, wordBytes}
-use Rattle.diff.specs.Needed.{PagesWhole, NoneBetween, RoomForPair}
+use Rattle.writer.specs.Needed.{PagesWhole, NoneBetween, RoomForPair}
 use Rattle.diff.proofs.Theorems.{length-difference}
 
 -- ---- one pair and one word
 

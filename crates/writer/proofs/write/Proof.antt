@@ -1,7 +1,7 @@
 -- `write` meets its contract, refusal by refusal. Assumes nothing.
-use Rattle.diff.proofs.WriteLoops.{write-laws}
-use Rattle.diff.proofs.write.Statement.{statement}
-use Rattle.diff.proofs.write.Tie as tie
+use Rattle.writer.proofs.WriteLoops.{write-laws}
+use Rattle.writer.proofs.write.Statement.{statement}
+use Rattle.writer.proofs.write.Tie as tie
 
 pub write-spec : {M : Type 1} → statement M
 write-spec =

@@ -8,9 +8,9 @@ use mathlib.Core.List.{List, [], _∷_}
 use lib.ListN.{length, getD, drop, length-append}
 use lib.Dec.{eqb}
 use borrow.Author.Tests.{eq-eqb, ne-eqb}
 use Rattle.diff.specs.Format.{setting, difference, ended, runsFrom, runs, setWords}
-use Rattle.diff.specs.Needed.{PagesWhole}
-use Rattle.diff.proofs.Writing.{length-ended, next-word, no-word, wordsLeft, all-words-left, page-end-has-none}
+use Rattle.writer.specs.Needed.{PagesWhole}
+use Rattle.writer.proofs.Writing.{length-ended, next-word, no-word, wordsLeft, all-words-left, page-end-has-none}
 
 -- ---- where runs start
 

@@ -8,14 +8,14 @@ use lib.ListN.{length, getD, set, drop, length-set, length-append, drop-of-lengt
 use lib.Seq.{sets, length-sets}
 use borrow.Author.Needs.{needs}
 use borrow.Author.Tests.{eq-eqb, ne-eqb, lt-ltb, le-ltb}
 use Rattle.diff.specs.Format.{Run, difference, ended, runs, setWords, pairBytes, wordBytes, wordsBytes, bytesOf, written}
-use Rattle.diff.specs.Answers.{writeRefusal, writeAnswer, outAfter}
-use Rattle.diff.specs.Needed.{PagesWhole, RoomForDiff, RoomForRuns, SetAhead, NoneBetween, RoomForPair}
-use Rattle.diff.specs.declared.Written.the-variants.{Length, Refused}
+use Rattle.writer.specs.Answers.{writeRefusal, writeAnswer, outAfter}
+use Rattle.writer.specs.Needed.{PagesWhole, RoomForDiff, RoomForRuns, SetAhead, NoneBetween, RoomForPair}
+use Rattle.writer.specs.declared.Written.the-variants.{Length, Refused}
 use Rattle.diff.proofs.Words.{length-pair-bytes}
 use Rattle.diff.proofs.Legal.{length-bytes}
-use Rattle.diff.proofs.Writing.{no-pair, room-for-length, pair-stored, room-for-byte-1, room-for-byte-2, room-for-byte-3, word-stored, sets-append, sets-apart, pair-bytes-append, length-ended, open-run-counts, runsLeft, all-runs-left, kept-word-ends-run, set-word-lengthens-run, wordsLeft, all-words-left, kept-word-adds-none, set-word-is-next, words-left-fit, word-left-on-page, kept-word-starts-none, kept-word-sets-none, runs-left-same, words-left-same, no-word-left-ends-run}
-use Rattle.diff.proofs.Measuring.{words-alike, words-unlike, measuring-begins, measuring-more, runs-measured, words-measured, runs-few, words-few}
+use Rattle.writer.proofs.Writing.{no-pair, room-for-length, pair-stored, room-for-byte-1, room-for-byte-2, room-for-byte-3, word-stored, sets-append, sets-apart, pair-bytes-append, length-ended, open-run-counts, runsLeft, all-runs-left, kept-word-ends-run, set-word-lengthens-run, wordsLeft, all-words-left, kept-word-adds-none, set-word-is-next, words-left-fit, word-left-on-page, kept-word-starts-none, kept-word-sets-none, runs-left-same, words-left-same, no-word-left-ends-run}
+use Rattle.writer.proofs.Measuring.{words-alike, words-unlike, measuring-begins, measuring-more, runs-measured, words-measured, runs-few, words-few}
 
 -- ---- the next word that is set
 

@@ -1,7 +1,7 @@
 -- `put_word` meets its contract. Assumes nothing.
-use Rattle.diff.proofs.WriteLoops.{write-laws}
-use Rattle.diff.proofs.put_word.Statement.{statement}
-use Rattle.diff.proofs.put_word.Tie as tie
+use Rattle.writer.proofs.WriteLoops.{write-laws}
+use Rattle.writer.proofs.put_word.Statement.{statement}
+use Rattle.writer.proofs.put_word.Tie as tie
 
 pub put-word-spec : {M : Type 1} → statement M
 put-word-spec =

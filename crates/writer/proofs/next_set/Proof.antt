@@ -1,8 +1,8 @@
 -- `next_set` meets its contract: no word between the place from and the place i is set. Assumes nothing.
 use Prim.Native.Nat.{_-_}
-use Rattle.diff.proofs.WriteLoops.{Skipping, write-laws}
-use Rattle.diff.proofs.next_set.Statement.{statement}
-use Rattle.diff.proofs.next_set.Tie as tie
+use Rattle.writer.proofs.WriteLoops.{Skipping, write-laws}
+use Rattle.writer.proofs.next_set.Statement.{statement}
+use Rattle.writer.proofs.next_set.Tie as tie
 
 abbrev Inv-loop : tie.InvT-loop
 Inv-loop old new from i₀ i = Skipping old new from i

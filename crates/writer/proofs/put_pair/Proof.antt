@@ -1,7 +1,7 @@
 -- `put_pair` meets its contract. Assumes nothing.
-use Rattle.diff.proofs.WriteLoops.{write-laws}
-use Rattle.diff.proofs.put_pair.Statement.{statement}
-use Rattle.diff.proofs.put_pair.Tie as tie
+use Rattle.writer.proofs.WriteLoops.{write-laws}
+use Rattle.writer.proofs.put_pair.Statement.{statement}
+use Rattle.writer.proofs.put_pair.Tie as tie
 
 pub put-pair-spec : {M : Type 1} → statement M
 put-pair-spec =

@@ -1,7 +1,7 @@
 -- `write_all` meets its contract. Assumes nothing.
-use Rattle.diff.proofs.WriteLoops.{write-laws}
-use Rattle.diff.proofs.write_all.Statement.{statement}
-use Rattle.diff.proofs.write_all.Tie as tie
+use Rattle.writer.proofs.WriteLoops.{write-laws}
+use Rattle.writer.proofs.write_all.Statement.{statement}
+use Rattle.writer.proofs.write_all.Tie as tie
 
 pub write-all-spec : {M : Type 1} → statement M
 write-all-spec =
