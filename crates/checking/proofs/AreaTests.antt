@@ -1,19 +1,68 @@
--- What the functions on all four areas leave to show, one law for each way of the code. Assumes nothing.
+-- What the functions on the counts and on all four areas leave to show, one law for each way of the code. Assumes nothing.
 use Prim.Native.Nat.{ℕ, _+_, _≤_, _<_}
+use native.Mathlib.Omega.{arith}
 use mathlib.Core.Path.{_≡_, sym, _∙_}
 use mathlib.Core.Bool.{Bool, true, false, not, _&&_}
 use mathlib.Core.List.{List}
 use lib.ListN.{getD}
 use lib.Dec.{leb}
-use borrow.Author.Tests.{leb-true, not-true, not-false}
+use borrow.Author.Tests.{leb-true, not-true, not-false, le-leb, lt-leb}
 use borrow.Author.Needs.{needs}
-use Rattle.rules.specs.State.{own, standing}
 use Rattle.rules.specs.Tables.{every}
 use Rattle.rules.proofs.Everywhere.{and-left, and-right}
 use Rattle.memory.specs.Needed.{Lent}
-use Rattle.checking.specs.Tests.{rowsHold, ownEntries, ownFits, appliedHold, intervalsHold, clocksHoldWith, copiesHold, marksHoldWith, recordsHoldWith, countsHold, areasHoldWith, areasHold}
-use Rattle.checking.specs.Needed.{CountsFit, OwnFit, ClocksThere, MarksThere, SlotsThere, AreasThere}
-use Rattle.checking.proofs.Passing.{and-fails, and-goes-on}
+use Rattle.marktests.specs.Tests.{marksHoldWith}
+use Rattle.marktests.specs.Needed.{CountsFit, MarksThere}
+use Rattle.marktests.proofs.Passing.{and-fails, and-goes-on}
+use Rattle.recordtests.specs.Tests.{ownFits, recordsHoldWith}
+use Rattle.recordtests.specs.Needed.{OwnFit, SlotsThere}
+use Rattle.checking.specs.Tests.{rowsHold, ownEntries, appliedHold, intervalsHold, clocksHoldWith, copiesHold, countsHold, areasHoldWith, areasHold}
+use Rattle.checking.specs.Needed.{ClocksThere, AreasThere}
+
+-- ---- the test of the counts
+
+module _ (processors pages locks standing : ℕ) where
+  -- no processor
+  pub no-processor : processors ≡ 0 → false ≡ countsHold processors pages locks standing
+  unfolding countsHold
+  no-processor e = rw e
+
+  module _ (a : processors ≡ 0 → ⊥) where
+    -- too many
+    pub many-processors : 8 < processors → false ≡ countsHold processors pages locks standing
+    unfolding countsHold
+    many-processors h = rw (le-leb 1 processors (omega arith), lt-leb processors 8 h)
+
+    module _ (b : processors ≤ 8) where
+      -- no page
+      pub no-page : pages ≡ 0 → false ≡ countsHold processors pages locks standing
+      unfolding countsHold
+      no-page e = rw (le-leb 1 processors (omega arith), le-leb processors 8 b, e)
+
+      module _ (d : pages ≡ 0 → ⊥) where
+        -- too many
+        pub many-pages : 8 < pages → false ≡ countsHold processors pages locks standing
+        unfolding countsHold
+        many-pages h = rw (le-leb 1 processors (omega arith), le-leb processors 8 b, le-leb 1 pages (omega arith), lt-leb pages 8 h)
+
+        module _ (f : pages ≤ 8) where
+          -- no lock
+          pub no-lock : locks ≡ 0 → false ≡ countsHold processors pages locks standing
+          unfolding countsHold
+          no-lock e = rw (le-leb 1 processors (omega arith), le-leb processors 8 b, le-leb 1 pages (omega arith), le-leb pages 8 f, e)
+
+          module _ (k : locks ≡ 0 → ⊥) where
+            -- too many
+            pub many-locks : 16 < locks → false ≡ countsHold processors pages locks standing
+            unfolding countsHold
+            many-locks h =
+                rw (le-leb 1 processors (omega arith), le-leb processors 8 b, le-leb 1 pages (omega arith), le-leb pages 8 f, le-leb 1 locks (omega arith), lt-leb locks 16 h)
+
+            -- otherwise the slots of the records decide
+            pub slots-decide : locks ≤ 16 → leb standing 128 ≡ countsHold processors pages locks standing
+            unfolding countsHold
+            slots-decide h =
+                rw (le-leb 1 processors (omega arith), le-leb processors 8 b, le-leb 1 pages (omega arith), le-leb pages 8 f, le-leb 1 locks (omega arith), le-leb locks 16 h)
 
 -- ---- what each area's test asks
 
@@ -44,7 +93,7 @@ pub areas-is : (own c w r m : List ℕ) (processors pages locks standing : ℕ) 
 unfolding areasHoldWith
 areas-is own c w r m processors pages locks standing t e = e
 
--- ---- the counts
+-- ---- counts that pass
 
 -- what the test of the counts says
 pub record CountsIn (processors pages locks standing : ℕ) : Type 0 where
@@ -105,4 +154,4 @@ module _ (c w r m : List ℕ) (processors pages locks standing : ℕ) (t : Bool)
   unfolding areasHold
   areas-decide own x o k h = rw (← a .0, ← b .0, ← d .0, ← f .0, ← e, not-false t k, ← o) h
 
-pub ruleset areas-checked = (and-fails, and-goes-on, clocks-there, marks-there, slots-there, own-fit-clocks, areas-is, areas-there, counts-broken, areas-decide, needs)
+pub ruleset areas-checked = (and-fails, and-goes-on, no-processor, many-processors, no-page, many-pages, no-lock, many-locks, slots-decide, clocks-there, marks-there, slots-there, own-fit-clocks, areas-is, areas-there, counts-broken, areas-decide, needs)

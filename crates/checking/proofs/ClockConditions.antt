@@ -17,7 +17,8 @@ use Rattle.rules.proofs.Everywhere.{and-both, or-when, every-processor-holds, e
 use Rattle.rules.proofs.Facts.{Within, Sized}
 use Rattle.rules.proofs.Tables.{every-at}
 use Rattle.memory.specs.Areas.{clockRow}
-use Rattle.checking.specs.Tests.{ownEntries, ownFits}
+use Rattle.recordtests.specs.Tests.{ownFits}
+use Rattle.checking.specs.Tests.{ownEntries}
 use Rattle.checking.proofs.StateReads.{entry-read, own-read, present-read}
 use Rattle.checking.proofs.ClocksWhen.{held, ClocksPass, row-known, applied-below, own-absent, later-zero, absent-zero}
 

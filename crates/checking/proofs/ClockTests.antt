@@ -5,29 +5,19 @@ use mathlib.Core.Path.{_≡_, refl, sym, _∙_}
 use mathlib.Core.Bool.{Bool, false, not, _&&_}
 use mathlib.Core.List.{List, [], _∷_}
 use lib.ListN.{length, getD}
-use borrow.Author.Tests.{leb-true, not-false, lt-ltb, le-ltb, le-leb, lt-leb, eq-eqb, ne-eqb}
+use borrow.Author.Tests.{leb-true, not-false, le-leb, lt-leb}
 use borrow.Author.Needs.{needs}
-use Rattle.rules.specs.Refusals.{fits}
-use Rattle.rules.specs.State.{own}
 use Rattle.rules.specs.Tables.{every}
 use Rattle.rules.proofs.Tables.{every-at}
 use Rattle.memory.specs.Layout.{rowOf}
 use Rattle.memory.specs.Needed.{RowThere}
-use Rattle.checking.specs.Tests.{zeroAt, pagesOf, entryWithin, rowWithin, rowsHold, ownEntries, ownFits, appliedHold, intervalsHold, clocksHoldWith}
-use Rattle.checking.specs.Needed.{PlacesThere, RowsThere, OwnFit, ClocksThere, ClocksOne, IntervalsOne}
-use Rattle.checking.proofs.Passing.{Passed, passed-none, pass-one, fail-one, passed-more, passed-broken, passed-all, Kept, kept-none, kept-on, kept-off, kept-all, and-fails, and-goes-on}
-
--- ---- places that are 0
-
--- one more is 0
-pub zero-kept : (l : List ℕ) (at n i : ℕ) (all : Bool) → Kept n (zeroAt l at) i all → i < n → getD l (at + i) 0 ≡ 0 → Kept n (zeroAt l at) (i + 1) all
-unfolding zeroAt
-zero-kept l at n i all p h e = kept-on n (zeroAt l at) i all p h (eq-eqb _ _ e)
-
--- one is not
-pub zero-lost : (l : List ℕ) (at n i : ℕ) (all : Bool) → Kept n (zeroAt l at) i all → i < n → (getD l (at + i) 0 ≡ 0 → ⊥) → Kept n (zeroAt l at) (i + 1) false
-unfolding zeroAt
-zero-lost l at n i all p h e = kept-off n (zeroAt l at) i all p h (ne-eqb _ _ e)
+use Rattle.marktests.specs.Tests.{zeroAt, pagesOf}
+use Rattle.marktests.specs.Needed.{PlacesThere}
+use Rattle.marktests.proofs.Passing.{Passed, passed-none, pass-one, fail-one, passed-more, passed-broken, passed-all, Kept, kept-none, kept-on, kept-off, kept-all, and-fails, and-goes-on}
+use Rattle.recordtests.specs.Tests.{ownFits}
+use Rattle.recordtests.specs.Needed.{OwnFit}
+use Rattle.checking.specs.Tests.{entryWithin, rowWithin, rowsHold, ownEntries, appliedHold, intervalsHold, clocksHoldWith}
+use Rattle.checking.specs.Needed.{RowsThere, ClocksThere, ClocksOne, IntervalsOne}
 
 -- ---- rows that do not exceed another clock
 
@@ -89,18 +79,6 @@ own-broken own k p h e = fail-one 8 (ownFits own) k h (lt-leb _ _ e)
 pub own-fit-all : (own : List ℕ) (r : Bool) → r ≡ every 8 (ownFits own) → not r ≡ false → OwnFit own
 own-fit-all own r e k = record { fit = sym e ∙ not-false r k }
 
--- ---- pages of a processor
-
--- those of a present processor
-pub pages-there : (processors pages k : ℕ) → k < processors → pages ≡ pagesOf processors pages k
-unfolding pagesOf
-pages-there processors pages k h = rw (lt-ltb k processors h)
-
--- an absent one has none
-pub pages-absent : (processors pages k : ℕ) → processors ≤ k → 0 ≡ pagesOf processors pages k
-unfolding pagesOf
-pages-absent processors pages k h = rw (le-ltb k processors h)
-
 -- ---- applied clocks
 
 -- the processor's own row lies within the area
@@ -156,4 +134,4 @@ pub clocks-is : (own c : List ℕ) (processors pages locks : ℕ) (r : Bool)
 unfolding clocksHoldWith
 clocks-is own c processors pages locks r e = e
 
-pub ruleset clocks-checked = (passed-none, passed-more, passed-broken, passed-all, and-fails, and-goes-on, kept-none, kept-all, zero-kept, zero-lost, within-kept, within-lost, row-is, row-there, first-rows-there, other-rows-there, rows-hold-is, own-is, own-more, own-broken, own-fit-all, pages-there, pages-absent, row-of-processor, applied-rows-there, applied-is, clocks-one, interval-rows-there, intervals-is, intervals-one, processor-rows-there, lock-rows-there, clocks-is, needs)
+pub ruleset clocks-checked = (passed-none, passed-more, passed-broken, passed-all, and-fails, and-goes-on, kept-none, kept-all, within-kept, within-lost, row-is, row-there, first-rows-there, other-rows-there, rows-hold-is, own-is, own-more, own-broken, own-fit-all, row-of-processor, applied-rows-there, applied-is, clocks-one, interval-rows-there, intervals-is, intervals-one, processor-rows-there, lock-rows-there, clocks-is, needs)

@@ -17,7 +17,9 @@ use Rattle.rules.proofs.Tables.{every-holds}
 use Rattle.memory.specs.Areas.{lockRow, appliedRow, intervalRow, clockRow, stateIn}
 use Rattle.memory.specs.Layout.{rowOf}
 use Rattle.memory.proofs.RowLaws.{get-row}
-use Rattle.checking.specs.Tests.{pagesOf, rowsHold, ownEntries, ownFits, appliedHold, intervalsHold, clocksHoldWith, copiesHold}
+use Rattle.marktests.specs.Tests.{pagesOf}
+use Rattle.recordtests.specs.Tests.{ownFits}
+use Rattle.checking.specs.Tests.{rowsHold, ownEntries, appliedHold, intervalsHold, clocksHoldWith, copiesHold}
 use Rattle.checking.proofs.PlaceFacts.{rows-hold-when, copies-zero-when}
 use Rattle.checking.proofs.StateReads.{entry-read, own-read, word-read, present-read, page-present-read, lock-present-read}
 

@@ -1,8 +1,5 @@
-pub mod Passing
 pub mod ClockTests
-pub mod MarkTests
-pub mod RecordTests
-pub mod Notices
+pub mod WordTests
 pub mod AreaTests
 pub mod PlaceFacts
 pub mod StateReads

@@ -17,7 +17,9 @@ use Rattle.rules.proofs.Everywhere.{and-left, and-right, and-both}
 use Rattle.rules.proofs.Facts.{RecordSound, InOrder}
 use Rattle.rules.proofs.Tables.{every-holds, any-holds}
 use Rattle.memory.specs.Areas.{recordsIn, stateIn}
-use Rattle.checking.specs.Tests.{zeroAt, pagesOf, ownEntries, mayBeDirty, dirtyHold, holderWithin, holdersHold, arrivedHold, dirtyOf, roomHolds, marksHoldWith, noticeHolds, diffHolds, recordHolds, differ, unlike, recordsHoldWith, countsHold, areasHoldWith, areasHold}
+use Rattle.marktests.specs.Tests.{zeroAt, pagesOf, mayBeDirty, dirtyHold, holderWithin, holdersHold, arrivedHold, dirtyOf, roomHolds, marksHoldWith}
+use Rattle.recordtests.specs.Tests.{noticeHolds, diffHolds, recordHolds, differ, unlike, recordsHoldWith}
+use Rattle.checking.specs.Tests.{ownEntries, countsHold, areasHoldWith, areasHold}
 use Rattle.checking.proofs.PlaceFacts.{marks-zero-when}
 use Rattle.checking.proofs.StateReads.{own-read, dirty-mark-read, arrived-mark-read, holder-mark-read, dirty-pages-read, record-processor, record-interval, record-page, record-length, record-diff, same-notice-read, present-read, page-present-read, lock-present-read, own-of-read}
 use Rattle.checking.proofs.ClocksSay.{clocks-say, copies-say}

@@ -17,8 +17,10 @@ use Rattle.rules.proofs.InOrderWhen.{sized-when}
 use Rattle.memory.specs.Areas.{stateIn}
 use Rattle.memory.specs.Needed.{Lent}
 use Rattle.memory.proofs.Encoding.{lent-sized, lent-right}
+use Rattle.marktests.specs.Tests.{dirtyHold, holdersHold, arrivedHold, roomHolds, marksHoldWith}
+use Rattle.recordtests.specs.Tests.{recordsHoldWith}
 use Rattle.checking.specs.Areas.{areasInOrder}
-use Rattle.checking.specs.Tests.{ownEntries, clocksHoldWith, copiesHold, dirtyHold, holdersHold, arrivedHold, roomHolds, marksHoldWith, recordsHoldWith, countsHold, areasHoldWith, areasHold}
+use Rattle.checking.specs.Tests.{ownEntries, clocksHoldWith, copiesHold, countsHold, areasHoldWith, areasHold}
 use Rattle.checking.proofs.AreaTests.{counts-in, counts-fit}
 use Rattle.checking.proofs.PlaceFacts.{same-truth}
 use Rattle.checking.proofs.MarksSay.{areas-say}

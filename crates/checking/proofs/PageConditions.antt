@@ -16,7 +16,8 @@ use Rattle.rules.proofs.Everywhere.{and-left, and-right, and-both, or-when, eve
 use Rattle.rules.proofs.Facts.{Sized}
 use Rattle.rules.proofs.Tables.{every-at, every-holds, Passes, any-at, any-holds}
 use Rattle.memory.specs.Areas.{recordsIn, stateIn}
-use Rattle.checking.specs.Tests.{zeroAt, pagesOf, ownEntries, copiesHold, mayBeDirty, dirtyHold, holderWithin, holdersHold, arrivedHold, dirtyOf, roomHolds}
+use Rattle.marktests.specs.Tests.{zeroAt, pagesOf, mayBeDirty, dirtyHold, holderWithin, holdersHold, arrivedHold, dirtyOf, roomHolds}
+use Rattle.checking.specs.Tests.{ownEntries, copiesHold}
 use Rattle.checking.proofs.PlaceFacts.{copies-zero-at, marks-zero-at}
 use Rattle.checking.proofs.StateReads.{own-read, word-read, dirty-mark-read, arrived-mark-read, holder-mark-read, dirty-pages-read, present-read, page-present-read, lock-present-read}
 use Rattle.checking.proofs.ClocksWhen.{held}

@@ -11,7 +11,8 @@ use Rattle.clock.specs.Clocks.{zeros}
 use Rattle.rules.specs.Tables.{every}
 use Rattle.rules.proofs.Everywhere.{and-left, and-right, and-both}
 use Rattle.rules.proofs.Tables.{every-at, every-holds}
-use Rattle.checking.specs.Tests.{zeroAt, entryWithin, rowWithin, rowsHold, ownEntries}
+use Rattle.marktests.specs.Tests.{zeroAt}
+use Rattle.checking.specs.Tests.{entryWithin, rowWithin, rowsHold, ownEntries}
 
 -- ---- places that are 0
 

@@ -16,8 +16,9 @@ use Rattle.rules.proofs.Conditions.{recordTests, record-tests}
 use Rattle.rules.proofs.Everywhere.{and-left, and-right, and-both, Given, conjoined-holds}
 use Rattle.rules.proofs.Tables.{every-at, every-holds}
 use Rattle.memory.specs.Areas.{recordsIn, stateIn}
-use Rattle.checking.specs.Tests.{ownEntries, noticeHolds, diffHolds, recordHolds, differ, unlike, recordsHoldWith}
-use Rattle.checking.proofs.RecordTests.{Notice, notice-says}
+use Rattle.recordtests.specs.Tests.{noticeHolds, diffHolds, recordHolds, differ, unlike, recordsHoldWith}
+use Rattle.recordtests.proofs.RecordTests.{Notice, notice-says}
+use Rattle.checking.specs.Tests.{ownEntries}
 use Rattle.checking.proofs.StateReads.{record-processor, record-interval, record-page, record-length, record-diff, same-notice-read, own-of-read}
 use Rattle.checking.proofs.ClocksWhen.{held}
 

@@ -20,7 +20,9 @@ use Rattle.memory.proofs.MarkLaws.{arrived-read, holder-read}
 use Rattle.memory.proofs.PageLaws.{copy-read, dirty-read}
 use Rattle.memory.proofs.RowLaws.{get-row}
 use Rattle.memory.proofs.SlotLaws.{slot-read, slot-byte, record-read}
-use Rattle.checking.specs.Tests.{zeroAt, pagesOf, ownEntries, dirtyCount, dirtyOf, differ}
+use Rattle.marktests.specs.Tests.{zeroAt, pagesOf, dirtyCount, dirtyOf}
+use Rattle.recordtests.specs.Tests.{differ}
+use Rattle.checking.specs.Tests.{ownEntries}
 use Rattle.checking.proofs.PlaceFacts.{own-entry}
 
 -- the entry of a holder's clock for a processor

@@ -2,8 +2,8 @@
 use Prim.Native.Nat.{_-_, _≤_}
 use mathlib.Core.Path.{_≡_}
 use lib.ListN.{length}
+use Rattle.marktests.proofs.Passing.{Passed}
 use Rattle.checking.specs.Tests.{appliedHold}
-use Rattle.checking.proofs.Passing.{Passed}
 use Rattle.checking.proofs.ClockTests.{clocks-checked}
 use Rattle.checking.proofs.applied_hold.Statement.{statement}
 use Rattle.checking.proofs.applied_hold.Tie as tie

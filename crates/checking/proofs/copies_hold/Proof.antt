@@ -2,9 +2,9 @@
 use Prim.Native.Nat.{_-_, _≤_}
 use mathlib.Core.Path.{_≡_}
 use lib.ListN.{length}
+use Rattle.marktests.proofs.Passing.{Passed}
 use Rattle.checking.specs.Tests.{copiesHold}
-use Rattle.checking.proofs.Passing.{Passed}
-use Rattle.checking.proofs.MarkTests.{marks-checked}
+use Rattle.checking.proofs.WordTests.{words-checked}
 use Rattle.checking.proofs.copies_hold.Statement.{statement}
 use Rattle.checking.proofs.copies_hold.Tie as tie
 
@@ -17,4 +17,4 @@ abbrev μ-loop : tie.MeasureT-loop
 pub copies-hold-spec : {M : Type 1} → statement M
 copies-hold-spec =
     tie.close
-    (tie.spec Inv-loop μ-loop (λ c. search marks-checked) (λ c κs. search marks-checked) (λ c. search marks-checked) (λ c. search marks-checked) (λ c. search marks-checked) (λ c. search marks-checked) (λ c. search marks-checked))
+    (tie.spec Inv-loop μ-loop (λ c. search words-checked) (λ c κs. search words-checked) (λ c. search words-checked) (λ c. search words-checked) (λ c. search words-checked) (λ c. search words-checked) (λ c. search words-checked))

@@ -3,9 +3,9 @@ use Prim.Native.Nat.{_-_}
 use mathlib.Core.Path.{_≡_}
 use lib.ListN.{length}
 use Rattle.rules.specs.State.{own}
+use Rattle.marktests.proofs.Passing.{Passed}
+use Rattle.recordtests.specs.Needed.{OwnFit}
 use Rattle.checking.specs.Tests.{intervalsHold}
-use Rattle.checking.specs.Needed.{OwnFit}
-use Rattle.checking.proofs.Passing.{Passed}
 use Rattle.checking.proofs.ClockTests.{clocks-checked}
 use Rattle.checking.proofs.intervals_hold.Statement.{statement}
 use Rattle.checking.proofs.intervals_hold.Tie as tie

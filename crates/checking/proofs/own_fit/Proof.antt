@@ -3,8 +3,8 @@ use Prim.Native.Nat.{_-_}
 use mathlib.Core.Path.{_≡_}
 use lib.ListN.{length}
 use Rattle.rules.specs.State.{own}
-use Rattle.checking.specs.Tests.{ownFits}
-use Rattle.checking.proofs.Passing.{Passed}
+use Rattle.marktests.proofs.Passing.{Passed}
+use Rattle.recordtests.specs.Tests.{ownFits}
 use Rattle.checking.proofs.ClockTests.{clocks-checked}
 use Rattle.checking.proofs.own_fit.Statement.{statement}
 use Rattle.checking.proofs.own_fit.Tie as tie

@@ -2,9 +2,9 @@
 use Prim.Native.Nat.{_-_}
 use mathlib.Core.Path.{_≡_}
 use lib.ListN.{length}
+use Rattle.marktests.specs.Needed.{PlacesThere}
+use Rattle.marktests.proofs.Passing.{Kept}
 use Rattle.checking.specs.Tests.{entryWithin}
-use Rattle.checking.specs.Needed.{PlacesThere}
-use Rattle.checking.proofs.Passing.{Kept}
 use Rattle.checking.proofs.ClockTests.{clocks-checked}
 use Rattle.checking.proofs.row_within.Statement.{statement}
 use Rattle.checking.proofs.row_within.Tie as tie

@@ -1,8 +1,8 @@
 -- `rows_within` meets its contract: the first i rows do not exceed the other clock. Assumes nothing.
 use Prim.Native.Nat.{_-_, _*_}
+use Rattle.marktests.specs.Needed.{PlacesThere}
+use Rattle.marktests.proofs.Passing.{Passed}
 use Rattle.checking.specs.Tests.{rowWithin}
-use Rattle.checking.specs.Needed.{PlacesThere}
-use Rattle.checking.proofs.Passing.{Passed}
 use Rattle.checking.proofs.ClockTests.{clocks-checked}
 use Rattle.checking.proofs.rows_within.Statement.{statement}
 use Rattle.checking.proofs.rows_within.Tie as tie

@@ -1,9 +1,9 @@
 -- `words_zero` meets its contract: `all` says whether the first i words are 0. Assumes nothing.
 use Prim.Native.Nat.{_-_}
-use Rattle.checking.specs.Tests.{zeroAt}
-use Rattle.checking.specs.Needed.{PlacesThere}
-use Rattle.checking.proofs.Passing.{Kept}
-use Rattle.checking.proofs.MarkTests.{marks-checked}
+use Rattle.marktests.specs.Tests.{zeroAt}
+use Rattle.marktests.specs.Needed.{PlacesThere}
+use Rattle.marktests.proofs.Passing.{Kept}
+use Rattle.checking.proofs.WordTests.{words-checked}
 use Rattle.checking.proofs.words_zero.Statement.{statement}
 use Rattle.checking.proofs.words_zero.Tie as tie
 
@@ -16,4 +16,4 @@ abbrev μ-loop : tie.MeasureT-loop
 pub words-zero-spec : {M : Type 1} → statement M
 words-zero-spec =
     tie.close
-    (tie.spec Inv-loop μ-loop (λ c. search marks-checked) (λ c. search marks-checked) (λ c. search marks-checked) (λ c. search marks-checked) (λ c. search marks-checked) (λ c. search marks-checked) (λ c. search marks-checked) (λ c. search marks-checked) (λ c. search marks-checked) (λ c. search marks-checked) (λ c. search marks-checked))
+    (tie.spec Inv-loop μ-loop (λ c. search words-checked) (λ c. search words-checked) (λ c. search words-checked) (λ c. search words-checked) (λ c. search words-checked) (λ c. search words-checked) (λ c. search words-checked) (λ c. search words-checked) (λ c. search words-checked) (λ c. search words-checked) (λ c. search words-checked))

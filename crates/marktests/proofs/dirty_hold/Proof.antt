@@ -1,0 +1,20 @@
+-- `dirty_hold` meets its contract: the first k processors pass. Assumes nothing.
+use Prim.Native.Nat.{_-_, _≤_}
+use mathlib.Core.Path.{_≡_}
+use lib.ListN.{length}
+use Rattle.marktests.specs.Tests.{dirtyHold}
+use Rattle.marktests.proofs.Passing.{Passed}
+use Rattle.marktests.proofs.MarkTests.{marks-checked}
+use Rattle.marktests.proofs.dirty_hold.Statement.{statement}
+use Rattle.marktests.proofs.dirty_hold.Tie as tie
+
+abbrev Inv-loop : tie.InvT-loop
+Inv-loop marks own processors pages k₀ k = (Passed 8 (dirtyHold own marks processors pages) k) × (length marks ≡ 93) × (pages ≤ 8)
+
+abbrev μ-loop : tie.MeasureT-loop
+μ-loop marks own processors pages k₀ k = 8 - k
+
+pub dirty-hold-spec : {M : Type 1} → statement M
+dirty-hold-spec =
+    tie.close
+    (tie.spec Inv-loop μ-loop (λ c. search marks-checked) (λ c κs. search marks-checked) (λ c. search marks-checked) (λ c. search marks-checked) (λ c. search marks-checked) (λ c. search marks-checked) (λ c. search marks-checked))

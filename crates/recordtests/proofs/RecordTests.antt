@@ -1,0 +1,112 @@
+-- What the functions on records leave to show, one law for each way of the code. Assumes nothing.
+use Prim.Native.Nat.{ℕ, _+_, _-_, _*_, _≤_, _<_}
+use native.Mathlib.Omega.{arith}
+use mathlib.Core.Path.{_≡_}
+use mathlib.Core.Bool.{Bool, true, false, not, _&&_}
+use mathlib.Core.List.{List}
+use lib.ListN.{getD, take, drop}
+use lib.Dec.{leb, ltb, eqb}
+use borrow.Author.Tests.{ltb-true, leb-true, not-true, not-false, lt-ltb, le-ltb, le-leb, lt-leb}
+use borrow.Author.Needs.{needs}
+use Rattle.diff.specs.Reading.{readRefusal}
+use Rattle.rules.specs.Tables.{every}
+use Rattle.rules.proofs.Everywhere.{and-left, and-right}
+use Rattle.marktests.specs.Needed.{PlacesThere}
+use Rattle.marktests.proofs.Passing.{passed-none, passed-more, passed-broken, passed-all, and-fails, and-goes-on}
+use Rattle.recordtests.specs.Tests.{noticeHolds, diffHolds, recordHolds, unlike, recordsHoldWith}
+use Rattle.recordtests.specs.Needed.{SlotThere, SlotsThere}
+
+-- ---- a record's numbers
+
+module _ (own : List ℕ) (processors pages p n g : ℕ) where
+  -- a record of nobody
+  pub nobody's : p ≡ 0 → false ≡ noticeHolds own processors pages p n g
+  unfolding noticeHolds
+  nobody's e = rw e
+
+  -- of an absent processor
+  pub absent-processor's : (p ≡ 0 → ⊥) → processors < p → false ≡ noticeHolds own processors pages p n g
+  unfolding noticeHolds
+  absent-processor's a b = rw (le-leb 1 p (omega arith), lt-leb p processors b)
+
+  -- of an absent page
+  pub absent-page's : (p ≡ 0 → ⊥) → p ≤ processors → pages ≤ g → false ≡ noticeHolds own processors pages p n g
+  unfolding noticeHolds
+  absent-page's a b d = rw (le-leb 1 p (omega arith), le-leb p processors b, le-ltb g pages d)
+
+  -- of interval 0
+  pub no-interval's : (p ≡ 0 → ⊥) → p ≤ processors → g < pages → n ≡ 0 → false ≡ noticeHolds own processors pages p n g
+  unfolding noticeHolds
+  no-interval's a b d e = rw (le-leb 1 p (omega arith), le-leb p processors b, lt-ltb g pages d, e)
+
+  -- otherwise its interval decides
+  pub interval-decides : (last : ℕ) → (p ≡ 0 → ⊥) → p ≤ processors → g < pages → (n ≡ 0 → ⊥) → (last ≡ getD own (p - 1) 0) × (last < 256)
+      → leb n last ≡ noticeHolds own processors pages p n g
+  unfolding noticeHolds
+  interval-decides last a b d e f = rw (le-leb 1 p (omega arith), le-leb p processors b, lt-ltb g pages d, le-leb 1 n (omega arith), f .0)
+
+-- a record's numbers: a present processor and page, an interval that was made
+pub record Notice (own : List ℕ) (processors pages p n g : ℕ) : Type 0 where
+  pub from : 1 ≤ p
+  pub to : p ≤ processors
+  pub page : g < pages
+  pub some-interval : 1 ≤ n
+  pub made-interval : n ≤ getD own (p - 1) 0
+
+-- what it says
+pub notice-says : (own : List ℕ) (processors pages p n g : ℕ) → noticeHolds own processors pages p n g ≡ true → Notice own processors pages p n g
+unfolding noticeHolds
+notice-says own processors pages p n g e =
+    let a = and-right (leb 1 p) (leb p processors && (ltb g pages && (leb 1 n && leb n (getD own (p - 1) 0)))) e in
+    let b = and-right (leb p processors) (ltb g pages && (leb 1 n && leb n (getD own (p - 1) 0))) a in
+    let d = and-right (ltb g pages) (leb 1 n && leb n (getD own (p - 1) 0)) b in
+    record {
+      from = leb-true _ _ (and-left (leb 1 p) (leb p processors && (ltb g pages && (leb 1 n && leb n (getD own (p - 1) 0)))) e);
+      to = leb-true _ _ (and-left (leb p processors) (ltb g pages && (leb 1 n && leb n (getD own (p - 1) 0))) a);
+      page = ltb-true _ _ (and-left (ltb g pages) (leb 1 n && leb n (getD own (p - 1) 0)) b);
+      some-interval = leb-true _ _ (and-left (leb 1 n) (leb n (getD own (p - 1) 0)) d);
+      made-interval = leb-true _ _ (and-right (leb 1 n) (leb n (getD own (p - 1) 0)) d);
+    }
+
+-- ---- its diff
+
+-- a diff longer than its slot
+pub diff-too-long : (r : List ℕ) (at len : ℕ) → (len ≡ getD r (at + 3) 0) × (len < 256) → 131 < len → false ≡ diffHolds r at
+unfolding diffHolds
+diff-too-long r at len e h = rw (← e .0, lt-leb len 131 h)
+
+-- otherwise the diff's own test decides
+pub diff-decides : (r : List ℕ) (at len refusal : ℕ) → (len ≡ getD r (at + 3) 0) × (len < 256) → len ≤ 131
+    → refusal ≡ readRefusal 32 (take (at + 4 + len - (at + 4)) (drop (at + 4) r)) → eqb refusal 0 ≡ diffHolds r at
+unfolding diffHolds
+diff-decides r at len refusal e h f =
+    let z : at + 4 + len - (at + 4) ≡ len = omega arith in
+    rw (f, z, ← e .0, le-leb len 131 h)
+
+-- ---- a record
+
+-- a slot lies within the area
+pub slot-places : (r : List ℕ) (i : ℕ) → SlotThere r i → PlacesThere r (135 * i) 135
+slot-places r i p = record { within = omega (arith, p .records, p .slot) }
+
+pub record-broken : (own r : List ℕ) (processors pages i p n g : ℕ) (t : Bool) → (p ≡ getD r (135 * i) 0) × (p < 256) → (n ≡ getD r (135 * i + 1) 0) × (n < 256)
+    → (g ≡ getD r (135 * i + 2) 0) × (g < 256) → t ≡ noticeHolds own processors pages p n g → not t ≡ true → false ≡ recordHolds own r processors pages i
+unfolding recordHolds
+record-broken own r processors pages i p n g t a b d e k = rw (← a .0, ← b .0, ← d .0, ← e, not-true t k)
+
+pub record-decides : (own r : List ℕ) (processors pages i p n g : ℕ) (t x : Bool) → (p ≡ getD r (135 * i) 0) × (p < 256) → (n ≡ getD r (135 * i + 1) 0) × (n < 256)
+    → (g ≡ getD r (135 * i + 2) 0) × (g < 256) → t ≡ noticeHolds own processors pages p n g → not t ≡ false → x ≡ diffHolds r (135 * i)
+    → x ≡ recordHolds own r processors pages i
+unfolding recordHolds
+record-decides own r processors pages i p n g t x a b d e k f = rw (← a .0, ← b .0, ← d .0, ← e, not-false t k, f)
+
+-- one slot of several
+pub slot-one : (r : List ℕ) (n i : ℕ) → SlotsThere r n → i < n → SlotThere r i
+slot-one r n i p h = record { records = p .records; slot = omega (arith, p .slots) }
+
+pub records-is : (own r : List ℕ) (processors pages standing : ℕ) (t : Bool)
+    → t ≡ (every standing (recordHolds own r processors pages) && every standing (unlike r)) → t ≡ recordsHoldWith own r processors pages standing
+unfolding recordsHoldWith
+records-is own r processors pages standing t e = e
+
+pub ruleset records-checked = (passed-none, passed-more, passed-broken, passed-all, and-fails, and-goes-on, nobody's, absent-processor's, absent-page's, no-interval's, interval-decides, diff-too-long, diff-decides, slot-places, record-broken, record-decides, slot-one, records-is, needs)

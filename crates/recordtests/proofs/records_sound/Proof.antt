@@ -1,0 +1,19 @@
+-- `records_sound` meets its contract: the first i records are sound. Assumes nothing.
+use Prim.Native.Nat.{_-_, _≤_}
+use Rattle.marktests.proofs.Passing.{Passed}
+use Rattle.recordtests.specs.Tests.{recordHolds}
+use Rattle.recordtests.specs.Needed.{SlotsThere}
+use Rattle.recordtests.proofs.RecordTests.{records-checked}
+use Rattle.recordtests.proofs.records_sound.Statement.{statement}
+use Rattle.recordtests.proofs.records_sound.Tie as tie
+
+abbrev Inv-loop : tie.InvT-loop
+Inv-loop records own processors pages standing i₀ i = (Passed standing (recordHolds own records processors pages) i) × (SlotsThere records standing) × (processors ≤ 8)
+
+abbrev μ-loop : tie.MeasureT-loop
+μ-loop records own processors pages standing i₀ i = standing - i
+
+pub records-sound-spec : {M : Type 1} → statement M
+records-sound-spec =
+    tie.close
+    (tie.spec Inv-loop μ-loop (λ c. search records-checked) (λ c κs. search records-checked) (λ c. search records-checked) (λ c. search records-checked) (λ c. search records-checked) (λ c. search records-checked) (λ c. search records-checked))

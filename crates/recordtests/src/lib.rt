@@ -1,0 +1,154 @@
+// The tests of the records that stand: each is sound and has a legal diff, and no two are of one processor, interval and page.
+// Each contract is an equation with a definition of specs/Tests.antt.
+ghost use mathlib.Core.Path.{_≡_};
+ghost use Prim.Native.Nat.{_<_, _≤_};
+ghost use Rattle.rules.specs.Tables.{every};
+ghost use Rattle.marktests.specs.Needed.{PlacesThere};
+ghost use Rattle.recordtests.specs.Tests.{noticeHolds, diffHolds, recordHolds, unlike, noticePlace, recordsHoldWith};
+ghost use Rattle.recordtests.specs.Needed.{OwnFit, SlotThere, SlotsThere, NoticeFits, NoticesFit, Blank};
+use clock::IntervalId;
+use clock::PageId;
+use clock::ProcessorId;
+use diff::check;
+
+// Whether all records are in order.
+pub fn records_hold(
+    records: &[u8],
+    own: [u8; 8],
+    processors: usize,
+    pages: usize,
+    standing: usize,
+) -> bool
+    requires { ⌜ (SlotsThere (now records) standing) × (processors ≤ 8) × (pages ≤ 8) × (OwnFit own) ⌝ }
+    ensures { λ r. ⌜ r ≡ recordsHoldWith own (now (records .entry)) processors pages standing ⌝ }
+{
+    if !records_sound(records, own, processors, pages, standing) {
+        return false;
+    }
+    records_unlike(records, standing)
+}
+
+// Whether a record's numbers are those of a present processor and page and of an interval that was made.
+fn notice_holds(
+    own: [u8; 8],
+    processors: usize,
+    pages: usize,
+    p: ProcessorId,
+    n: IntervalId,
+    g: PageId,
+) -> bool
+    requires { ⌜ processors ≤ 8 ⌝ }
+    ensures { λ r. ⌜ r ≡ noticeHolds own processors pages (p .0) (n .0) (g .0) ⌝ }
+{
+    if p.0 == 0 {
+        return false;
+    }
+    if processors < p.0 {
+        return false;
+    }
+    if pages <= g.0 {
+        return false;
+    }
+    if n.0 == 0 {
+        return false;
+    }
+    n.0 <= wide(own[p.0 - 1])
+}
+
+// Whether the diff of the slot at a place fits the slot and is legal.
+fn diff_holds(records: &[u8], at: usize) -> bool
+    requires { ⌜ PlacesThere (now records) at 135 ⌝ }
+    ensures { λ r. ⌜ r ≡ diffHolds (now (records .entry)) at ⌝ }
+{
+    let len = wide(records[at + 3]);
+    if 131 < len {
+        return false;
+    }
+    let from = at + 4;
+    let end = from + len;
+    check(&records[from..end]) == 0
+}
+
+// Whether the record in a slot is sound.
+fn record_holds(records: &[u8], own: [u8; 8], processors: usize, pages: usize, i: usize) -> bool
+    requires { ⌜ (SlotThere (now records) i) × (processors ≤ 8) ⌝ }
+    ensures { λ r. ⌜ r ≡ recordHolds own (now (records .entry)) processors pages i ⌝ }
+{
+    let at = 135 * i;
+    if !notice_holds(
+        own,
+        processors,
+        pages,
+        ProcessorId(wide(records[at])),
+        IntervalId(wide(records[at + 1])),
+        PageId(wide(records[at + 2])),
+    ) {
+        return false;
+    }
+    diff_holds(records, at)
+}
+
+// Whether every record that stands is.
+fn records_sound(
+    records: &[u8],
+    own: [u8; 8],
+    processors: usize,
+    pages: usize,
+    standing: usize,
+) -> bool
+    requires { ⌜ (SlotsThere (now records) standing) × (processors ≤ 8) ⌝ }
+    ensures { λ r. ⌜ r ≡ every standing (recordHolds own (now (records .entry)) processors pages) ⌝ }
+{
+    let mut i: usize = 0;
+    while i < standing {
+        if !record_holds(records, own, processors, pages, i) {
+            return false;
+        }
+        i = i + 1;
+    }
+    true
+}
+
+// A table in which no record is marked.
+fn none_seen() -> [u8; 4608]
+    ensures { λ r. ⌜ Blank 4608 r ⌝ }
+{
+    [0; 4608]
+}
+
+// The place of a record's processor, interval and page in such a table.
+fn notice_place(records: &[u8], i: usize) -> usize
+    requires { ⌜ (SlotThere (now records) i) × (NoticeFits (now records) i) ⌝ }
+    ensures { λ r. ⌜ r ≡ noticePlace (now (records .entry)) i ⌝ }
+    ensures { λ r. ⌜ r < 4608 ⌝ }
+{
+    let at = 135 * i;
+    let p = ProcessorId(wide(records[at]));
+    let n = IntervalId(wide(records[at + 1]));
+    let g = PageId(wide(records[at + 2]));
+    512 * p.0 + 8 * n.0 + g.0
+}
+
+// Whether no two records that stand are of one processor, interval and page: each is marked in the table.
+fn records_unlike(records: &[u8], standing: usize) -> bool
+    requires { ⌜ (SlotsThere (now records) standing) × (NoticesFit (now records) standing) ⌝ }
+    ensures { λ r. ⌜ r ≡ every standing (unlike (now (records .entry))) ⌝ }
+{
+    let mut seen = none_seen();
+    let mut i: usize = 0;
+    while i < standing {
+        let place = notice_place(records, i);
+        if seen[place] != 0 {
+            return false;
+        }
+        seen[place] = 1;
+        i = i + 1;
+    }
+    true
+}
+
+fn wide(x: u8) -> usize
+    ensures { λ r. ⌜ (r ≡ x) × (r < 256) ⌝ }
+{
+    x as usize
+}
