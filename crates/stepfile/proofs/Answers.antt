@@ -10,13 +10,15 @@ use borrow.Author.Tests.{not-false, not-true}
 use borrow.Author.Needs.{needs}
 use Rattle.engine.specs.Outcomes.{OrderIs}
 use Rattle.engine.specs.Promises.{Areas}
-use Rattle.stepfile.specs.Feeding.{after, bytesTaken}
+use Rattle.passing.specs.Bytes.{bytesTaken}
+use Rattle.passing.proofs.Bytes.{taken-stopped}
+use Rattle.passing.proofs.Passing.{kept-all}
+use Rattle.stepfile.specs.Feeding.{after}
 use Rattle.stepfile.specs.Promises.{FedAs, Started, feedAnswer, feedAreas, feedLines, feedable, notTaken, progressOf, standing}
 use Rattle.stepfile.specs.declared.Progress.{Progress}
 use Rattle.stepfile.specs.declared.Taken.{Taken}
 use Rattle.stepfile.specs.Needed.{ChunkFed, Feedable, FeedableIs, Holding, takenAs}
-use Rattle.stepfile.proofs.Cutting.{cut-lines, cut-reached, started, taken-stopped}
-use Rattle.stepfile.proofs.Passing.{kept-all}
+use Rattle.stepfile.proofs.Cutting.{cut-lines, cut-reached, started}
 use Rattle.stepfile.proofs.Sound.{few-held, few-records, holding-there, room-there}
 
 -- no byte has been fed

@@ -17,8 +17,10 @@ use Rattle.engine.specs.Promises.{Areas, areas, rightSizes, openingOf, openRefu
 use Rattle.running.specs.Records.{stepFrom, stepsIn}
 use Rattle.lines.specs.Decimal.{digitsWithin, digits}
 use Rattle.lines.specs.Lines.{lineBytes}
-use Rattle.stepfile.specs.Files.{mostSteps, refusalLine, answerLines, stepCount, endLine, openedBy, stepLines, fileLines}
-use Rattle.stepfile.specs.Feeding.{begun, openingTaken, recordTaken, heldOn, byteTaken, bytesTaken, after, lastLine}
+use Rattle.taking.specs.Records.{mostSteps, refusalLine, openingTaken, recordTaken}
+use Rattle.passing.specs.Bytes.{heldOn, byteTaken, bytesTaken}
+use Rattle.stepfile.specs.Files.{answerLines, stepCount, endLine, openedBy, stepLines, fileLines}
+use Rattle.stepfile.specs.Feeding.{begun, after, lastLine}
 use Rattle.stepfile.specs.Promises.{progressOf, finishLine}
 use Rattle.stepfile.proofs.Whole.{whole-lines}
 

@@ -9,15 +9,19 @@ use lib.ListN.{drop, drop-of-length-le, length, length-append, take, take-append
 use lib.Seq.{length-take-le, take-at}
 use borrow.Author.Needs.{needs}
 use Rattle.engine.specs.Promises.{Areas, areas}
-use Rattle.stepfile.specs.Feeding.{Feed, bytesTaken, heldOn, openingTaken, recordTaken, stepTaken, tooManyTaken}
+use Rattle.taking.specs.Records.{Feed, openingTaken, recordTaken, stepTaken, tooManyTaken}
+use Rattle.taking.specs.Needed.{Takeable, Took, standsAt}
+use Rattle.taking.specs.declared.Stand.{Stand}
+use Rattle.passing.specs.Bytes.{bytesTaken, heldOn}
+use Rattle.passing.specs.Needed.{Passable}
+use Rattle.passing.proofs.Bytes.{taken-held, taken-record, taken-together}
+use Rattle.passing.proofs.Passing.{kept-again, kept-all}
 use Rattle.stepfile.specs.Promises.{standing}
 use Rattle.stepfile.specs.declared.Progress.{Progress}
 use Rattle.stepfile.specs.declared.Taken.{Taken}
-use Rattle.stepfile.specs.declared.Stand.{Stand}
 use Rattle.stepfile.specs.declared.Held.{Held}
-use Rattle.stepfile.specs.Needed.{ChunkFed, Completes, Feedable, HeldAll, Holdable, Passable, Takeable, Took, firstStand, standsAt, takenAs}
-use Rattle.stepfile.proofs.Cutting.{taken-held, taken-record, taken-together}
-use Rattle.stepfile.proofs.Passing.{held-progress, kept-again, kept-all}
+use Rattle.stepfile.specs.Needed.{ChunkFed, Completes, Feedable, HeldAll, Holdable, firstStand, takenAs}
+use Rattle.stepfile.proofs.Rest.{held-progress}
 
 -- a whole record is taken whatever was held before it
 record-from : (p : Progress) (ready : Bool) (out : List ℕ) (a : Areas) (bytes : List ℕ)

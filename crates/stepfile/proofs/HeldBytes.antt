@@ -11,7 +11,6 @@ use lib.Dec.{eqb}
 use borrow.Author.Tests.{eq-eqb, eqb-true, le-ltb, lt-ltb, ne-eqb}
 use borrow.Author.Needs.{needs}
 use Rattle.stepfile.specs.Promises.{allZero}
-use Rattle.stepfile.specs.declared.Held.{Held}
 use Rattle.stepfile.specs.Needed.{HeldAll, Holdable, Holding, Holds, ZerosBehind}
 
 -- ---- bytes taken behind those held

@@ -15,7 +15,8 @@ use Rattle.rules.specs.State.{mainframe}
 use Rattle.rules.proofs.DemandThree.{demand-three}
 use Rattle.engine.specs.Promises.{Areas, rightSizes, openingOf}
 use Rattle.running.specs.Records.{stepsIn}
-use Rattle.stepfile.specs.Files.{mostSteps, refusalLine, answerLines, stepCount, endLine, openedBy, stepLines, fileLines}
+use Rattle.taking.specs.Records.{mostSteps, refusalLine}
+use Rattle.stepfile.specs.Files.{answerLines, stepCount, endLine, openedBy, stepLines, fileLines}
 use Rattle.stepfile.specs.Feeding.{after}
 use Rattle.stepfile.specs.Promises.{finishLine, Reached}
 use Rattle.stepfile.specs.declared.Progress.{Progress}

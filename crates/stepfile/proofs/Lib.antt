@@ -3,11 +3,9 @@ pub mod Carried
 pub mod Whole
 pub mod Judged
 pub mod Cases
-pub mod Taking
 pub mod HeldBytes
 pub mod Sound
-pub mod Passing
-pub mod Runs
+pub mod Rest
 pub mod Chunks
 pub mod Answers
 pub mod Finishing

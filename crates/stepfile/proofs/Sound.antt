@@ -7,7 +7,7 @@ use lib.ListN.{drop, length}
 use lib.Dec.{leb, ltb}
 use borrow.Author.Tests.{le-leb, le-ltb, leb-true, lt-leb, lt-ltb, ltb-true}
 use borrow.Author.Needs.{needs}
-use Rattle.stepfile.specs.Files.{mostSteps}
+use Rattle.taking.specs.Records.{mostSteps}
 use Rattle.stepfile.specs.Promises.{allZero, feedable, sound}
 use Rattle.stepfile.specs.declared.Progress.{Progress}
 use Rattle.stepfile.specs.Needed.{FeedableIs, Holding, ZerosBehind}

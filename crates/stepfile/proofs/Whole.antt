@@ -1,12 +1,12 @@
 -- A file fed byte by byte prints the lines of the whole file: those of its opening, of its steps as the rules answer them, and of its end.
--- Rests on Cutting and Carried. Assumes nothing.
+-- Rests on Carried and on passing's laws of bytes. Assumes nothing.
 use Prim.Native.Nat.{ℕ, zero, suc, _+_, _-_, _*_, _%_, _≤_, _<_, min}
 use native.Mathlib.Omega.{arith}
 use mathlib.Core.Path.{_≡_, refl, sym, ap, _∙_}
 use mathlib.Core.Bool.{Bool, true, false, cond, _&&_}
 use mathlib.Core.List.{List, [], _∷_, _++_, append-assoc, append-nil}
 use lib.ListN.{length, take, drop, replicate, length-drop}
-use lib.Seq.{take-append-seam, getD-take, length-take-le}
+use lib.Seq.{take-append-seam, length-take-le}
 use lib.Dec.{ltb, leb, eqb}
 use borrow.Author.Tests.{ltb-true, ltb-false, eqb-true, eqb-false, le-leb, lt-leb, lt-ltb, le-ltb, ne-eqb}
 use Rattle.rules.specs.InOrder.{countsInRange}
@@ -17,11 +17,14 @@ use Rattle.rules.specs.State.{mainframe, State}
 use Rattle.engine.specs.Promises.{Areas, holding, rightSizes, openingOf, openRefusal, areasOpened, answerOf, areasAfter}
 use Rattle.running.specs.Records.{stepFrom, stepsIn}
 use Rattle.lines.specs.Lines.{lineBytes}
-use Rattle.stepfile.specs.Files.{mostSteps, refusalLine, answerLines, stepCount, endLine, openedBy, stepLines, fileLines}
-use Rattle.stepfile.specs.Feeding.{Feed, begun, openingTaken, stepTaken, tooManyTaken, recordTaken, heldOn, bytesTaken, after, lastLine}
+use Rattle.taking.specs.Records.{Feed, mostSteps, refusalLine, openingTaken, stepTaken, tooManyTaken, recordTaken}
+use Rattle.taking.proofs.Taking.{step-of-eight}
+use Rattle.passing.specs.Bytes.{heldOn, bytesTaken}
+use Rattle.passing.proofs.Bytes.{taken-stopped, taken-held, eight-first}
+use Rattle.stepfile.specs.Files.{answerLines, stepCount, endLine, openedBy, stepLines, fileLines}
+use Rattle.stepfile.specs.Feeding.{begun, after, lastLine}
 use Rattle.stepfile.specs.Promises.{progressOf, finishLine, Reached}
 use Rattle.stepfile.specs.declared.Progress.{Progress}
-use Rattle.stepfile.proofs.Cutting.{taken-stopped, taken-held, eight-first}
 use Rattle.stepfile.proofs.Carried.{Carried, opened-carried, next-carried, carried-answer, carried-after}
 
 -- ---- what stands between two records, and the lines at the end
@@ -40,12 +43,6 @@ ended-finish f = ap (λ (h : List ℕ). f .lines ++ lastLine (f .number) h (f .s
 
 -- ---- a step's record
 
--- the step in eight bytes is the step in a longer list that starts with them
-first-step : (xs : List ℕ) → stepFrom (take 8 xs) ≡ stepFrom xs
-unfolding stepFrom
-first-step xs =
-    rw (getD-take 8 xs 0 0 (omega arith), getD-take 8 xs 1 0 (omega arith), getD-take 8 xs 2 0 (omega arith), getD-take 8 xs 3 0 (omega arith), getD-take 8 xs 4 0 (omega arith), getD-take 8 xs 5 0 (omega arith), getD-take 8 xs 6 0 (omega arith), getD-take 8 xs 7 0 (omega arith))
-
 -- the line of an answer
 unfoldable answerLine : ℕ → Answer → List ℕ
 answerLine n a = lineBytes n (a .refusal) (a .value) (a .count)
@@ -58,7 +55,7 @@ unfolding recordTaken stepTaken between answerLine
 step-between k s l xs h c =
     ap (λ (b : Bool). cond b (openingTaken f bytes) (cond (leb (suc k) mostSteps) (stepTaken f bytes) (tooManyTaken f))) (ne-eqb (suc k) 0 (omega arith))
     ∙ ap (λ (b : Bool). cond b (stepTaken f bytes) (tooManyTaken f)) (le-leb (suc k) mostSteps h)
-    ∙ ap (λ (t : Step). taken (answerOf (holding s) t) (areasAfter (holding s) t)) (first-step xs)
+    ∙ ap (λ (t : Step). taken (answerOf (holding s) t) (areasAfter (holding s) t)) (step-of-eight xs)
     ∙ ap (λ (a : Answer). taken a (areasAfter (holding s) (stepFrom xs))) (carried-answer s c (stepFrom xs))
     ∙ ap (λ (a : Areas). taken (answer mainframe s (stepFrom xs)) a) (carried-after s c (stepFrom xs))
   where

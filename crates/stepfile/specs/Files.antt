@@ -11,14 +11,7 @@ use Rattle.rules.specs.State.{mainframe, State}
 use Rattle.engine.specs.Promises.{openingOf}
 use Rattle.running.specs.Records.{stepsIn}
 use Rattle.lines.specs.Lines.{lineBytes}
-
--- "the 1,000,000th step record": so many steps are run
-unfoldable pub mostSteps : ℕ
-mostSteps = 1000000
-
--- the line of record n with a refusal (0 for an accepted opening): "Value 0, count 0"
-unfoldable pub refusalLine : ℕ → ℕ → List ℕ
-refusalLine n refusal = lineBytes n refusal 0 0
+use Rattle.taking.specs.Records.{mostSteps, refusalLine}
 
 -- "a line a record": the lines of answers, numbered from n on
 unfoldable pub answerLines : ℕ → List Answer → List ℕ

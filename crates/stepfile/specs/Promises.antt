@@ -8,8 +8,10 @@ use lib.ListN.{length, take, drop, replicate}
 use lib.Seq.{sets}
 use lib.Dec.{ltb, leb, eqb}
 use Rattle.engine.specs.Promises.{Areas, rightSizes}
-use Rattle.stepfile.specs.Files.{mostSteps, fileLines}
-use Rattle.stepfile.specs.Feeding.{Feed, bytesTaken, after, lastLine}
+use Rattle.taking.specs.Records.{Feed, mostSteps}
+use Rattle.passing.specs.Bytes.{bytesTaken}
+use Rattle.stepfile.specs.Files.{fileLines}
+use Rattle.stepfile.specs.Feeding.{after, lastLine}
 use Rattle.stepfile.specs.declared.Progress.{Progress}
 use Rattle.stepfile.specs.declared.Taken.{Taken}
 

@@ -1,17 +1,15 @@
 // A step file fed in parts, cut anywhere: the lines of its records, as for the whole file.
-ghost use mathlib.Core.Path.{_≡_};
 ghost use mathlib.Core.Bool.{true};
-ghost use Prim.Native.Nat.{_+_, _≤_};
 ghost use lib.ListN.{length, take, drop};
 ghost use Rattle.engine.specs.Promises.{areas};
 ghost use Rattle.engine.specs.Outcomes.{OrderIs};
-ghost use Rattle.running.specs.Records.{stepFrom};
-ghost use Rattle.lines.specs.Lines.{lineBytes};
-ghost use Rattle.lines.specs.Needed.{Room, Counted};
-ghost use Rattle.stepfile.specs.Feeding.{bytesTaken, openingTaken, stepTaken, recordTaken};
+ghost use Rattle.taking.specs.Records.{recordTaken};
+ghost use Rattle.taking.specs.Needed.{standsAt, Takeable, Took};
+ghost use Rattle.passing.specs.Bytes.{bytesTaken};
+ghost use Rattle.passing.specs.Needed.{Passable};
 ghost use Rattle.stepfile.specs.Promises.{standing, Started, FedAs, FinishedAs};
-ghost use Rattle.stepfile.specs.Needed.{ZerosBehind, FeedableIs, EndsShort, LinePut, outcomeLine, standsAt, Takeable, StepTakeable, StoppedAt, Steppable, Took, OpenedAs, Answered, firstStand, Passable, Passing, Ahead, Runnable, Passes, Holdable, HeldAll, Feedable, Completes, Endable, Ended, ChunkFed};
-use engine::Outcome;
+ghost use Rattle.stepfile.specs.Needed.{ZerosBehind, FeedableIs, EndsShort, firstStand, Holdable, HeldAll, Feedable, Completes, Endable, Ended, ChunkFed};
+use taking::Stand;
 
 // How far a file has been fed.
 pub struct Progress {
@@ -31,25 +29,10 @@ pub struct Taken {
     pub written: usize,
 }
 
-// What stands between two records: the number of the next, whether the run has stopped, whether the areas are in order, and how many
-// bytes of lines are written.
-struct Stand {
-    number: u32,
-    stopped: bool,
-    ready: bool,
-    at: usize,
-}
-
 // Bytes held, how many, and the place in the chunk behind the last of them.
 struct Held {
     count: usize,
     bytes: [u8; 8],
-    next: usize,
-}
-
-// What stands behind the last whole record of a chunk, and the place in the chunk behind it.
-struct Passed {
-    stand: Stand,
     next: usize,
 }
 
@@ -106,7 +89,7 @@ pub fn finish(progress: Progress, lines: &mut [u8]) -> Taken
             written: 0,
         };
     }
-    let written = put_line(lines, 0, progress.number, 15, 0, 0);
+    let written = taking::put_line(lines, 0, progress.number, 15, 0, 0);
     Taken {
         progress,
         fed: true,
@@ -317,10 +300,10 @@ fn take_begun(
         ready,
         at: 0,
     };
-    take_record(stand, &bytes, 0, lines, clocks, words, records, marks)
+    taking::take_record(stand, &bytes, 0, lines, clocks, words, records, marks)
 }
 
-// Takes the records that lie whole in the chunk from a place on, first those that are a run of steps, and holds the bytes behind them.
+// Takes the records that lie whole in the chunk from a place on, and holds the bytes behind them.
 fn take_rest(
     stand: Stand,
     chunk: &[u8],
@@ -334,152 +317,9 @@ fn take_rest(
     requires { ⌜ Passable stand (now chunk) from (now lines) (now clocks) (now words) (now records) (now marks) ⌝ }
     ensures { λ r. ⌜ ChunkFed (bytesTaken (standsAt stand (now (lines .entry)) (areas (now (clocks .entry)) (now (words .entry)) (now (records .entry)) (now (marks .entry)))) (drop from (now (chunk .entry)))) (stand .at) (now (lines .entry)) r (now (lines .exit)) (areas (now (clocks .exit)) (now (words .exit)) (now (records .exit)) (now (marks .exit))) ⌝ }
 {
-    let run = take_run(stand, chunk, from, lines, clocks, words, records, marks);
-    let behind = run.stand;
-    take_others(
-        behind,
-        chunk,
-        run.next,
-        lines,
-        clocks,
-        words,
-        records,
-        marks,
-    )
-}
-
-// Takes the steps that follow from a place on. None do where the run has stopped, the opening is missing, or the areas are not in order.
-fn take_run(
-    stand: Stand,
-    chunk: &[u8],
-    from: usize,
-    lines: &mut [u8],
-    clocks: &mut [u8],
-    words: &mut [u32],
-    records: &mut [u8],
-    marks: &mut [u8],
-) -> Passed
-    requires { ⌜ Passable stand (now chunk) from (now lines) (now clocks) (now words) (now records) (now marks) ⌝ }
-    ensures { λ r. ⌜ Passing stand (now (chunk .entry)) from (now (lines .entry)) (now (clocks .entry)) (now (words .entry)) (now (records .entry)) (now (marks .entry)) (r .stand) (r .next) (now (lines .exit)) (now (clocks .exit)) (now (words .exit)) (now (records .exit)) (now (marks .exit)) ⌝ }
-{
-    if stand.stopped {
-        return Passed { stand, next: from };
-    }
-    if !stand.ready {
-        return Passed { stand, next: from };
-    }
-    if stand.number == 0 {
-        return Passed { stand, next: from };
-    }
-    let end = run_end(stand.number, from, chunk.len());
-    take_steps(
-        stand,
-        chunk,
-        from,
-        end,
-        lines,
-        clocks,
-        words,
-        records,
-        marks,
-    )
-}
-
-// The place behind the steps from a place on: behind the last record that lies whole in a chunk of so many bytes, or the 1,000,000th step.
-fn run_end(number: u32, from: usize, chunk: usize) -> usize
-    requires { ⌜ (number ≤ 1000001) × (from ≤ chunk) ⌝ }
-    ensures { λ r. ⌜ Ahead number from r chunk ⌝ }
-{
-    let whole = (chunk - from) / 8;
-    let numbers = (1000001 - number) as usize;
-    if whole < numbers {
-        return from + 8 * whole;
-    }
-    from + 8 * numbers
-}
-
-// Takes the steps from a place on to another, on areas in order: the inner loop of the run program.
-fn take_steps(
-    stand: Stand,
-    chunk: &[u8],
-    from: usize,
-    end: usize,
-    lines: &mut [u8],
-    clocks: &mut [u8],
-    words: &mut [u32],
-    records: &mut [u8],
-    marks: &mut [u8],
-) -> Passed
-    requires { ⌜ Runnable stand (now chunk) from end (now lines) (now clocks) (now words) (now records) (now marks) ⌝ }
-    ensures { λ r. ⌜ Passing stand (now (chunk .entry)) from (now (lines .entry)) (now (clocks .entry)) (now (words .entry)) (now (records .entry)) (now (marks .entry)) (r .stand) (r .next) (now (lines .exit)) (now (clocks .exit)) (now (words .exit)) (now (records .exit)) (now (marks .exit)) ⌝ }
-{
-    let mut number = stand.number;
-    let mut at = stand.at;
-    let mut i = from;
-    let mut digits = [48u8; 8];
-    let mut len = lines::counter(&mut digits, number);
-    while i < end {
-        let outcome = running::step_record(chunk, i, clocks, words, records, marks);
-        at = put_next(lines, at, digits, len, number, outcome);
-        len = lines::count_on(&mut digits, len, number);
-        number = number + 1;
-        i = i + 8;
-    }
-    let last = Stand {
-        number,
-        stopped: false,
-        ready: true,
-        at,
-    };
-    Passed {
-        stand: last,
-        next: i,
-    }
-}
-
-// Takes the records that lie whole in the chunk from a place on, one at a time, and holds the bytes behind them.
-fn take_others(
-    stand: Stand,
-    chunk: &[u8],
-    from: usize,
-    lines: &mut [u8],
-    clocks: &mut [u8],
-    words: &mut [u32],
-    records: &mut [u8],
-    marks: &mut [u8],
-) -> Taken
-    requires { ⌜ Passable stand (now chunk) from (now lines) (now clocks) (now words) (now records) (now marks) ⌝ }
-    ensures { λ r. ⌜ ChunkFed (bytesTaken (standsAt stand (now (lines .entry)) (areas (now (clocks .entry)) (now (words .entry)) (now (records .entry)) (now (marks .entry)))) (drop from (now (chunk .entry)))) (stand .at) (now (lines .entry)) r (now (lines .exit)) (areas (now (clocks .exit)) (now (words .exit)) (now (records .exit)) (now (marks .exit))) ⌝ }
-{
-    let passed = take_records(stand, chunk, from, lines, clocks, words, records, marks);
+    let passed = passing::take_whole(stand, chunk, from, lines, clocks, words, records, marks);
     let last = passed.stand;
     hold_rest(last, chunk, passed.next)
-}
-
-// Takes the records that lie whole in the chunk from a place on, one at a time, until the run stops.
-fn take_records(
-    stand: Stand,
-    chunk: &[u8],
-    from: usize,
-    lines: &mut [u8],
-    clocks: &mut [u8],
-    words: &mut [u32],
-    records: &mut [u8],
-    marks: &mut [u8],
-) -> Passed
-    requires { ⌜ Passable stand (now chunk) from (now lines) (now clocks) (now words) (now records) (now marks) ⌝ }
-    ensures { λ r. ⌜ Passes stand (now (chunk .entry)) from (now (lines .entry)) (areas (now (clocks .entry)) (now (words .entry)) (now (records .entry)) (now (marks .entry))) r (now (lines .exit)) (areas (now (clocks .exit)) (now (words .exit)) (now (records .exit)) (now (marks .exit))) ⌝ }
-{
-    let mut s = stand;
-    let mut i = from;
-    while 8 <= chunk.len() - i {
-        if s.stopped {
-            return Passed { stand: s, next: i };
-        }
-        s = take_record(s, chunk, i, lines, clocks, words, records, marks);
-        i = i + 8;
-    }
-    Passed { stand: s, next: i }
 }
 
 // Holds the bytes behind the last whole record; a run that has stopped holds none.
@@ -514,203 +354,4 @@ fn hold_rest(stand: Stand, chunk: &[u8], from: usize) -> Taken
         fed: true,
         written: stand.at,
     }
-}
-
-// Takes the record from a place on: the first is the opening, the next 1,000,000 are steps.
-fn take_record(
-    stand: Stand,
-    bytes: &[u8],
-    from: usize,
-    lines: &mut [u8],
-    clocks: &mut [u8],
-    words: &mut [u32],
-    records: &mut [u8],
-    marks: &mut [u8],
-) -> Stand
-    requires { ⌜ Takeable stand (now bytes) from (now lines) (now clocks) (now words) (now records) (now marks) ⌝ }
-    ensures { λ r. ⌜ Took (recordTaken (standsAt stand (now (lines .entry)) (areas (now (clocks .entry)) (now (words .entry)) (now (records .entry)) (now (marks .entry)))) (take 8 (drop from (now (bytes .entry))))) stand (now (lines .entry)) r (now (lines .exit)) (now (clocks .exit)) (now (words .exit)) (now (records .exit)) (now (marks .exit)) ⌝ }
-{
-    if stand.number == 0 {
-        return take_opening(stand, bytes, from, lines, clocks, words, records, marks);
-    }
-    if stand.number <= 1000000 {
-        return take_step(stand, bytes, from, lines, clocks, words, records, marks);
-    }
-    too_many(stand, lines)
-}
-
-// The opening; a refused one ends the run.
-fn take_opening(
-    stand: Stand,
-    bytes: &[u8],
-    from: usize,
-    lines: &mut [u8],
-    clocks: &mut [u8],
-    words: &mut [u32],
-    records: &mut [u8],
-    marks: &mut [u8],
-) -> Stand
-    requires { ⌜ Takeable stand (now bytes) from (now lines) (now clocks) (now words) (now records) (now marks) ⌝ }
-    ensures { λ r. ⌜ Took (openingTaken (standsAt stand (now (lines .entry)) (areas (now (clocks .entry)) (now (words .entry)) (now (records .entry)) (now (marks .entry)))) (take 8 (drop from (now (bytes .entry))))) stand (now (lines .entry)) r (now (lines .exit)) (now (clocks .exit)) (now (words .exit)) (now (records .exit)) (now (marks .exit)) ⌝ }
-{
-    let refusal = open_at(bytes, from, clocks, words, records, marks);
-    let at = put_line(lines, stand.at, 0, wide(refusal), 0, 0);
-    if refusal != 0 {
-        return Stand {
-            number: 1,
-            stopped: true,
-            ready: stand.ready,
-            at,
-        };
-    }
-    Stand {
-        number: 1,
-        stopped: false,
-        ready: true,
-        at,
-    }
-}
-
-// Opens a mainframe by the eight bytes from a place on.
-fn open_at(
-    bytes: &[u8],
-    from: usize,
-    clocks: &mut [u8],
-    words: &mut [u32],
-    records: &mut [u8],
-    marks: &mut [u8],
-) -> u8
-    requires { ⌜ from + 8 ≤ length (now bytes) ⌝ }
-    ensures { λ r. ⌜ OpenedAs (take 8 (drop from (now (bytes .entry)))) (now (clocks .entry)) (now (words .entry)) (now (records .entry)) (now (marks .entry)) r (now (clocks .exit)) (now (words .exit)) (now (records .exit)) (now (marks .exit)) ⌝ }
-{
-    let end = from + 8;
-    engine::open_mainframe(&bytes[from..end], clocks, words, records, marks)
-}
-
-// A step; on areas that are not in order it is refused.
-fn take_step(
-    stand: Stand,
-    bytes: &[u8],
-    from: usize,
-    lines: &mut [u8],
-    clocks: &mut [u8],
-    words: &mut [u32],
-    records: &mut [u8],
-    marks: &mut [u8],
-) -> Stand
-    requires { ⌜ StepTakeable stand (now bytes) from (now lines) (now clocks) (now words) (now records) (now marks) ⌝ }
-    ensures { λ r. ⌜ Took (stepTaken (standsAt stand (now (lines .entry)) (areas (now (clocks .entry)) (now (words .entry)) (now (records .entry)) (now (marks .entry)))) (take 8 (drop from (now (bytes .entry))))) stand (now (lines .entry)) r (now (lines .exit)) (now (clocks .exit)) (now (words .exit)) (now (records .exit)) (now (marks .exit)) ⌝ }
-{
-    let outcome = step(stand.ready, bytes, from, clocks, words, records, marks);
-    let at = put_outcome(lines, stand.at, stand.number, outcome);
-    Stand {
-        number: stand.number + 1,
-        stopped: false,
-        ready: stand.ready,
-        at,
-    }
-}
-
-// The step in the record from a place on; 1 where the areas are not in order.
-fn step(
-    ready: bool,
-    bytes: &[u8],
-    from: usize,
-    clocks: &mut [u8],
-    words: &mut [u32],
-    records: &mut [u8],
-    marks: &mut [u8],
-) -> Outcome
-    requires { ⌜ Steppable ready (now bytes) from (now clocks) (now words) (now records) (now marks) ⌝ }
-    ensures { λ r. ⌜ Answered (stepFrom (drop from (now (bytes .entry)))) (now (clocks .entry)) (now (words .entry)) (now (records .entry)) (now (marks .entry)) r ready (now (clocks .exit)) (now (words .exit)) (now (records .exit)) (now (marks .exit)) ⌝ }
-{
-    if !ready {
-        return Outcome::Refused(1);
-    }
-    running::step_record(bytes, from, clocks, words, records, marks)
-}
-
-// 16: a whole record follows the 1,000,000th step record.
-fn too_many(stand: Stand, lines: &mut [u8]) -> Stand
-    requires { ⌜ Room (now lines) (stand .at) 44 ⌝ }
-    ensures { λ r. ⌜ StoppedAt stand (now (lines .entry)) r (now (lines .exit)) ⌝ }
-{
-    let at = put_line(lines, stand.at, stand.number, 16, 0, 0);
-    Stand {
-        number: stand.number,
-        stopped: true,
-        ready: stand.ready,
-        at,
-    }
-}
-
-// Writes the line of a step from a place on, and says the place behind it.
-fn put_outcome(out: &mut [u8], at: usize, number: u32, outcome: Outcome) -> usize
-    requires { ⌜ Room (now out) at 44 ⌝ }
-    ensures { λ r. ⌜ LinePut (now (out .entry)) at (outcomeLine number outcome) (now (out .exit)) r ⌝ }
-{
-    match outcome {
-        Outcome::Done { value, count } => put_line(out, at, number, 0, value, count),
-        Outcome::Refused(refusal) => put_line(out, at, number, wide(refusal), 0, 0),
-    }
-}
-
-// The same where the digits of the number are at hand.
-fn put_next(
-    out: &mut [u8],
-    at: usize,
-    digits: [u8; 8],
-    len: usize,
-    number: u32,
-    outcome: Outcome,
-) -> usize
-    requires { ⌜ Room (now out) at 44 ⌝ }
-    requires { ⌜ Counted digits len number ⌝ }
-    ensures { λ r. ⌜ LinePut (now (out .entry)) at (outcomeLine number outcome) (now (out .exit)) r ⌝ }
-{
-    match outcome {
-        Outcome::Done { value, count } => put_counted(
-            out,
-            at,
-            digits,
-            len,
-            number,
-            0,
-            value,
-            count,
-        ),
-        Outcome::Refused(refusal) => put_counted(out, at, digits, len, number, wide(refusal), 0, 0),
-    }
-}
-
-// Writes a line from a place on, and says the place behind it.
-fn put_line(out: &mut [u8], at: usize, number: u32, refusal: u32, value: u32, count: u32) -> usize
-    requires { ⌜ Room (now out) at 44 ⌝ }
-    ensures { λ r. ⌜ LinePut (now (out .entry)) at (lineBytes number refusal value count) (now (out .exit)) r ⌝ }
-{
-    lines::put_line(out, at, number, refusal, value, count)
-}
-
-// The same where the digits of the number are at hand.
-fn put_counted(
-    out: &mut [u8],
-    at: usize,
-    digits: [u8; 8],
-    len: usize,
-    number: u32,
-    refusal: u32,
-    value: u32,
-    count: u32,
-) -> usize
-    requires { ⌜ Room (now out) at 44 ⌝ }
-    requires { ⌜ Counted digits len number ⌝ }
-    ensures { λ r. ⌜ LinePut (now (out .entry)) at (lineBytes number refusal value count) (now (out .exit)) r ⌝ }
-{
-    lines::put_counted(out, at, digits, len, number, refusal, value, count)
-}
-
-fn wide(x: u8) -> u32
-    ensures { λ r. ⌜ (r ≡ x) × (r ≤ 255) ⌝ }
-{
-    x as u32
 }

@@ -1,0 +1,267 @@
+-- One record taken: its line behind those before it, and what then stands. One law for each way of the code, and `taking-laws`. Assumes nothing.
+use Prim.Native.Nat.{_+_, _-_, _<_, _≤_, ℕ}
+use native.Mathlib.Omega.{arith}
+use native.Mathlib.Numerals.{add-one}
+use mathlib.Core.Path.{_∙_, _≡_, ap, refl, sym}
+use mathlib.Core.Bool.{Bool, _&&_, false, not, true}
+use mathlib.Core.List.{List, [], _++_}
+use lib.ListN.{drop, length, length-append, take}
+use lib.Seq.{drop-at, getD-take, length-sets, length-take-le, sets, sets-eq, take-at}
+use lib.Dec.{eqb}
+use mir.Syntax.{w32}
+use mir.Val.{Fits}
+use borrow.Author.Tests.{eq-eqb, le-leb, lt-leb, ne-eqb, not-false}
+use borrow.Author.Needs.{needs}
+use Rattle.rules.proofs.InOrderWhen.{in-order-when}
+use Rattle.rules.specs.InOrder.{inOrder}
+use Rattle.rules.specs.Refusals.{Answer, Step}
+use Rattle.rules.specs.State.{mainframe}
+use Rattle.memory.proofs.Encoding.{lent-right}
+use Rattle.memory.specs.Areas.{stateIn}
+use Rattle.memory.specs.Needed.{Ready}
+use Rattle.engine.specs.Outcomes.{OrderIs, SteppedAs, outcomeCount, outcomeRefusal, outcomeValue, told}
+use Rattle.checking.specs.Areas.{areasInOrder}
+use Rattle.engine.specs.Promises.{Areas, answerOf, areas, areasAfter, areasOpened, openRefusal}
+use Rattle.engine.specs.declared.Outcome.{Outcome}
+use Rattle.engine.specs.declared.Outcome.the-variants.{Done, Refused}
+use Rattle.engine.proofs.Answering.{in-order-after, in-order-answered, out-of-order, out-of-order-untouched, ready-when-fine}
+use Rattle.engine.proofs.Following.{opened-ready}
+use Rattle.engine.proofs.Stepping.{outcome-tells, stepped-ready}
+use Rattle.running.specs.Needed.{StepThere}
+use Rattle.running.specs.Records.{stepFrom}
+use Rattle.lines.specs.Lines.{lineBytes}
+use Rattle.lines.specs.Needed.{Room}
+use Rattle.lines.proofs.Lines.{at-most-44-bytes}
+use Rattle.taking.specs.Records.{mostSteps, openingTaken, recordTaken, refusalLine, stepTaken, tooManyTaken}
+use Rattle.taking.specs.declared.Stand.{Stand}
+use Rattle.taking.specs.Needed.{Answered, Kept, LinePut, OpenedAs, StepTakeable, Steppable, StoppedAt, Takeable, Took, outcomeLine, standsAt}
+
+-- ---- a line behind those before it
+
+module _ (out : List ℕ) (at : ℕ) (line : List ℕ) (h : at + length line ≤ length out) where
+  front-long : length (take at out ++ line) ≡ at + length line
+  front-long = length-append (take at out) line ∙ omega (arith, length-take-le at out (omega (arith, h)))
+
+  line-kept : Kept out at (sets out at line) (at + length line)
+  line-kept =
+      record {
+        on = omega arith;
+        within = h;
+        long = length-sets out at line;
+        rest =
+            ap (λ (l : List ℕ). drop (at + length line) l) (sets-eq line out at h)
+            ∙ drop-at (take at out ++ line) (drop (at + length line) out) (at + length line) front-long;
+      }
+
+  line-behind : take (at + length line) (sets out at line) ≡ take at out ++ line
+  line-behind =
+      ap (λ (l : List ℕ). take (at + length line) l) (sets-eq line out at h)
+      ∙ take-at (take at out ++ line) (drop (at + length line) out) (at + length line) front-long
+
+-- a line stored from a place on
+pub line-put : (out : List ℕ) (at n f v k : ℕ) (out′ : List ℕ) (end : ℕ) → Room out at 44 → Fits w32 n → Fits w32 f → Fits w32 v → Fits w32 k
+    → end ≡ at + length (lineBytes n f v k) → out′ ≡ sets out at (lineBytes n f v k)
+    → LinePut out at (lineBytes n f v k) out′ end
+line-put out at n f v k out′ end room fn ff fv fk e s =
+    let short = at-most-44-bytes n f v k (fn .fits) (ff .fits) (fv .fits) (fk .fits) in
+    let fits : at + length (lineBytes n f v k) ≤ length out = omega (arith, short, room .room) in
+    rw (e, s)
+    (record {
+      kept = line-kept out at (lineBytes n f v k) fits;
+      near = omega (arith, short);
+      lines = line-behind out at (lineBytes n f v k) fits;
+    })
+
+module _ (out : List ℕ) (at number : ℕ) (out′ : List ℕ) (end : ℕ) where
+  -- the line of a step that was done
+  pub done-line : (o : Outcome) (value count : ℕ) → o ≡ Done value count → LinePut out at (lineBytes number 0 value count) out′ end
+      → LinePut out at (outcomeLine number o) out′ end
+  unfolding outcomeLine told outcomeRefusal outcomeValue outcomeCount
+  done-line o value count e h = rw e h
+
+  -- of one that was refused
+  pub refused-line : (o : Outcome) (refusal n : ℕ) → o ≡ Refused refusal → (n ≡ refusal) × (n ≤ 255) → LinePut out at (lineBytes number n 0 0) out′ end
+      → LinePut out at (outcomeLine number o) out′ end
+  unfolding outcomeLine told outcomeRefusal outcomeValue outcomeCount
+  refused-line o refusal n e f h = rw (e, ← f .0) h
+
+-- ---- the order of the areas
+
+-- memory that is ready is in order
+pub ready-order : (c w r m : List ℕ) → Ready c w r m → OrderIs true c w r m
+unfolding areasInOrder
+ready-order c w r m h =
+    record {
+      is =
+          sym
+          (ap (λ (b : Bool). b && inOrder mainframe (stateIn mainframe c w r m)) (lent-right c w r m (h .lent))
+          ∙ in-order-when mainframe (stateIn mainframe c w r m) (h .in-order));
+    }
+
+-- areas that are the same are in the same order
+same-order : (b : Bool) (c w r m c′ w′ r′ m′ : List ℕ) → OrderIs b c w r m → areas c′ w′ r′ m′ ≡ areas c w r m → OrderIs b c′ w′ r′ m′
+unfolding areas
+same-order b c w r m c′ w′ r′ m′ h e =
+    record { is = h .is ∙ ap (λ (a : Areas). areasInOrder (a .clocks) (a .words) (a .records) (a .marks)) (sym e) }
+
+-- ---- a step
+
+-- the step of a record is that of its eight bytes
+pub step-of-eight : (bytes : List ℕ) → stepFrom (take 8 bytes) ≡ stepFrom bytes
+unfolding stepFrom
+step-of-eight bytes =
+    rw (getD-take 8 bytes 0 0 (omega arith), getD-take 8 bytes 1 0 (omega arith), getD-take 8 bytes 2 0 (omega arith), getD-take 8 bytes 3 0 (omega arith), getD-take 8 bytes 4 0 (omega arith), getD-take 8 bytes 5 0 (omega arith), getD-take 8 bytes 6 0 (omega arith), getD-take 8 bytes 7 0 (omega arith))
+
+module _ (ready : Bool) (bytes : List ℕ) (from : ℕ) (c w r m : List ℕ) (h : Steppable ready bytes from c w r m) where
+  -- 1: "not in order"
+  pub step-out-of-order : not ready ≡ true → Answered (stepFrom (drop from bytes)) c w r m (Refused 1) ready c w r m
+  step-out-of-order z =
+      record {
+        outcome = ap (λ (o : Outcome). told o) (out-of-order c w r m ready (h .order) (stepFrom (drop from bytes)) z) ∙ outcome-tells (areas c w r m) (stepFrom (drop from bytes));
+        left = out-of-order-untouched c w r m ready (h .order) (stepFrom (drop from bytes)) z;
+        order = h .order;
+      }
+
+  module _ (z : not ready ≡ false) where
+    pub step-there : StepThere bytes from c w r m
+    step-there = record { ready = ready-when-fine c w r m ready (h .order) z; there = h .there }
+
+    pub step-in-order : (o : Outcome) (c′ w′ r′ m′ : List ℕ) → SteppedAs (stateIn mainframe c w r m) (stepFrom (drop from bytes)) o c′ w′ r′ m′
+        → Answered (stepFrom (drop from bytes)) c w r m o ready c′ w′ r′ m′
+    step-in-order o c′ w′ r′ m′ d =
+        record {
+          outcome =
+              ap (λ (x : Outcome). told x) (in-order-answered c w r m ready (h .order) z (stepFrom (drop from bytes)) o c′ w′ r′ m′ d)
+              ∙ outcome-tells (areas c w r m) (stepFrom (drop from bytes));
+          left = in-order-after c w r m ready (h .order) z (stepFrom (drop from bytes)) o c′ w′ r′ m′ d;
+          order = rw (not-false ready z) (ready-order c′ w′ r′ m′ (stepped-ready c w r m (stepFrom (drop from bytes)) o c′ w′ r′ m′ (ready-when-fine c w r m ready (h .order) z) d));
+        }
+
+-- ---- what stands after a record
+
+-- the stand, its lines and its areas by their parts
+stands : (number : ℕ) (stopped ready : Bool) (end : ℕ) (out : List ℕ) (a : Areas) (lines : List ℕ) (b : Areas) → take end out ≡ lines → a ≡ b
+    → standsAt (record { number = number; stopped = stopped; ready = ready; at = end }) out a
+    ≡ record { number = number; held = []; stopped = stopped; areas = b; lines = lines }
+unfolding standsAt
+stands number stopped ready end out a lines b e f =
+    ap (λ (l : List ℕ). record { number = number; held = []; stopped = stopped; areas = a; lines = l }) e
+    ∙ ap (λ (x : Areas). record { number = number; held = []; stopped = stopped; areas = x; lines = lines }) f
+
+module _ (s : Stand) (bytes : List ℕ) (from : ℕ) (out c w r m : List ℕ) where
+  -- a refused opening: nothing is laid
+  module _ (n : ℕ) (c′ w′ r′ m′ : List ℕ) (k : ℕ) (out′ : List ℕ) (end : ℕ) (h : Takeable s bytes from out c w r m)
+      (o : OpenedAs (take 8 (drop from bytes)) c w r m n c′ w′ r′ m′) (e : (k ≡ n) × (k ≤ 255)) (p : LinePut out (s .at) (lineBytes 0 k 0 0) out′ end) where
+    opening-line : take end out′ ≡ take (s .at) out ++ refusalLine 0 (openRefusal (take 8 (drop from bytes)) (areas c w r m))
+    unfolding refusalLine
+    opening-line = p .lines ∙ ap (λ (j : ℕ). take (s .at) out ++ lineBytes 0 j 0 0) (e .0 ∙ o .refusal)
+
+    pub refused-opening-taken : (n ≡ 0 → ⊥)
+        → Took (openingTaken (standsAt s out (areas c w r m)) (take 8 (drop from bytes))) s out (record { number = 1; stopped = true; ready = s .ready; at = end }) out′ c′ w′ r′ m′
+    unfolding openingTaken standsAt areasOpened
+    refused-opening-taken z =
+        let no : eqb (openRefusal (take 8 (drop from bytes)) (areas c w r m)) 0 ≡ false = ne-eqb _ 0 (λ q. z (o .refusal ∙ q)) in
+        record {
+          is =
+              stands 1 true (s .ready) end out′ (areas c′ w′ r′ m′) _ _ opening-line (o .laid)
+              ∙ ap (λ (b : Bool). record { number = 1; held = []; stopped = not b; areas = areasOpened (take 8 (drop from bytes)) (areas c w r m); lines = take (s .at) out ++ refusalLine 0 (openRefusal (take 8 (drop from bytes)) (areas c w r m)) })
+              (sym no);
+          few = omega arith;
+          kept = p .kept;
+          near = p .near;
+          order = same-order (s .ready) c w r m c′ w′ r′ m′ (h .order) (o .laid ∙ rw no refl);
+        }
+
+    pub accepted-opening-taken : n ≡ 0
+        → Took (openingTaken (standsAt s out (areas c w r m)) (take 8 (drop from bytes))) s out (record { number = 1; stopped = false; ready = true; at = end }) out′ c′ w′ r′ m′
+    unfolding openingTaken standsAt
+    accepted-opening-taken z =
+        let yes : eqb (openRefusal (take 8 (drop from bytes)) (areas c w r m)) 0 ≡ true = eq-eqb _ 0 (sym (o .refusal) ∙ z) in
+        record {
+          is =
+              stands 1 false true end out′ (areas c′ w′ r′ m′) _ _ opening-line (o .laid)
+              ∙ ap (λ (b : Bool). record { number = 1; held = []; stopped = not b; areas = areasOpened (take 8 (drop from bytes)) (areas c w r m); lines = take (s .at) out ++ refusalLine 0 (openRefusal (take 8 (drop from bytes)) (areas c w r m)) })
+              (sym yes);
+          few = omega arith;
+          kept = p .kept;
+          near = p .near;
+          order = ready-order c′ w′ r′ m′ (opened-ready (take 8 (drop from bytes)) c w r m c′ w′ r′ m′ (sym (o .refusal) ∙ z) (o .laid));
+        }
+
+  -- a step
+  pub step-taken : (o : Outcome) (c′ w′ r′ m′ out′ : List ℕ) (end : ℕ) → StepTakeable s bytes from out c w r m
+      → Answered (stepFrom (drop from bytes)) c w r m o (s .ready) c′ w′ r′ m′
+      → LinePut out (s .at) (outcomeLine (s .number) o) out′ end
+      → Took (stepTaken (standsAt s out (areas c w r m)) (take 8 (drop from bytes))) s out (record { number = s .number + 1; stopped = false; ready = s .ready; at = end }) out′ c′ w′ r′ m′
+  unfolding stepTaken standsAt outcomeLine
+  step-taken o c′ w′ r′ m′ out′ end h a p =
+      let t : stepFrom (drop from bytes) ≡ stepFrom (take 8 (drop from bytes)) = sym (step-of-eight (drop from bytes)) in
+      record {
+        is =
+            stands (s .number + 1) false (s .ready) end out′ (areas c′ w′ r′ m′) _ _
+            (p .lines ∙ ap (λ (x : Answer). take (s .at) out ++ lineBytes (s .number) (x .refusal) (x .value) (x .count)) (a .outcome ∙ ap (λ (y : Step). answerOf (areas c w r m) y) t))
+            (a .left ∙ ap (λ (y : Step). areasAfter (areas c w r m) y) t)
+            ∙ rw (add-one (s .number));
+        few = omega (arith, h .fewer);
+        kept = p .kept;
+        near = p .near;
+        order = a .order;
+      }
+
+  -- ---- which record it is
+
+  module _ (s′ : Stand) (out′ c′ w′ r′ m′ : List ℕ) where
+    pub first-is-opening : s .number ≡ 0
+        → Took (openingTaken (standsAt s out (areas c w r m)) (take 8 (drop from bytes))) s out s′ out′ c′ w′ r′ m′
+        → Took (recordTaken (standsAt s out (areas c w r m)) (take 8 (drop from bytes))) s out s′ out′ c′ w′ r′ m′
+    unfolding recordTaken standsAt
+    first-is-opening z h = rw (eq-eqb (s .number) 0 z) h
+
+    pub next-is-step : (s .number ≡ 0 → ⊥) → s .number ≤ 1000000
+        → Took (stepTaken (standsAt s out (areas c w r m)) (take 8 (drop from bytes))) s out s′ out′ c′ w′ r′ m′
+        → Took (recordTaken (standsAt s out (areas c w r m)) (take 8 (drop from bytes))) s out s′ out′ c′ w′ r′ m′
+    unfolding recordTaken standsAt mostSteps
+    next-is-step z l h = rw (ne-eqb (s .number) 0 z, le-leb (s .number) 1000000 l) h
+
+  pub last-is-too-many : (s′ : Stand) (out′ : List ℕ) → Takeable s bytes from out c w r m → (s .number ≡ 0 → ⊥) → 1000000 < s .number
+      → StoppedAt s out s′ out′
+      → Took (recordTaken (standsAt s out (areas c w r m)) (take 8 (drop from bytes))) s out s′ out′ c w r m
+  unfolding recordTaken standsAt mostSteps tooManyTaken refusalLine
+  last-is-too-many s′ out′ h z l d =
+      record {
+        is =
+            ap (λ (x : Stand). standsAt x out′ (areas c w r m)) (d .is)
+            ∙ stands (s .number) true (s .ready) (s′ .at) out′ (areas c w r m) _ _ (d .put .lines) refl
+            ∙ sym (rw (ne-eqb (s .number) 0 z, lt-leb (s .number) 1000000 l));
+        few = omega (arith, ap (λ (x : Stand). x .number) (d .is), h .few);
+        kept = d .put .kept;
+        near = d .put .near;
+        order = rw (ap (λ (x : Stand). x .ready) (d .is)) (h .order);
+      }
+
+  -- what the ways ask
+  pub room-for-line : Takeable s bytes from out c w r m → Room out (s .at) 44
+  room-for-line h = record { room = h .room }
+
+  pub takeable-step : Takeable s bytes from out c w r m → s .number ≤ 1000000 → StepTakeable s bytes from out c w r m
+  takeable-step h l = record { takeable = h; fewer = l }
+
+  pub steppable : StepTakeable s bytes from out c w r m → Steppable (s .ready) bytes from c w r m
+  steppable h = record { there = h .takeable .there; order = h .takeable .order }
+
+  pub step-room : StepTakeable s bytes from out c w r m → Room out (s .at) 44
+  step-room h = record { room = h .takeable .room }
+
+-- the eight bytes of an opening, as a part of the bytes
+pub opened-as : (bytes : List ℕ) (from : ℕ) (c w r m : List ℕ) (n : ℕ) (c′ w′ r′ m′ : List ℕ)
+    → n ≡ openRefusal (take (from + 8 - from) (drop from bytes)) (areas c w r m)
+    → areas c′ w′ r′ m′ ≡ areasOpened (take (from + 8 - from) (drop from bytes)) (areas c w r m)
+    → OpenedAs (take 8 (drop from bytes)) c w r m n c′ w′ r′ m′
+opened-as bytes from c w r m n c′ w′ r′ m′ e f =
+    let k : from + 8 - from ≡ 8 = omega arith in
+    record {
+      refusal = e ∙ ap (λ (j : ℕ). openRefusal (take j (drop from bytes)) (areas c w r m)) k;
+      laid = f ∙ ap (λ (j : ℕ). areasOpened (take j (drop from bytes)) (areas c w r m)) k;
+    }
+
+pub ruleset taking-laws = (line-put, done-line, refused-line, step-out-of-order, step-there, step-in-order, refused-opening-taken, accepted-opening-taken, step-taken, first-is-opening, next-is-step, last-is-too-many, room-for-line, takeable-step, steppable, step-room, opened-as, needs)
