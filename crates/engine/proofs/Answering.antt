@@ -10,29 +10,14 @@ use Rattle.rules.specs.InOrder.{inOrder}
 use Rattle.rules.specs.Refusals.{Step, Answer, refusedAs, answerInOrder, nextInOrder, answer, next}
 use Rattle.rules.specs.State.{mainframe, State}
 use Rattle.rules.proofs.InOrderSays.{in-order-says}
-use Rattle.memory.specs.Areas.{pagesIn, recordsIn, stateIn, pageWords, recordBytes, markBytes, sizesRight}
-use Rattle.memory.specs.Needed.{Lent, Ready, Holds}
-use Rattle.memory.proofs.Encoding.{clock-bytes, page-words, record-bytes, mark-bytes, right-lent}
+use Rattle.memory.specs.Areas.{stateIn, sizesRight, areas, heldBy, holding, rightSizes}
+use Rattle.memory.specs.Needed.{Ready}
+use Rattle.memory.proofs.Encoding.{right-lent, held-again, holding-is}
 use Rattle.checking.specs.Areas.{areasInOrder}
-use Rattle.engine.specs.declared.Outcome.{Outcome}
-use Rattle.engine.specs.declared.Outcome.the-variants.{Refused}
-use Rattle.engine.specs.Promises.{areas, heldBy, holding, rightSizes, answerOf, areasAfter}
-use Rattle.engine.specs.Outcomes.{outcomeOf, OrderIs, SteppedAs}
-
--- ---- areas and the state that they hold
-
--- areas of the right sizes are the areas that hold their state
-pub held-again : (c w r m : List ℕ) → Lent c w r m → holding (stateIn mainframe c w r m) ≡ areas c w r m
-unfolding holding stateIn
-held-again c w r m h =
-    ap (λ (x : List ℕ). areas x (pageWords (pagesIn mainframe w m)) (recordBytes (recordsIn mainframe r m)) (markBytes (stateIn mainframe c w r m))) (clock-bytes c (h .clocks))
-    ∙ ap (λ (x : List ℕ). areas c x (recordBytes (recordsIn mainframe r m)) (markBytes (stateIn mainframe c w r m))) (page-words w m (h .words))
-    ∙ ap (λ (x : List ℕ). areas c w x (markBytes (stateIn mainframe c w r m))) (record-bytes r m (h .records))
-    ∙ ap (λ (x : List ℕ). areas c w r x) (mark-bytes m (h .marks) c w r)
-
--- areas that hold a state are the areas that the state gives
-pub holding-is : (c w r m : List ℕ) (s : State) → Holds c w r m s → areas c w r m ≡ holding s
-holding-is c w r m s h = sym (held-again c w r m (h .lent)) ∙ ap (λ (x : State). holding x) (h .is)
+use Rattle.acting.specs.declared.Outcome.{Outcome}
+use Rattle.acting.specs.declared.Outcome.the-variants.{Refused}
+use Rattle.acting.specs.Outcomes.{outcomeOf}
+use Rattle.engine.specs.Promises.{answerOf, areasAfter, OrderIs, SteppedAs}
 
 -- ---- in order or not
 

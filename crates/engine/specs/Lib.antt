@@ -1,4 +1,1 @@
 pub mod Promises
-pub mod Outcomes
-pub mod Needed
-pub mod Openings

@@ -8,10 +8,11 @@ use lib.ListN.{length, set}
 use borrow.Author.Tests.{eq-eqb, ne-eqb}
 use borrow.Author.Needs.{needs}
 use Rattle.rules.specs.Refusals.{Step, Answer}
-use Rattle.engine.specs.Promises.{Areas, answerOf, areasAfter}
-use Rattle.engine.specs.Outcomes.{outcomeRefusal, outcomeValue, outcomeCount, told, outcomeOf}
-use Rattle.engine.specs.declared.Outcome.{Outcome}
-use Rattle.engine.specs.declared.Outcome.the-variants.{Done, Refused}
+use Rattle.memory.specs.Areas.{Areas}
+use Rattle.acting.specs.Outcomes.{outcomeRefusal, outcomeValue, outcomeCount, told, outcomeOf}
+use Rattle.acting.specs.declared.Outcome.{Outcome}
+use Rattle.acting.specs.declared.Outcome.the-variants.{Done, Refused}
+use Rattle.engine.specs.Promises.{answerOf, areasAfter}
 use Rattle.engine.proofs.Stepping.{outcome-tells}
 use Rattle.running.specs.Records.{answerWords}
 use Rattle.lughtsavi.specs.Numbers.{slices, stepReturn, slicesAfter, ToldAs}

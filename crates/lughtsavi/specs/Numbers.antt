@@ -7,11 +7,12 @@ use mathlib.Core.List.{List, [], _∷_}
 use lib.ListN.{length}
 use lib.Dec.{eqb}
 use Rattle.rules.specs.Refusals.{Step}
+use Rattle.memory.specs.Areas.{Areas}
 use Rattle.writer.specs.declared.Written.{Written}
 use Rattle.writer.specs.declared.Written.the-variants.{Length, Refused}
-use Rattle.engine.specs.Promises.{Areas, answerOf, areasAfter}
-use Rattle.engine.specs.Outcomes.{outcomeRefusal, told}
-use Rattle.engine.specs.declared.Outcome.{Outcome}
+use Rattle.engine.specs.Promises.{answerOf, areasAfter}
+use Rattle.acting.specs.Outcomes.{outcomeRefusal, told}
+use Rattle.acting.specs.declared.Outcome.{Outcome}
 use Rattle.running.specs.Records.{answerWords}
 
 -- ---- a step

@@ -8,11 +8,13 @@ ghost use lib.ListN.{length};
 ghost use Rattle.diff.specs.Reading.{readRefusal};
 ghost use Rattle.diff.specs.Answers.{applyRefusal, pageAfter};
 ghost use Rattle.writer.specs.Answers.{writeAnswer, outAfter};
+ghost use Rattle.rules.specs.Refusals.{stepOf};
+ghost use Rattle.memory.specs.Areas.{areas};
 ghost use Rattle.checking.specs.Areas.{areasInOrder};
-ghost use Rattle.engine.specs.Promises.{areas, stepOf, openRefusal, areasOpened};
+ghost use Rattle.opening.specs.Promises.{openRefusal, areasOpened};
 ghost use Rattle.running.specs.Runs.{Ran};
 ghost use Rattle.lughtsavi.specs.Numbers.{stepReturn, slices, slicesAfter, ToldAs, writtenNumber};
-use engine::Outcome;
+use acting::Outcome;
 use writer::Written;
 
 // Opens a mainframe: 1 for areas of a wrong size, 2 for an opening that is not eight bytes or does not fit, else 0, and the areas
@@ -28,7 +30,7 @@ pub extern "C" fn lughtsavi_open(
     ensures answer { λ r. ⌜ r ≡ openRefusal (now (opening .entry)) (areas (now (clocks .entry)) (now (words .entry)) (now (records .entry)) (now (marks .entry))) ⌝ }
     ensures memory { λ r. ⌜ areas (now (clocks .exit)) (now (words .exit)) (now (records .exit)) (now (marks .exit)) ≡ areasOpened (now (opening .entry)) (areas (now (clocks .entry)) (now (words .entry)) (now (records .entry)) (now (marks .entry))) ⌝ }
 {
-    engine::open_mainframe(opening, clocks, words, records, marks)
+    opening::open_mainframe(opening, clocks, words, records, marks)
 }
 
 // Whether the areas have the fixed sizes and hold a state in order.

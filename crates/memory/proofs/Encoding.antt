@@ -11,11 +11,11 @@ use lib.Dec.{eqb}
 use borrow.Author.Tests.{eqb-true, eq-eqb}
 use Rattle.diff.specs.Reading.{applied}
 use Rattle.rules.specs.InOrder.{slotSize}
-use Rattle.rules.specs.State.{mainframe, Processor, Lock, Applied, Interval, clockOf}
+use Rattle.rules.specs.State.{mainframe, Processor, Lock, Applied, Interval, State, clockOf}
 use Rattle.rules.proofs.Facts.{Sized}
 use Rattle.memory.specs.Layout.{rowOf, tabulate, perProcessor, joinRows}
-use Rattle.memory.specs.Areas.{lockRow, appliedRow, intervalRow, clockRow, clockRows, copyRow, twinRow, wordRows, arrivedPlace, holderPlace, dirtyPlace, markPlaces, clocksIn, pagesIn, recordsIn, marksIn, stateIn, clockBytes, pageWords, recordBytes, markBytes, sizesRight}
-use Rattle.memory.specs.Needed.{Lent}
+use Rattle.memory.specs.Areas.{lockRow, appliedRow, intervalRow, clockRow, clockRows, copyRow, twinRow, wordRows, arrivedPlace, holderPlace, dirtyPlace, markPlaces, clocksIn, pagesIn, recordsIn, marksIn, stateIn, clockBytes, pageWords, recordBytes, markBytes, sizesRight, areas, holding}
+use Rattle.memory.specs.Needed.{Lent, Holds}
 use Rattle.memory.proofs.RowLaws.{length-row, length-tabulate, length-per-processor, get-nobody, get-per-processor}
 use Rattle.memory.proofs.ClockLaws.{clock-row-there, clock-read}
 use Rattle.memory.proofs.PageLaws.{copy-row-there, twin-row-there, copy-read, twin-read}
@@ -69,7 +69,7 @@ module _ (c : List ℕ) where
   barrier-clock = refl
 
   -- the clocks laid out again are their area
-  pub clock-bytes : length c ≡ 4744 → clockBytes (clocksIn mainframe c) ≡ c
+  clock-bytes : length c ≡ 4744 → clockBytes (clocksIn mainframe c) ≡ c
   unfolding clockBytes
   clock-bytes h =
       rw (barrier-clock, joined-processor-clocks, joined-lock-clocks, joined-applied-clocks, joined-interval-clocks)
@@ -105,14 +105,14 @@ module _ (w m : List ℕ) where
       at k g = omega arith
 
   -- the copies and twins laid out again are their area
-  pub page-words : length w ≡ 4096 → pageWords (pagesIn mainframe w m) ≡ w
+  page-words : length w ≡ 4096 → pageWords (pagesIn mainframe w m) ≡ w
   unfolding pageWords
   page-words h = rw (joined-copies, joined-twins) (sym (take-add 2048 2048 w) ∙ take-all 4096 w (omega arith))
 
 -- ---- the records
 
 -- the slots laid out again are their area
-pub record-bytes : (r m : List ℕ) → length r ≡ 17280 → recordBytes (recordsIn mainframe r m) ≡ r
+record-bytes : (r m : List ℕ) → length r ≡ 17280 → recordBytes (recordsIn mainframe r m) ≡ r
 unfolding recordBytes recordsIn mainframe slotSize rowOf
 record-bytes r m h =
     join-rows 128 135 0 r (λ k. rowOf 135 r k) (λ k b. ap (λ (j : ℕ). take 135 (drop j r)) (at k)) ∙ take-all 17280 r (omega arith)
@@ -154,7 +154,7 @@ module _ (m : List ℕ) (h : length m ≡ 93) where
       at k = omega arith
 
   -- the marks laid out again are their area
-  pub mark-bytes : (c w r : List ℕ) → markBytes (stateIn mainframe c w r m) ≡ m
+  mark-bytes : (c w r : List ℕ) → markBytes (stateIn mainframe c w r m) ≡ m
   unfolding markBytes stateIn recordsIn marksIn
   mark-bytes c w r =
       rw (dirty-marks w, arrived-marks, holder-marks)
@@ -254,3 +254,18 @@ right-lent c w r m e =
       records = eqb-true (length r) 17280 (two .1);
       marks = eqb-true (length m) 93 (three .1);
     }
+
+-- ---- the areas as one
+
+-- areas of the right sizes are the areas that hold their state
+pub held-again : (c w r m : List ℕ) → Lent c w r m → holding (stateIn mainframe c w r m) ≡ areas c w r m
+unfolding holding stateIn
+held-again c w r m h =
+    ap (λ (x : List ℕ). areas x (pageWords (pagesIn mainframe w m)) (recordBytes (recordsIn mainframe r m)) (markBytes (stateIn mainframe c w r m))) (clock-bytes c (h .clocks))
+    ∙ ap (λ (x : List ℕ). areas c x (recordBytes (recordsIn mainframe r m)) (markBytes (stateIn mainframe c w r m))) (page-words w m (h .words))
+    ∙ ap (λ (x : List ℕ). areas c w x (markBytes (stateIn mainframe c w r m))) (record-bytes r m (h .records))
+    ∙ ap (λ (x : List ℕ). areas c w r x) (mark-bytes m (h .marks) c w r)
+
+-- areas that hold a state are the areas that the state gives
+pub holding-is : (c w r m : List ℕ) (s : State) → Holds c w r m s → areas c w r m ≡ holding s
+holding-is c w r m s h = sym (held-again c w r m (h .lent)) ∙ ap (λ (x : State). holding x) (h .is)

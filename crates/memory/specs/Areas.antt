@@ -6,7 +6,7 @@ use lib.ListN.{length, getD, drop}
 use lib.Dec.{eqb}
 use Rattle.diff.specs.Reading.{applied}
 use Rattle.rules.specs.InOrder.{slotSize}
-use Rattle.rules.specs.State.{Limits, Holder, Processor, Lock, Barrier, Applied, Interval, Clocks, Pages, Records, Marks, State, standing}
+use Rattle.rules.specs.State.{Limits, mainframe, Holder, Processor, Lock, Barrier, Applied, Interval, Clocks, Pages, Records, Marks, State, standing}
 use Rattle.memory.specs.Layout.{rowOf, tabulate, perProcessor, joinRows}
 
 -- ---- which row a clock has: the barrier's first, then the processors', the locks', the applied clocks and the intervals'
@@ -142,3 +142,28 @@ sizesRight lim c w r m =
     && eqb (length w) (lim .words * wordRows lim)
     && eqb (length r) (slotSize lim * lim .records)
     && eqb (length m) (markPlaces lim)
+
+-- ---- the four areas of the mainframe as one
+
+-- the four lent areas
+pub record Areas : Type 0 where
+  pub clocks : List ℕ
+  pub words : List ℕ
+  pub records : List ℕ
+  pub marks : List ℕ
+
+-- the areas of these contents
+unfoldable pub areas : List ℕ → List ℕ → List ℕ → List ℕ → Areas
+areas c w r m = record { clocks = c; words = w; records = r; marks = m }
+
+-- the state that areas of the right sizes hold
+unfoldable pub heldBy : Areas → State
+heldBy a = stateIn mainframe (a .clocks) (a .words) (a .records) (a .marks)
+
+-- the areas that hold a state
+unfoldable pub holding : State → Areas
+holding s = areas (clockBytes (s .clocks)) (pageWords (s .pages)) (recordBytes (s .records)) (markBytes s)
+
+-- whether each of them has its fixed size
+unfoldable pub rightSizes : Areas → Bool
+rightSizes a = sizesRight mainframe (a .clocks) (a .words) (a .records) (a .marks)

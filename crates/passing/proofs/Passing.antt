@@ -7,7 +7,7 @@ use mathlib.Core.List.{List}
 use lib.ListN.{drop, length, length-drop, take}
 use lib.Seq.{drop-drop}
 use borrow.Author.Needs.{needs}
-use Rattle.engine.specs.Promises.{Areas, areas}
+use Rattle.memory.specs.Areas.{Areas, areas}
 use Rattle.taking.specs.Records.{Feed, recordTaken}
 use Rattle.taking.specs.Needed.{Kept, Takeable, Took, standsAt}
 use Rattle.taking.specs.declared.Stand.{Stand}

@@ -9,10 +9,9 @@ use lib.ListN.{drop, length, take}
 use borrow.Author.Tests.{not-false}
 use borrow.Author.Needs.{needs}
 use Rattle.rules.specs.State.{mainframe}
-use Rattle.memory.specs.Areas.{stateIn}
-use Rattle.engine.specs.Outcomes.{SteppedAs}
-use Rattle.engine.specs.Promises.{areas}
-use Rattle.engine.specs.declared.Outcome.{Outcome}
+use Rattle.memory.specs.Areas.{stateIn, areas}
+use Rattle.engine.specs.Promises.{SteppedAs}
+use Rattle.acting.specs.declared.Outcome.{Outcome}
 use Rattle.running.specs.Needed.{StepThere}
 use Rattle.running.specs.Records.{stepFrom}
 use Rattle.lines.specs.Needed.{Countable, Counted, Room}

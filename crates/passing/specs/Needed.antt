@@ -4,8 +4,8 @@ use mathlib.Core.Path.{_≡_}
 use mathlib.Core.Bool.{false, true}
 use mathlib.Core.List.{List}
 use lib.ListN.{drop, length}
-use Rattle.engine.specs.Outcomes.{OrderIs}
-use Rattle.engine.specs.Promises.{Areas, areas}
+use Rattle.memory.specs.Areas.{Areas, areas}
+use Rattle.engine.specs.Promises.{OrderIs}
 use Rattle.taking.specs.Needed.{Kept, standsAt}
 use Rattle.taking.specs.declared.Stand.{Stand}
 use Rattle.passing.specs.Bytes.{bytesTaken}

@@ -1,6 +1,6 @@
 // The records that lie whole in a chunk of a step file, taken one after the other.
 ghost use Prim.Native.Nat.{_≤_};
-ghost use Rattle.engine.specs.Promises.{areas};
+ghost use Rattle.memory.specs.Areas.{areas};
 ghost use Rattle.passing.specs.Needed.{Passable, Passing, Ahead, Runnable, Passes};
 use taking::Stand;
 

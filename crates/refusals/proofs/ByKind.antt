@@ -8,12 +8,12 @@ use lib.ListN.{getD}
 use lib.Dec.{ltb, eqb}
 use borrow.Author.Tests.{ltb-true, not-true, not-false, eq-eqb, ne-eqb}
 use Rattle.rules.specs.InOrder.{dirtyPages}
-use Rattle.rules.specs.Refusals.{Write, Acquire, Release, actionOf, known, fits, lateRefusal}
+use Rattle.rules.specs.Refusals.{stepOf, Write, Acquire, Release, actionOf, known, fits, lateRefusal}
 use Rattle.rules.specs.State.{mainframe, dirtyAt, State, clock, own, holder}
 use Rattle.rules.specs.Steps.{pageOfWord}
 use Rattle.memory.specs.Areas.{pagesIn, recordsIn, stateIn}
 use Rattle.memory.specs.Needed.{ClocksOf}
-use Rattle.refusals.specs.Parts.{stepOf, seen, fieldsFit, valueFits, refusalOfKind, recordsToCome, roomIfAllDirty}
+use Rattle.refusals.specs.Parts.{seen, fieldsFit, valueFits, refusalOfKind, recordsToCome, roomIfAllDirty}
 use Rattle.refusals.specs.Needed.{Counted, FittingStep, KnownKind, LockThere, PageOf, WriteOf}
 use Rattle.refusals.proofs.Counting.{few-records-to-come}
 

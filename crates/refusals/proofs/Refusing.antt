@@ -8,12 +8,12 @@ use lib.Dec.{eqb}
 use borrow.Author.Tests.{not-false}
 use borrow.Author.Needs.{needs}
 use Rattle.rules.specs.InOrder.{present, dirtyPages}
-use Rattle.rules.specs.Refusals.{Step, Action, Read, Write, Acquire, Release, Arrive, Want, Unknown, actionOf, known, fits, lateRefusal, refusalInOrder}
+use Rattle.rules.specs.Refusals.{Step, stepOf, Action, Read, Write, Acquire, Release, Arrive, Want, Unknown, actionOf, known, fits, lateRefusal, refusalInOrder}
 use Rattle.rules.specs.State.{mainframe, dirtyAt, State, clock, own, holder, hasArrived}
 use Rattle.rules.proofs.Accepted.{present-says}
 use Rattle.memory.specs.Areas.{pagesIn, recordsIn, stateIn}
 use Rattle.memory.specs.Needed.{Ready}
-use Rattle.refusals.specs.Parts.{stepOf, seen, fieldsFit, refusalOfKind, refusalOfFields, refusalOfKnown}
+use Rattle.refusals.specs.Parts.{seen, fieldsFit, refusalOfKind, refusalOfFields, refusalOfKnown}
 use Rattle.refusals.specs.Needed.{Counted, Shown, ShownKind, KnownStep, FittingStep, KnownKind, MarkOf}
 use Rattle.refusals.proofs.Marked.{nobody-absent, count-decides, arrived-mark, holder-mark, on-page, dirty-mark, own-row-there, own-entry-is}
 use Rattle.refusals.proofs.Counting.{pages-begin, pages-next, pages-more-dirty, pages-more-clean, pages-all, pages-few, all-begin, all-next, all-more, all-counted, all-few, records-to-come-are, product-fits, sum-fits, marks-decide-room}

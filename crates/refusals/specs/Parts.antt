@@ -1,5 +1,5 @@
--- A step from its four fields, and the parts of the table of refusals that the crate's functions answer, in the words of the rules. No row
--- from 3 to 10 looks at words or at slots, so the parts are those of the state that clocks and marks alone show. Assumes nothing.
+-- The parts of the table of refusals that the crate's functions answer, in the words of the rules. No row from 3 to 10 looks at words or
+-- at slots, so the parts are those of the state that clocks and marks alone show. Assumes nothing.
 use Prim.Native.Nat.{ℕ, _+_, _*_}
 use mathlib.Core.Bool.{Bool, cond, not, _||_}
 use mathlib.Core.List.{List, []}
@@ -7,12 +7,8 @@ use lib.Dec.{ltb, eqb}
 use Rattle.rules.specs.State.{mainframe, dirtyAt, State, hasArrived}
 use Rattle.rules.specs.InOrder.{present, dirtyPages}
 use Rattle.rules.specs.Tables.{total}
-use Rattle.rules.specs.Refusals.{Step, actionOf, fits, lateRefusal}
+use Rattle.rules.specs.Refusals.{stepOf, actionOf, fits, lateRefusal}
 use Rattle.memory.specs.Areas.{stateIn}
-
--- a step from its fields
-unfoldable pub stepOf : ℕ → ℕ → ℕ → ℕ → Step
-stepOf kind processor object value = record { kind = kind; processor = processor; object = object; value = value }
 
 -- the state of the mainframe with these clocks and marks, its words and slots left out
 unfoldable pub seen : List ℕ → List ℕ → State

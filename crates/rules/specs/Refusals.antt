@@ -13,6 +13,10 @@ pub record Step : Type 0 where
   pub object : ℕ
   pub value : ℕ
 
+-- the step of four fields
+unfoldable pub stepOf : ℕ → ℕ → ℕ → ℕ → Step
+stepOf kind processor object value = record { kind = kind; processor = processor; object = object; value = value }
+
 -- the six kinds of step with the fields that each uses
 pub data Action : Type 0 where
   Read : ℕ → Action

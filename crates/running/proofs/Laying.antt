@@ -8,9 +8,9 @@ use lib.ListN.{length, drop, set, length-set}
 use lib.Seq.{sets, sets-eq}
 use borrow.Author.Needs.{needs}
 use Rattle.rules.specs.Refusals.{Answer}
-use Rattle.engine.specs.declared.Outcome.{Outcome}
-use Rattle.engine.specs.declared.Outcome.the-variants.{Done, Refused}
-use Rattle.engine.specs.Outcomes.{outcomeRefusal, outcomeValue, outcomeCount, told}
+use Rattle.acting.specs.declared.Outcome.{Outcome}
+use Rattle.acting.specs.declared.Outcome.the-variants.{Done, Refused}
+use Rattle.acting.specs.Outcomes.{outcomeRefusal, outcomeValue, outcomeCount, told}
 use Rattle.running.specs.Records.{answerWords, answersIn}
 use Rattle.running.specs.Needed.{OutcomeLaid}
 

@@ -8,9 +8,9 @@ use lib.ListN.{getD, drop}
 use lib.Seq.{getD-drop}
 use borrow.Author.Needs.{needs}
 use Rattle.rules.specs.State.{State}
-use Rattle.engine.specs.declared.Outcome.{Outcome}
-use Rattle.engine.specs.Promises.{stepOf}
-use Rattle.engine.specs.Outcomes.{SteppedAs}
+use Rattle.rules.specs.Refusals.{stepOf}
+use Rattle.acting.specs.declared.Outcome.{Outcome}
+use Rattle.engine.specs.Promises.{SteppedAs}
 use Rattle.running.specs.Records.{stepFrom}
 use Rattle.running.specs.Needed.{FieldsAre}
 

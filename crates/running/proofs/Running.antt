@@ -17,11 +17,11 @@ use Rattle.rules.specs.Runs.{answers, stateAfter, answersInOrder, stateInOrder}
 use Rattle.rules.specs.State.{Limits, mainframe, State}
 use Rattle.rules.proofs.InOrderRuns.{answers-in-order, state-in-order}
 use Rattle.rules.proofs.DemandThree.{demand-three}
-use Rattle.memory.specs.Areas.{stateIn}
+use Rattle.memory.specs.Areas.{stateIn, Areas, areas, holding}
 use Rattle.memory.specs.Needed.{Ready}
-use Rattle.engine.specs.Promises.{Areas, areas, holding, openingOf, openRefusal, areasOpened}
-use Rattle.engine.proofs.Answering.{holding-is}
-use Rattle.engine.proofs.Following.{opened-holds, opened-ready, accepted-opening}
+use Rattle.memory.proofs.Encoding.{holding-is}
+use Rattle.opening.specs.Promises.{openingOf, openRefusal, areasOpened}
+use Rattle.opening.proofs.Following.{opened-holds, opened-ready, accepted-opening}
 use Rattle.running.specs.Records.{stepsIn, answerWords, answersIn}
 use Rattle.running.specs.Runs.{recordsRun, firstRefusal, firstState, runAnswers, runAreas, Ran}
 use Rattle.running.specs.Needed.{CountIs, RecordsThere, OpeningThere, OpeningLaid, StepsThere, StepsLaid}

@@ -12,9 +12,10 @@ use Rattle.rules.specs.State.{mainframe, State}
 use Rattle.rules.proofs.Kept.{next-keeps-order}
 use Rattle.memory.specs.Areas.{stateIn}
 use Rattle.memory.specs.Needed.{Ready}
-use Rattle.engine.specs.declared.Outcome.{Outcome}
-use Rattle.engine.specs.Outcomes.{told, SteppedAs}
-use Rattle.engine.proofs.Stepping.{told-in-order}
+use Rattle.acting.specs.declared.Outcome.{Outcome}
+use Rattle.acting.specs.Outcomes.{told}
+use Rattle.acting.proofs.Telling.{told-in-order}
+use Rattle.engine.specs.Promises.{SteppedAs}
 use Rattle.running.specs.Records.{stepFrom, stepsIn, answerWords}
 use Rattle.running.specs.Needed.{StepThere, OutcomeLaid, RecordThere, StepLaid, StepsThere, StepsLaid}
 

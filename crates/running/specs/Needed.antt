@@ -4,13 +4,14 @@ use mathlib.Core.Path.{_≡_}
 use mathlib.Core.List.{List, [], _∷_}
 use lib.ListN.{length, take, drop}
 use lib.Seq.{sets}
-use Rattle.rules.specs.Refusals.{refusedAs, answerInOrder, nextInOrder}
+use Rattle.rules.specs.Refusals.{stepOf, refusedAs, answerInOrder, nextInOrder}
 use Rattle.rules.specs.Runs.{answersInOrder, stateInOrder}
 use Rattle.rules.specs.State.{mainframe, State}
 use Rattle.memory.specs.Needed.{Ready, Holds}
-use Rattle.engine.specs.declared.Outcome.{Outcome}
-use Rattle.engine.specs.Outcomes.{told}
-use Rattle.engine.specs.Promises.{Areas, stepOf, areasOpened}
+use Rattle.memory.specs.Areas.{Areas}
+use Rattle.opening.specs.Promises.{areasOpened}
+use Rattle.acting.specs.declared.Outcome.{Outcome}
+use Rattle.acting.specs.Outcomes.{told}
 use Rattle.running.specs.Records.{stepFrom, stepsIn, answerWords}
 use Rattle.running.specs.Runs.{recordsRun, firstRefusal}
 

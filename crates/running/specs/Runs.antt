@@ -11,7 +11,8 @@ use Rattle.rules.specs.Opening.{opened}
 use Rattle.rules.specs.Refusals.{Answer, refusedAs}
 use Rattle.rules.specs.Runs.{answers, stateAfter}
 use Rattle.rules.specs.State.{mainframe, State}
-use Rattle.engine.specs.Promises.{Areas, holding, openingOf, openRefusal}
+use Rattle.memory.specs.Areas.{Areas, holding}
+use Rattle.opening.specs.Promises.{openingOf, openRefusal}
 use Rattle.running.specs.Records.{stepsIn, answerWords, answersIn}
 
 -- how many records are run, the opening among them: as many whole records of eight bytes as there are, and as the answers, three words

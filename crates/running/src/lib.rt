@@ -5,13 +5,12 @@ ghost use Prim.Native.Nat.{_+_, _*_, _≤_};
 ghost use lib.ListN.{length, getD, drop};
 ghost use lib.Seq.{sets};
 ghost use Rattle.rules.specs.State.{mainframe};
-ghost use Rattle.memory.specs.Areas.{stateIn};
-ghost use Rattle.engine.specs.Promises.{areas};
-ghost use Rattle.engine.specs.Outcomes.{SteppedAs};
+ghost use Rattle.memory.specs.Areas.{stateIn, areas};
+ghost use Rattle.engine.specs.Promises.{SteppedAs};
 ghost use Rattle.running.specs.Records.{stepFrom};
 ghost use Rattle.running.specs.Runs.{Ran};
 ghost use Rattle.running.specs.Needed.{StepThere, FieldsAre, OutcomeLaid, RecordThere, StepLaid, CountIs, RecordsThere, OpeningThere, OpeningLaid, StepsThere, StepsLaid};
-use engine::Outcome;
+use acting::Outcome;
 
 // Runs an opening and the step records behind it, and says how many records it has run: of a refused opening only that one.
 // Each answer is laid as three words: refusal, value, count. Of odd sizes: as many whole records are run as there are and as the answers
@@ -103,7 +102,7 @@ fn run_opening(
     requires { ⌜ OpeningThere (now bytes) (now answers) ⌝ }
     ensures { λ r. ⌜ OpeningLaid (now (bytes .entry)) (now (answers .entry)) (areas (now (clocks .entry)) (now (words .entry)) (now (records .entry)) (now (marks .entry))) r (now (answers .exit)) (areas (now (clocks .exit)) (now (words .exit)) (now (records .exit)) (now (marks .exit))) ⌝ }
 {
-    let refusal = engine::open_mainframe(&bytes[0..8], clocks, words, records, marks);
+    let refusal = opening::open_mainframe(&bytes[0..8], clocks, words, records, marks);
     lay_answer(answers, 0, wide(refusal), 0, 0);
     refusal
 }

@@ -8,8 +8,8 @@ use lib.ListN.{drop, length, replicate, take, take-append-drop}
 use lib.Seq.{length-take-le, sets, sets-eq}
 use borrow.Author.Tests.{not-false, not-true}
 use borrow.Author.Needs.{needs}
-use Rattle.engine.specs.Outcomes.{OrderIs}
-use Rattle.engine.specs.Promises.{Areas}
+use Rattle.memory.specs.Areas.{Areas}
+use Rattle.engine.specs.Promises.{OrderIs}
 use Rattle.passing.specs.Bytes.{bytesTaken}
 use Rattle.passing.proofs.Bytes.{taken-stopped}
 use Rattle.passing.proofs.Passing.{kept-all}

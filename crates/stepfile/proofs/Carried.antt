@@ -11,10 +11,10 @@ use Rattle.rules.proofs.InOrderWhen.{in-order-when}
 use Rattle.rules.proofs.Kept.{next-keeps-order}
 use Rattle.rules.proofs.NobodyArrived.{next-nobody-arrived, opened-nobody-arrived}
 use Rattle.rules.proofs.OpenedInOrder.{opened-in-order, opening-counts}
-use Rattle.memory.specs.Areas.{clockBytes, pageWords, recordBytes, markBytes}
+use Rattle.memory.specs.Areas.{clockBytes, pageWords, recordBytes, markBytes, areas, heldBy, holding, rightSizes}
 use Rattle.memory.proofs.Encoding.{lent-right}
 use Rattle.memory.proofs.Decoding.{encoded-lent, decoded}
-use Rattle.engine.specs.Promises.{areas, heldBy, holding, rightSizes, answerOf, areasAfter}
+use Rattle.engine.specs.Promises.{answerOf, areasAfter}
 
 -- a state in order in which nobody's arrived mark, which is laid out nowhere, is 0
 pub record Carried (s : State) : Type 0 where

@@ -12,8 +12,8 @@ use Rattle.rules.specs.Runs.{answers}
 use Rattle.rules.specs.State.{mainframe, State}
 use Rattle.rules.proofs.Listing.{start, listing}
 use Rattle.rules.proofs.FromStart.{listing-a}
-use Rattle.memory.specs.Areas.{clockRows, wordRows, markPlaces, sizesRight}
-use Rattle.engine.specs.Promises.{Areas, areas, rightSizes, openingOf, openRefusal, areasOpened}
+use Rattle.memory.specs.Areas.{clockRows, wordRows, markPlaces, sizesRight, Areas, areas, rightSizes}
+use Rattle.opening.specs.Promises.{openingOf, openRefusal, areasOpened}
 use Rattle.running.specs.Records.{stepFrom, stepsIn}
 use Rattle.lines.specs.Decimal.{digitsWithin, digits}
 use Rattle.lines.specs.Lines.{lineBytes}

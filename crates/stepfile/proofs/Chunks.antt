@@ -8,7 +8,7 @@ use mathlib.Core.List.{List, [], _++_, append-assoc, append-nil}
 use lib.ListN.{drop, drop-of-length-le, length, length-append, take, take-append-drop}
 use lib.Seq.{length-take-le, take-at}
 use borrow.Author.Needs.{needs}
-use Rattle.engine.specs.Promises.{Areas, areas}
+use Rattle.memory.specs.Areas.{Areas, areas}
 use Rattle.taking.specs.Records.{Feed, openingTaken, recordTaken, stepTaken, tooManyTaken}
 use Rattle.taking.specs.Needed.{Takeable, Took, standsAt}
 use Rattle.taking.specs.declared.Stand.{Stand}

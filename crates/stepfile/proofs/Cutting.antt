@@ -8,7 +8,7 @@ use lib.ListN.{length, replicate, length-append}
 use lib.Seq.{take-append-seam, drop-append-seam}
 use lib.Dec.{leb, eqb}
 use borrow.Author.Tests.{le-leb, lt-ltb, leb-true, eqb-false}
-use Rattle.engine.specs.Promises.{Areas}
+use Rattle.memory.specs.Areas.{Areas}
 use Rattle.taking.specs.Records.{Feed, mostSteps, openingTaken, stepTaken, tooManyTaken, recordTaken}
 use Rattle.passing.specs.Bytes.{heldOn, byteTaken, bytesTaken}
 use Rattle.passing.proofs.Bytes.{taken-together}

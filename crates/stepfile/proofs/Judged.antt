@@ -13,7 +13,8 @@ use Rattle.rules.specs.Opening.{openingRefusal}
 use Rattle.rules.specs.Runs.{answers}
 use Rattle.rules.specs.State.{mainframe}
 use Rattle.rules.proofs.DemandThree.{demand-three}
-use Rattle.engine.specs.Promises.{Areas, rightSizes, openingOf}
+use Rattle.memory.specs.Areas.{Areas, rightSizes}
+use Rattle.opening.specs.Promises.{openingOf}
 use Rattle.running.specs.Records.{stepsIn}
 use Rattle.taking.specs.Records.{mostSteps, refusalLine}
 use Rattle.stepfile.specs.Files.{answerLines, stepCount, endLine, openedBy, stepLines, fileLines}

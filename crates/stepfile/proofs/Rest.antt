@@ -8,7 +8,7 @@ use mathlib.Core.List.{List, [], _++_, append-nil}
 use lib.ListN.{drop, drop-of-length-le, length, length-drop, replicate, take, take-append-drop}
 use lib.Seq.{length-take-le}
 use borrow.Author.Needs.{needs}
-use Rattle.engine.specs.Promises.{Areas}
+use Rattle.memory.specs.Areas.{Areas}
 use Rattle.taking.specs.Records.{Feed}
 use Rattle.taking.specs.Needed.{standsAt}
 use Rattle.taking.specs.declared.Stand.{Stand}

@@ -14,7 +14,9 @@ use Rattle.rules.specs.Opening.{openingRefusal}
 use Rattle.rules.specs.Refusals.{Step, Answer, answer, next}
 use Rattle.rules.specs.Runs.{answers}
 use Rattle.rules.specs.State.{mainframe, State}
-use Rattle.engine.specs.Promises.{Areas, holding, rightSizes, openingOf, openRefusal, areasOpened, answerOf, areasAfter}
+use Rattle.memory.specs.Areas.{Areas, holding, rightSizes}
+use Rattle.opening.specs.Promises.{openingOf, openRefusal, areasOpened}
+use Rattle.engine.specs.Promises.{answerOf, areasAfter}
 use Rattle.running.specs.Records.{stepFrom, stepsIn}
 use Rattle.lines.specs.Lines.{lineBytes}
 use Rattle.taking.specs.Records.{Feed, mostSteps, refusalLine, openingTaken, stepTaken, tooManyTaken, recordTaken}

@@ -3,7 +3,7 @@ use Prim.Native.Nat.{ℕ}
 use mathlib.Core.Bool.{Bool, false, cond}
 use mathlib.Core.List.{List, [], _∷_}
 use lib.Dec.{eqb}
-use Rattle.engine.specs.Promises.{Areas}
+use Rattle.memory.specs.Areas.{Areas}
 use Rattle.taking.specs.Records.{Feed, refusalLine}
 use Rattle.passing.specs.Bytes.{bytesTaken}
 

@@ -5,8 +5,8 @@ use mathlib.Core.Bool.{Bool, _&&_, _||_, false, not, true}
 use mathlib.Core.List.{List, _++_}
 use lib.ListN.{drop, length, replicate, take}
 use lib.Dec.{eqb, ltb}
-use Rattle.engine.specs.Outcomes.{OrderIs}
-use Rattle.engine.specs.Promises.{Areas}
+use Rattle.memory.specs.Areas.{Areas}
+use Rattle.engine.specs.Promises.{OrderIs}
 use Rattle.taking.specs.Records.{Feed}
 use Rattle.taking.specs.Needed.{Kept, standsAt}
 use Rattle.taking.specs.declared.Stand.{Stand}

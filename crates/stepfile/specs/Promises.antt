@@ -7,7 +7,7 @@ use mathlib.Core.List.{List, [], _∷_, _++_}
 use lib.ListN.{length, take, drop, replicate}
 use lib.Seq.{sets}
 use lib.Dec.{ltb, leb, eqb}
-use Rattle.engine.specs.Promises.{Areas, rightSizes}
+use Rattle.memory.specs.Areas.{Areas, rightSizes}
 use Rattle.taking.specs.Records.{Feed, mostSteps}
 use Rattle.passing.specs.Bytes.{bytesTaken}
 use Rattle.stepfile.specs.Files.{fileLines}

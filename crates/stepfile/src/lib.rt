@@ -1,8 +1,8 @@
 // A step file fed in parts, cut anywhere: the lines of its records, as for the whole file.
 ghost use mathlib.Core.Bool.{true};
 ghost use lib.ListN.{length, take, drop};
-ghost use Rattle.engine.specs.Promises.{areas};
-ghost use Rattle.engine.specs.Outcomes.{OrderIs};
+ghost use Rattle.memory.specs.Areas.{areas};
+ghost use Rattle.engine.specs.Promises.{OrderIs};
 ghost use Rattle.taking.specs.Records.{recordTaken};
 ghost use Rattle.taking.specs.Needed.{standsAt, Takeable, Took};
 ghost use Rattle.passing.specs.Bytes.{bytesTaken};

@@ -17,15 +17,16 @@ use Rattle.rules.specs.InOrder.{inOrder}
 use Rattle.rules.specs.Refusals.{Answer, Step}
 use Rattle.rules.specs.State.{mainframe}
 use Rattle.memory.proofs.Encoding.{lent-right}
-use Rattle.memory.specs.Areas.{stateIn}
+use Rattle.memory.specs.Areas.{stateIn, Areas, areas}
 use Rattle.memory.specs.Needed.{Ready}
-use Rattle.engine.specs.Outcomes.{OrderIs, SteppedAs, outcomeCount, outcomeRefusal, outcomeValue, told}
+use Rattle.acting.specs.Outcomes.{outcomeCount, outcomeRefusal, outcomeValue, told}
 use Rattle.checking.specs.Areas.{areasInOrder}
-use Rattle.engine.specs.Promises.{Areas, answerOf, areas, areasAfter, areasOpened, openRefusal}
-use Rattle.engine.specs.declared.Outcome.{Outcome}
-use Rattle.engine.specs.declared.Outcome.the-variants.{Done, Refused}
+use Rattle.engine.specs.Promises.{answerOf, areasAfter, OrderIs, SteppedAs}
+use Rattle.acting.specs.declared.Outcome.{Outcome}
+use Rattle.acting.specs.declared.Outcome.the-variants.{Done, Refused}
 use Rattle.engine.proofs.Answering.{in-order-after, in-order-answered, out-of-order, out-of-order-untouched, ready-when-fine}
-use Rattle.engine.proofs.Following.{opened-ready}
+use Rattle.opening.proofs.Following.{opened-ready}
+use Rattle.opening.specs.Promises.{areasOpened, openRefusal}
 use Rattle.engine.proofs.Stepping.{outcome-tells, stepped-ready}
 use Rattle.running.specs.Needed.{StepThere}
 use Rattle.running.specs.Records.{stepFrom}

@@ -5,9 +5,11 @@ use mathlib.Core.Bool.{Bool, true}
 use mathlib.Core.List.{List, [], _++_}
 use lib.ListN.{drop, length, take}
 use Rattle.rules.specs.Refusals.{Step}
-use Rattle.engine.specs.Outcomes.{OrderIs, told}
-use Rattle.engine.specs.Promises.{Areas, answerOf, areas, areasAfter, areasOpened, openRefusal}
-use Rattle.engine.specs.declared.Outcome.{Outcome}
+use Rattle.memory.specs.Areas.{Areas, areas}
+use Rattle.opening.specs.Promises.{areasOpened, openRefusal}
+use Rattle.acting.specs.Outcomes.{told}
+use Rattle.engine.specs.Promises.{answerOf, areasAfter, OrderIs}
+use Rattle.acting.specs.declared.Outcome.{Outcome}
 use Rattle.lines.specs.Lines.{lineBytes}
 use Rattle.taking.specs.Records.{Feed}
 use Rattle.taking.specs.declared.Stand.{Stand}

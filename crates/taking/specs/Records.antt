@@ -3,7 +3,9 @@ use Prim.Native.Nat.{ℕ, suc}
 use mathlib.Core.Bool.{Bool, true, false, cond, not}
 use mathlib.Core.List.{List, [], _++_}
 use lib.Dec.{leb, eqb}
-use Rattle.engine.specs.Promises.{Areas, openRefusal, areasOpened, answerOf, areasAfter}
+use Rattle.memory.specs.Areas.{Areas}
+use Rattle.engine.specs.Promises.{answerOf, areasAfter}
+use Rattle.opening.specs.Promises.{openRefusal, areasOpened}
 use Rattle.running.specs.Records.{stepFrom}
 use Rattle.lines.specs.Lines.{lineBytes}
 

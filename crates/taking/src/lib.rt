@@ -2,13 +2,13 @@
 ghost use mathlib.Core.Path.{_≡_};
 ghost use Prim.Native.Nat.{_+_, _≤_};
 ghost use lib.ListN.{length, take, drop};
-ghost use Rattle.engine.specs.Promises.{areas};
+ghost use Rattle.memory.specs.Areas.{areas};
 ghost use Rattle.running.specs.Records.{stepFrom};
 ghost use Rattle.lines.specs.Lines.{lineBytes};
 ghost use Rattle.lines.specs.Needed.{Room, Counted};
 ghost use Rattle.taking.specs.Records.{openingTaken, stepTaken, recordTaken};
 ghost use Rattle.taking.specs.Needed.{LinePut, outcomeLine, standsAt, Takeable, StepTakeable, StoppedAt, Steppable, Took, OpenedAs, Answered};
-use engine::Outcome;
+use acting::Outcome;
 
 // What stands between two records: the number of the next, whether the run has stopped, whether the areas are in order, and how many
 // bytes of lines are written.
@@ -130,7 +130,7 @@ fn open_at(
     ensures { λ r. ⌜ OpenedAs (take 8 (drop from (now (bytes .entry)))) (now (clocks .entry)) (now (words .entry)) (now (records .entry)) (now (marks .entry)) r (now (clocks .exit)) (now (words .exit)) (now (records .exit)) (now (marks .exit)) ⌝ }
 {
     let end = from + 8;
-    engine::open_mainframe(&bytes[from..end], clocks, words, records, marks)
+    opening::open_mainframe(&bytes[from..end], clocks, words, records, marks)
 }
 
 // A step; on areas that are not in order it is refused.

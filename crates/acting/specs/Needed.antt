@@ -1,0 +1,29 @@
+-- What the functions that act ask of one another. Assumes nothing.
+use Prim.Native.Nat.{ℕ, _≤_}
+use mathlib.Core.Path.{_≡_}
+use mathlib.Core.List.{List}
+use Rattle.rules.specs.State.{mainframe}
+use Rattle.rules.specs.Refusals.{stepOf, refusalInOrder}
+use Rattle.memory.specs.Areas.{stateIn}
+use Rattle.memory.specs.Needed.{Ready}
+
+-- the areas hold a state in order, and no row from 3 to 10 refuses the step
+pub record Acting (c w r m : List ℕ) (kind p object value : ℕ) : Type 0 where
+  pub ready : Ready c w r m
+  pub accepted : refusalInOrder mainframe (stateIn mainframe c w r m) (stepOf kind p object value) ≡ 0
+
+-- the same for a read or a write
+pub record Accessing (c w r m : List ℕ) (kind p object value : ℕ) : Type 0 where
+  pub acting : Acting c w r m kind p object value
+  pub last : kind ≤ 2
+
+-- for an acquire or a release
+pub record Locking (c w r m : List ℕ) (kind p object value : ℕ) : Type 0 where
+  pub acting : Acting c w r m kind p object value
+  pub first : 3 ≤ kind
+  pub last : kind ≤ 4
+
+-- for an arrival or a wish
+pub record Meeting (c w r m : List ℕ) (kind p object value : ℕ) : Type 0 where
+  pub acting : Acting c w r m kind p object value
+  pub first : 5 ≤ kind

@@ -1,9 +1,0 @@
--- `zeros_fit` meets its contract. Assumes nothing.
-use Rattle.engine.proofs.OpeningTests.{opening-tests}
-use Rattle.engine.proofs.zeros_fit.Statement.{statement}
-use Rattle.engine.proofs.zeros_fit.Tie as tie
-
-pub zeros-fit-spec : {M : Type 1} → statement M
-zeros-fit-spec =
-    tie.close
-    (tie.spec (λ c. search opening-tests) (λ c. search opening-tests) (λ c. search opening-tests) (λ c. search opening-tests) (λ c. search opening-tests) (λ c. search opening-tests) (λ c. search opening-tests) (λ c. search opening-tests) (λ c. search opening-tests) (λ c. search opening-tests) (λ c. search opening-tests))

@@ -1,0 +1,3 @@
+pub mod OpeningTests
+pub mod Opening
+pub mod Following
