@@ -15,10 +15,13 @@ use Rattle.rules.specs.State.{mainframe, State}
 use Rattle.rules.specs.Steps.{Effect, read, write, acquire, release, arrive}
 use Rattle.rules.proofs.Accepted.{Accepted, accepted-says, present-says, acquire-there, release-there}
 use Rattle.memory.specs.Areas.{stateIn}
-use Rattle.memory.specs.Needed.{Holds}
+use Rattle.memory.specs.Needed.{Acts, Holds}
 use Rattle.refusals.proofs.ByKind.{kind-zero-unknown, kind-above-unknown}
-use Rattle.steps.specs.Effects.{AnsweredAs, CountedAs, Wanted}
-use Rattle.steps.specs.Needed.{Acts, ActsOnWord, ActsOnLock}
+use Rattle.collecting.specs.Effects.{CountedAs}
+use Rattle.accessing.specs.Effects.{AnsweredAs}
+use Rattle.accessing.specs.Needed.{ActsOnWord}
+use Rattle.locking.specs.Needed.{ActsOnLock}
+use Rattle.steps.specs.Effects.{Wanted}
 use Rattle.acting.specs.declared.Outcome.{Outcome}
 use Rattle.acting.specs.declared.Outcome.the-variants.{Done}
 use Rattle.acting.specs.Outcomes.{DoneAs}

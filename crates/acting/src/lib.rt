@@ -51,13 +51,13 @@ fn access(
     ensures { λ r. ⌜ DoneAs (effect mainframe (stateIn mainframe (now (clocks .entry)) (now (words .entry)) (now (records .entry)) (now (marks .entry))) (p .0) (actionOf (stepOf kind (p .0) object value))) r (now (clocks .exit)) (now (words .exit)) (now (records .entry)) (now (marks .exit)) ⌝ }
 {
     if kind == 1 {
-        let answered = steps::read_word(p, object, clocks, words, records, marks);
+        let answered = accessing::read_word(p, object, clocks, words, records, marks);
         return Outcome::Done {
             value: answered.value,
             count: answered.count,
         };
     }
-    let count = steps::write_word(p, object, value, clocks, words, records, marks);
+    let count = accessing::write_word(p, object, value, clocks, words, records, marks);
     Outcome::Done { value: 0, count }
 }
 
@@ -76,10 +76,10 @@ fn lock(
     ensures { λ r. ⌜ DoneAs (effect mainframe (stateIn mainframe (now (clocks .entry)) (now (words .entry)) (now (records .entry)) (now (marks .entry))) (p .0) (actionOf (stepOf kind (p .0) object value))) r (now (clocks .exit)) (now (words .entry)) (now (records .exit)) (now (marks .exit)) ⌝ }
 {
     if kind == 3 {
-        steps::acquire(p, object, clocks, words, records, marks);
+        locking::acquire(p, object, clocks, words, records, marks);
         return Outcome::Done { value: 0, count: 0 };
     }
-    steps::release(p, object, clocks, words, records, marks);
+    locking::release(p, object, clocks, words, records, marks);
     Outcome::Done { value: 0, count: 0 }
 }
 

@@ -19,11 +19,11 @@ use Rattle.rules.proofs.KeptFetch.{fetched-parts}
 use Rattle.rules.proofs.KeptParts.{among-when, Parts, parts-of, in-order-of}
 use Rattle.rules.proofs.Slots.{length-standing}
 use Rattle.memory.specs.Areas.{stateIn}
-use Rattle.memory.specs.Needed.{Lent, Ready}
+use Rattle.memory.specs.Needed.{Lent, Ready, Acts}
 use Rattle.memory.proofs.MarkLaws.{processors-read, pages-read}
 use Rattle.fetching.specs.Needed.{Fetchable}
 use Rattle.ranking.specs.Needed.{Brought}
-use Rattle.collecting.specs.Needed.{Acts, PagesRanked}
+use Rattle.collecting.specs.Needed.{PagesRanked}
 use Rattle.collecting.specs.Effects.{CountedAs}
 use Rattle.collecting.proofs.Ranked.{ranks-kept}
 

@@ -3,20 +3,9 @@ use Prim.Native.Nat.{ℕ, _≤_, _<_}
 use mathlib.Core.Path.{_≡_}
 use mathlib.Core.List.{List}
 use lib.ListN.{length, getD, take}
-use Rattle.rules.specs.State.{mainframe}
-use Rattle.rules.proofs.Facts.{InOrder}
-use Rattle.memory.specs.Areas.{stateIn}
 use Rattle.memory.specs.Layout.{rowOf}
-use Rattle.memory.specs.Needed.{Lent}
 use Rattle.ranking.specs.Needed.{Rankable}
 use Rattle.ranking.specs.Ranks.{pageNumbers}
-
--- the areas have their sizes, the state in them is in order, and p is one of its processors
-pub record Acts (c w r m : List ℕ) (p : ℕ) : Type 0 where
-  pub lent : Lent c w r m
-  pub in-order : InOrder mainframe (stateIn mainframe c w r m)
-  pub from : 1 ≤ p
-  pub to : p ≤ stateIn mainframe c w r m .counts .processors
 
 -- the records that stand can be ranked
 pub record StandingRankable (c r m l : List ℕ) : Type 0 where

@@ -2,14 +2,14 @@
 // The contracts say in the words of the rules (specs/Steps.antt of the crate rules) what state the areas hold afterwards.
 ghost use mathlib.Core.Path.{_≡_};
 ghost use Prim.Native.Nat.{_≤_, _<_};
+ghost use lib.ListN.{replicate};
 ghost use Rattle.rules.specs.State.{mainframe};
 ghost use Rattle.rules.specs.Steps.{pagesFetched, allFetched, collected};
 ghost use Rattle.memory.specs.Areas.{stateIn};
-ghost use Rattle.memory.specs.Needed.{Ready};
-ghost use lib.ListN.{replicate};
+ghost use Rattle.memory.specs.Needed.{Ready, Acts};
 ghost use Rattle.fetching.specs.Needed.{Fetchable};
 ghost use Rattle.ranking.specs.Needed.{Brought};
-ghost use Rattle.collecting.specs.Needed.{Acts, StandingRankable, PagesRanked, ClocksAndMarks};
+ghost use Rattle.collecting.specs.Needed.{StandingRankable, PagesRanked, ClocksAndMarks};
 ghost use Rattle.collecting.specs.Effects.{CountedAs, Emptied};
 use clock::PageId;
 use clock::ProcessorId;

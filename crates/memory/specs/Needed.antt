@@ -19,6 +19,13 @@ pub record Ready (c w r m : List ℕ) : Type 0 where
   pub lent : Lent c w r m
   pub in-order : InOrder mainframe (stateIn mainframe c w r m)
 
+-- they have their sizes, the state in them is in order, and p is one of its processors
+pub record Acts (c w r m : List ℕ) (p : ℕ) : Type 0 where
+  pub lent : Lent c w r m
+  pub in-order : InOrder mainframe (stateIn mainframe c w r m)
+  pub from : 1 ≤ p
+  pub to : p ≤ stateIn mainframe c w r m .counts .processors
+
 -- they have their sizes and hold the state s
 pub record Holds (c w r m : List ℕ) (s : State) : Type 0 where
   pub lent : Lent c w r m

@@ -1,5 +1,4 @@
--- The steps that begin with closing the interval, put together from closing and their own parts: one law for each way of the code, and
--- `act-laws`. Rests on Learning. Assumes nothing.
+-- The arrival, put together from closing, learning and a completed round: one law for each way of the code, and `act-laws`. Assumes nothing.
 use Prim.Native.Nat.{ℕ, _+_, _*_, _≤_, _<_}
 use native.Mathlib.Omega.{arith}
 use mathlib.Core.Path.{_≡_, refl, sym, ap, _∙_}
@@ -13,74 +12,27 @@ use borrow.Author.Needs.{needs}
 use Rattle.clock.specs.Clocks.{joined}
 use Rattle.rules.specs.Close.{closed}
 use Rattle.rules.specs.State.{mainframe, Processor, Barrier, Clocks, State}
-use Rattle.rules.specs.Steps.{learned, acquire, release, atBarrier, allArrived, roundDone, Fetches, arrive}
+use Rattle.rules.specs.Steps.{learned, atBarrier, allArrived, roundDone, Fetches, arrive}
 use Rattle.rules.specs.Tables.{put}
 use Rattle.rules.proofs.Facts.{Within}
 use Rattle.rules.proofs.KeptBarrier.{round-parts}
 use Rattle.rules.proofs.KeptParts.{among-when, parts-of, in-order-of}
 use Rattle.memory.specs.Areas.{clockRow, arrivedPlace, clocksIn, stateIn}
 use Rattle.memory.specs.Layout.{rowOf}
+use Rattle.memory.specs.Needed.{Acts, Holds}
 use Rattle.memory.proofs.MarkLaws.{processors-read, arrived-written}
-use Rattle.memory.specs.Needed.{Holds}
-use Rattle.closing.specs.Needed.{Closable}
-use Rattle.steps.specs.Needed.{Acts, ActsOnLock, RoundComplete, TwoRows, MarksThere}
-use Rattle.steps.specs.Effects.{CountedAs, ClosedAtLock, lockTaken, lockFreed, LockTaken, LockFreed, ArrivedAll, completed}
-use Rattle.steps.proofs.Learning.{learned-clock}
-
--- who acts can close
-pub can-close : (c w r m : List ℕ) (p : ℕ) → Acts c w r m p → Closable c w r m p
-can-close c w r m p a = record { lent = a .lent; in-order = a .in-order; from = a .from; to = a .to }
-
--- who acts has rows and places
-processor-within : (c w r m : List ℕ) (p : ℕ) → Acts c w r m p → p ≤ 8
-unfolding mainframe
-processor-within c w r m p a = omega (arith, a .to, a .in-order .processors-fit)
-
--- so the place of its mark fits a number
-pub arrived-place-fits : (c w r m : List ℕ) (p : ℕ) → Acts c w r m p → Fits w64 (4 + p)
-arrived-place-fits c w r m p a = record { fits = omega (arith, processor-within c w r m p a) }
-
--- ---- acquire and release
-
--- closed, with the processor and the lock at their places
-pub closed-at-lock : (c w r m : List ℕ) (p l : ℕ) (c₁ r₁ m₁ : List ℕ) → ActsOnLock c w r m p l → Holds c₁ w r₁ m₁ (closed (stateIn mainframe c w r m) p)
-    → ClosedAtLock (stateIn mainframe c w r m) c₁ w r₁ m₁ p l
-unfolding mainframe
-closed-at-lock c w r m p l c₁ r₁ m₁ a h =
-    record {
-      there =
-          record {
-            clocks = h .lent .clocks;
-            marks = h .lent .marks;
-            from = a .acts .from;
-            to = processor-within c w r m p (a .acts);
-            lock = omega (arith, a .lock, a .acts .in-order .locks-fit);
-          };
-      areas = h;
-    }
-
-module _ (s : State) (p l : ℕ) (c w r m c′ m′ : List ℕ) (h : ClosedAtLock s c w r m p l) where
-  -- then the lock taken
-  pub acquired : LockTaken c m c′ m′ p l → Holds c′ w r m′ (acquire s p l)
-  unfolding acquire lockTaken
-  acquired t =
-      let l₁ = h .areas .lent in
-      record {
-        lent = record { clocks = t .clocks; words = l₁ .words; records = l₁ .records; marks = t .marks };
-        is = t .is w r ∙ ap (λ (u : State). lockTaken u p l) (h .areas .is);
-      }
-
-  -- or freed
-  pub released : LockFreed c m c′ m′ p l → Holds c′ w r m′ (release s p l)
-  unfolding release lockFreed
-  released t =
-      let l₁ = h .areas .lent in
-      record {
-        lent = record { clocks = t .clocks; words = l₁ .words; records = l₁ .records; marks = t .marks };
-        is = t .is w r ∙ ap (λ (u : State). lockFreed u p l) (h .areas .is);
-      }
+use Rattle.collecting.specs.Effects.{CountedAs}
+use Rattle.locking.specs.Needed.{TwoRows}
+use Rattle.locking.proofs.Acting.{can-close, processor-within}
+use Rattle.locking.proofs.Learning.{learned-clock}
+use Rattle.steps.specs.Needed.{RoundComplete, MarksThere}
+use Rattle.steps.specs.Effects.{ArrivedAll, completed}
 
 -- ---- at the barrier
+
+-- the place of a processor's mark fits a number
+pub arrived-place-fits : (c w r m : List ℕ) (p : ℕ) → Acts c w r m p → Fits w64 (4 + p)
+arrived-place-fits c w r m p a = record { fits = omega (arith, processor-within c w r m p a) }
 
 -- a state with other clocks, and one processor marked
 unfoldable marked : State → Clocks → ℕ → State
@@ -198,4 +150,4 @@ module _ (c w r m : List ℕ) (p : ℕ) (a : Acts c w r m p) (c₁ r₁ m₁ : L
             areas = record { lent = e .areas .lent; is = e .areas .is ∙ ap (λ (f : Fetches). f .after) completing };
           }
 
-pub ruleset act-laws = (can-close, arrived-place-fits, closed-at-lock, acquired, released, arrived-there, barrier-rows, at-barrier, all-marks-there, round-complete, waits-done, completes-done, needs)
+pub ruleset act-laws = (can-close, arrived-place-fits, arrived-there, barrier-rows, at-barrier, all-marks-there, round-complete, waits-done, completes-done, needs)

@@ -1,7 +1,4 @@
 pub mod Learning
 pub mod Rounds
-pub mod Locking
-pub mod Storing
 pub mod Completing
 pub mod Acting
-pub mod Accessing

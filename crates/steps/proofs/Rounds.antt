@@ -1,5 +1,5 @@
 -- The barrier's marks and what a completed round leaves; the wish for collection. One law for each way of the code, and
--- `round-laws`. Rests on Learning. Assumes nothing.
+-- `round-laws`. Assumes nothing.
 use Prim.Native.Nat.{ℕ, suc, _+_, _-_, _*_, _≤_, _<_}
 use native.Mathlib.Numerals.{add-one}
 use native.Mathlib.Omega.{arith}

@@ -1,0 +1,3 @@
+pub mod Learning
+pub mod Locking
+pub mod Acting

@@ -1,0 +1,51 @@
+-- What taking and freeing a lock and their parts leave in the lent areas, in the words of the rules: the state that the areas hold, and
+-- that they keep their sizes. Where a part does not touch an area, it holds whatever that area has. Assumes nothing.
+use Prim.Native.Nat.{ℕ}
+use mathlib.Core.Path.{_≡_}
+use mathlib.Core.List.{List}
+use lib.ListN.{length}
+use Rattle.rules.specs.State.{mainframe, Processor, Lock, clockOf, withClock, State}
+use Rattle.rules.specs.Close.{closed}
+use Rattle.rules.specs.Steps.{withHolder, learned}
+use Rattle.memory.specs.Areas.{stateIn}
+use Rattle.memory.specs.Needed.{Holds}
+use Rattle.locking.specs.Needed.{LockThere}
+
+-- the areas hold the state s with the interval of p closed, and p and lock l have their places in them
+pub record ClosedAtLock (s : State) (c w r m : List ℕ) (p l : ℕ) : Type 0 where
+  pub there : LockThere c m p l
+  pub areas : Holds c w r m (closed s p)
+
+-- "the card becomes holder; its clock joins the lock's"
+unfoldable pub lockTaken : State → ℕ → ℕ → State
+lockTaken s p l =
+    record {
+      counts = s .counts;
+      clocks = learned (s .clocks) (Processor p) (Lock l);
+      pages = s .pages;
+      records = s .records;
+      marks = withHolder (s .marks) l p;
+    }
+
+-- "holder becomes 0; the lock's clock becomes the card's"
+unfoldable pub lockFreed : State → ℕ → ℕ → State
+lockFreed s p l =
+    record {
+      counts = s .counts;
+      clocks = withClock (s .clocks) (Lock l) (clockOf (s .clocks) (Processor p));
+      pages = s .pages;
+      records = s .records;
+      marks = withHolder (s .marks) l 0;
+    }
+
+-- p took lock l
+pub record LockTaken (c m c′ m′ : List ℕ) (p l : ℕ) : Type 0 where
+  pub clocks : length c′ ≡ 4744
+  pub marks : length m′ ≡ 93
+  pub is : (w r : List ℕ) → stateIn mainframe c′ w r m′ ≡ lockTaken (stateIn mainframe c w r m) p l
+
+-- p freed lock l
+pub record LockFreed (c m c′ m′ : List ℕ) (p l : ℕ) : Type 0 where
+  pub clocks : length c′ ≡ 4744
+  pub marks : length m′ ≡ 93
+  pub is : (w r : List ℕ) → stateIn mainframe c′ w r m′ ≡ lockFreed (stateIn mainframe c w r m) p l

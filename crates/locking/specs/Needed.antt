@@ -1,0 +1,27 @@
+-- What taking and freeing a lock ask of the memory that they are given, and what their parts ask of one another. Assumes nothing.
+use Prim.Native.Nat.{ℕ, _≤_, _<_}
+use mathlib.Core.Path.{_≡_}
+use mathlib.Core.List.{List}
+use lib.ListN.{length}
+use Rattle.rules.specs.State.{mainframe}
+use Rattle.memory.specs.Areas.{stateIn}
+use Rattle.memory.specs.Needed.{Acts}
+
+-- p acts, and l is a present lock
+pub record ActsOnLock (c w r m : List ℕ) (p l : ℕ) : Type 0 where
+  pub acts : Acts c w r m p
+  pub lock : l < stateIn mainframe c w r m .counts .locks
+
+-- two rows of the area of the clocks
+pub record TwoRows (c : List ℕ) (to from : ℕ) : Type 0 where
+  pub clocks : length c ≡ 4744
+  pub to-there : to < 593
+  pub from-there : from < 593
+
+-- processor p and lock l, in areas of clocks and marks of the right sizes
+pub record LockThere (c m : List ℕ) (p l : ℕ) : Type 0 where
+  pub clocks : length c ≡ 4744
+  pub marks : length m ≡ 93
+  pub from : 1 ≤ p
+  pub to : p ≤ 8
+  pub lock : l < 16

@@ -1,0 +1,92 @@
+// Taking and freeing a lock on lent memory that holds a state in order; one clock learns another.
+// The contracts say in the words of the rules (specs/Steps.antt of the crate rules) what state the areas hold afterwards.
+ghost use mathlib.Core.Path.{_≡_};
+ghost use Prim.Native.Nat.{_*_};
+ghost use lib.Seq.{sets};
+ghost use Rattle.clock.specs.Clocks.{joined};
+ghost use Rattle.rules.specs.State.{mainframe};
+ghost use Rattle.rules.specs.Steps.{acquire, release};
+ghost use Rattle.memory.specs.Layout.{rowOf};
+ghost use Rattle.memory.specs.Areas.{stateIn};
+ghost use Rattle.memory.specs.Needed.{Holds};
+ghost use Rattle.locking.specs.Needed.{ActsOnLock, TwoRows, LockThere};
+ghost use Rattle.locking.specs.Effects.{ClosedAtLock, LockTaken, LockFreed};
+use clock::ProcessorId;
+use memory::clock_at;
+use memory::put_clock;
+
+// Acquire: closes the interval; the processor becomes the lock's holder; its clock joins the lock's.
+pub fn acquire(
+    p: ProcessorId,
+    l: usize,
+    clocks: &mut [u8],
+    words: &[u32],
+    records: &mut [u8],
+    marks: &mut [u8],
+)
+    requires { ⌜ ActsOnLock (now clocks) (now words) (now records) (now marks) (p .0) l ⌝ }
+    ensures { λ _. ⌜ Holds (now (clocks .exit)) (now (words .entry)) (now (records .exit)) (now (marks .exit)) (acquire (stateIn mainframe (now (clocks .entry)) (now (words .entry)) (now (records .entry)) (now (marks .entry))) (p .0) l) ⌝ }
+{
+    close_at_lock(p, l, clocks, words, records, marks);
+    take_lock(clocks, marks, p, l);
+}
+
+// Release: closes the interval; the lock has no holder; its clock becomes the processor's.
+pub fn release(
+    p: ProcessorId,
+    l: usize,
+    clocks: &mut [u8],
+    words: &[u32],
+    records: &mut [u8],
+    marks: &mut [u8],
+)
+    requires { ⌜ ActsOnLock (now clocks) (now words) (now records) (now marks) (p .0) l ⌝ }
+    ensures { λ _. ⌜ Holds (now (clocks .exit)) (now (words .entry)) (now (records .exit)) (now (marks .exit)) (release (stateIn mainframe (now (clocks .entry)) (now (words .entry)) (now (records .entry)) (now (marks .entry))) (p .0) l) ⌝ }
+{
+    close_at_lock(p, l, clocks, words, records, marks);
+    free_lock(clocks, marks, p, l);
+}
+
+// The clock in one row becomes its join with the clock in another, which keeps its entries.
+pub fn learn(clocks: &mut [u8], to: usize, from: usize)
+    requires { ⌜ TwoRows (now clocks) to from ⌝ }
+    ensures { λ _. ⌜ now (clocks .exit) ≡ sets (now (clocks .entry)) (8 * to) (joined (rowOf 8 (now (clocks .entry)) to) (rowOf 8 (now (clocks .entry)) from)) ⌝ }
+{
+    let own = clock_at(clocks, to);
+    let news = clock_at(clocks, from);
+    put_clock(clocks, to, own.join(news));
+}
+
+// Closes the interval of a processor that has a lock to take or to free.
+fn close_at_lock(
+    p: ProcessorId,
+    l: usize,
+    clocks: &mut [u8],
+    words: &[u32],
+    records: &mut [u8],
+    marks: &mut [u8],
+)
+    requires { ⌜ ActsOnLock (now clocks) (now words) (now records) (now marks) (p .0) l ⌝ }
+    ensures { λ _. ⌜ ClosedAtLock (stateIn mainframe (now (clocks .entry)) (now (words .entry)) (now (records .entry)) (now (marks .entry))) (now (clocks .exit)) (now (words .entry)) (now (records .exit)) (now (marks .exit)) (p .0) l ⌝ }
+{
+    closing::close(p, clocks, words, records, marks);
+}
+
+// The processor becomes the lock's holder, and its clock joins the lock's.
+fn take_lock(clocks: &mut [u8], marks: &mut [u8], p: ProcessorId, l: usize)
+    requires { ⌜ LockThere (now clocks) (now marks) (p .0) l ⌝ }
+    ensures { λ _. ⌜ LockTaken (now (clocks .entry)) (now (marks .entry)) (now (clocks .exit)) (now (marks .exit)) (p .0) l ⌝ }
+{
+    marks[13 + l] = (p.0 % 256) as u8;
+    learn(clocks, p.0, 9 + l);
+}
+
+// The lock has no holder, and its clock becomes the processor's.
+fn free_lock(clocks: &mut [u8], marks: &mut [u8], p: ProcessorId, l: usize)
+    requires { ⌜ LockThere (now clocks) (now marks) (p .0) l ⌝ }
+    ensures { λ _. ⌜ LockFreed (now (clocks .entry)) (now (marks .entry)) (now (clocks .exit)) (now (marks .exit)) (p .0) l ⌝ }
+{
+    marks[13 + l] = 0;
+    let own = clock_at(clocks, p.0);
+    put_clock(clocks, 9 + l, own);
+}
