@@ -21,7 +21,7 @@ use Rattle.collecting.specs.Effects.{CountedAs}
 use Rattle.accessing.specs.Effects.{AnsweredAs}
 use Rattle.accessing.specs.Needed.{ActsOnWord}
 use Rattle.locking.specs.Needed.{ActsOnLock}
-use Rattle.steps.specs.Effects.{Wanted}
+use Rattle.barrier.specs.Effects.{Wanted}
 use Rattle.acting.specs.declared.Outcome.{Outcome}
 use Rattle.acting.specs.declared.Outcome.the-variants.{Done}
 use Rattle.acting.specs.Outcomes.{DoneAs}

@@ -98,9 +98,9 @@ fn meet(
     ensures { λ r. ⌜ DoneAs (effect mainframe (stateIn mainframe (now (clocks .entry)) (now (words .entry)) (now (records .entry)) (now (marks .entry))) (p .0) (actionOf (stepOf kind (p .0) object value))) r (now (clocks .exit)) (now (words .exit)) (now (records .exit)) (now (marks .exit)) ⌝ }
 {
     if kind == 5 {
-        let count = steps::arrive(p, clocks, words, records, marks);
+        let count = barrier::arrive(p, clocks, words, records, marks);
         return Outcome::Done { value: 0, count };
     }
-    steps::want(marks);
+    barrier::want(marks);
     Outcome::Done { value: 0, count: 0 }
 }

@@ -1,7 +1,7 @@
 -- `round_done` meets its contract. Assumes nothing.
-use Rattle.steps.proofs.Rounds.{round-laws}
-use Rattle.steps.proofs.round_done.Statement.{statement}
-use Rattle.steps.proofs.round_done.Tie as tie
+use Rattle.barrier.proofs.Rounds.{round-laws}
+use Rattle.barrier.proofs.round_done.Statement.{statement}
+use Rattle.barrier.proofs.round_done.Tie as tie
 
 pub round-done-spec : {M : Type 1} → statement M
 round-done-spec =

@@ -1,7 +1,7 @@
 -- `clear_arrived` meets its contract. Assumes nothing.
-use Rattle.steps.proofs.Rounds.{round-laws}
-use Rattle.steps.proofs.clear_arrived.Statement.{statement}
-use Rattle.steps.proofs.clear_arrived.Tie as tie
+use Rattle.barrier.proofs.Rounds.{round-laws}
+use Rattle.barrier.proofs.clear_arrived.Statement.{statement}
+use Rattle.barrier.proofs.clear_arrived.Tie as tie
 
 pub clear-arrived-spec : {M : Type 1} → statement M
 clear-arrived-spec =

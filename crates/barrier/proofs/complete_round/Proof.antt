@@ -1,7 +1,7 @@
 -- `complete_round` meets its contract. Assumes nothing.
-use Rattle.steps.proofs.Completing.{complete-laws}
-use Rattle.steps.proofs.complete_round.Statement.{statement}
-use Rattle.steps.proofs.complete_round.Tie as tie
+use Rattle.barrier.proofs.Completing.{complete-laws}
+use Rattle.barrier.proofs.complete_round.Statement.{statement}
+use Rattle.barrier.proofs.complete_round.Tie as tie
 
 pub complete-round-spec : {M : Type 1} → statement M
 complete-round-spec =

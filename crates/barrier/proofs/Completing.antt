@@ -13,8 +13,8 @@ use Rattle.memory.specs.Areas.{stateIn}
 use Rattle.memory.specs.Needed.{Lent, Ready}
 use Rattle.memory.proofs.MarkLaws.{wanted-read}
 use Rattle.collecting.specs.Effects.{CountedAs}
-use Rattle.steps.specs.Needed.{RoundComplete, RoundThere}
-use Rattle.steps.specs.Effects.{RoundDone, completed}
+use Rattle.barrier.specs.Needed.{RoundComplete, RoundThere}
+use Rattle.barrier.specs.Effects.{RoundDone, completed}
 
 completed-plain : (s : State) → s .marks .wanted ≡ 0 → completed s ≡ record { after = roundDone s; count = 0 }
 unfolding completed

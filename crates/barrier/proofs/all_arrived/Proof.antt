@@ -1,8 +1,8 @@
 -- `all_arrived` meets its contract: the first k processors have arrived. Assumes nothing.
 use Prim.Native.Nat.{_-_}
-use Rattle.steps.proofs.Rounds.{Arriving, round-laws}
-use Rattle.steps.proofs.all_arrived.Statement.{statement}
-use Rattle.steps.proofs.all_arrived.Tie as tie
+use Rattle.barrier.proofs.Rounds.{Arriving, round-laws}
+use Rattle.barrier.proofs.all_arrived.Statement.{statement}
+use Rattle.barrier.proofs.all_arrived.Tie as tie
 
 abbrev Inv-loop : tie.InvT-loop
 Inv-loop marks n k₀ k = Arriving marks n k

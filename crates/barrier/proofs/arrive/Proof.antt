@@ -1,7 +1,7 @@
 -- `arrive` meets its contract. Assumes nothing.
-use Rattle.steps.proofs.Acting.{act-laws}
-use Rattle.steps.proofs.arrive.Statement.{statement}
-use Rattle.steps.proofs.arrive.Tie as tie
+use Rattle.barrier.proofs.Acting.{act-laws}
+use Rattle.barrier.proofs.arrive.Statement.{statement}
+use Rattle.barrier.proofs.arrive.Tie as tie
 
 pub arrive-spec : {M : Type 1} → statement M
 arrive-spec =

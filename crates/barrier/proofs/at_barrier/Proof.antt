@@ -1,7 +1,7 @@
 -- `at_barrier` meets its contract. Assumes nothing.
-use Rattle.steps.proofs.Acting.{act-laws}
-use Rattle.steps.proofs.at_barrier.Statement.{statement}
-use Rattle.steps.proofs.at_barrier.Tie as tie
+use Rattle.barrier.proofs.Acting.{act-laws}
+use Rattle.barrier.proofs.at_barrier.Statement.{statement}
+use Rattle.barrier.proofs.at_barrier.Tie as tie
 
 pub at-barrier-spec : {M : Type 1} → statement M
 at-barrier-spec =

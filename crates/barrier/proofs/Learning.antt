@@ -16,8 +16,8 @@ use Rattle.memory.specs.Areas.{clockRow, clocksIn}
 use Rattle.memory.specs.Layout.{rowOf}
 use Rattle.locking.specs.Needed.{TwoRows}
 use Rattle.locking.proofs.Learning.{learned-clock}
-use Rattle.steps.specs.Needed.{ClocksOfFirst}
-use Rattle.steps.specs.Effects.{HoldsClocks}
+use Rattle.barrier.specs.Needed.{ClocksOfFirst}
+use Rattle.barrier.specs.Effects.{HoldsClocks}
 
 -- the first p of n processors have learned
 pub record AllLearning (c₀ c : List ℕ) (n p : ℕ) : Type 0 where

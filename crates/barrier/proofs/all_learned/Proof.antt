@@ -1,8 +1,8 @@
 -- `all_learned` meets its contract: the first k processors have learned. Assumes nothing.
 use Prim.Native.Nat.{_-_}
-use Rattle.steps.proofs.Learning.{AllLearning, learn-laws}
-use Rattle.steps.proofs.all_learned.Statement.{statement}
-use Rattle.steps.proofs.all_learned.Tie as tie
+use Rattle.barrier.proofs.Learning.{AllLearning, learn-laws}
+use Rattle.barrier.proofs.all_learned.Statement.{statement}
+use Rattle.barrier.proofs.all_learned.Tie as tie
 
 abbrev Inv-loop : tie.InvT-loop
 Inv-loop clocks₀ n k₀ clocks k = AllLearning clocks₀ clocks n k

@@ -1,7 +1,7 @@
 -- `want` meets its contract. Assumes nothing.
-use Rattle.steps.proofs.Rounds.{round-laws}
-use Rattle.steps.proofs.want.Statement.{statement}
-use Rattle.steps.proofs.want.Tie as tie
+use Rattle.barrier.proofs.Rounds.{round-laws}
+use Rattle.barrier.proofs.want.Statement.{statement}
+use Rattle.barrier.proofs.want.Tie as tie
 
 pub want-spec : {M : Type 1} → statement M
 want-spec =

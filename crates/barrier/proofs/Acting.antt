@@ -25,8 +25,8 @@ use Rattle.collecting.specs.Effects.{CountedAs}
 use Rattle.locking.specs.Needed.{TwoRows}
 use Rattle.locking.proofs.Acting.{can-close, processor-within}
 use Rattle.locking.proofs.Learning.{learned-clock}
-use Rattle.steps.specs.Needed.{RoundComplete, MarksThere}
-use Rattle.steps.specs.Effects.{ArrivedAll, completed}
+use Rattle.barrier.specs.Needed.{RoundComplete, MarksThere}
+use Rattle.barrier.specs.Effects.{ArrivedAll, completed}
 
 -- ---- at the barrier
 

@@ -22,8 +22,8 @@ use Rattle.memory.specs.Needed.{RowThere}
 use Rattle.memory.proofs.ClockLaws.{clock-written}
 use Rattle.memory.proofs.MarkLaws.{processors-read, wanted-read, arrived-read, wanted-written, arrived-cleared}
 use Rattle.memory.proofs.RowLaws.{length-row, map-replicate}
-use Rattle.steps.specs.Needed.{ClocksOfFirst, MarksThere, RoundThere}
-use Rattle.steps.specs.Effects.{HoldsClocks, ArrivedAll, RoundDone, Wanted}
+use Rattle.barrier.specs.Needed.{ClocksOfFirst, MarksThere, RoundThere}
+use Rattle.barrier.specs.Effects.{HoldsClocks, ArrivedAll, RoundDone, Wanted}
 
 -- ---- whether all processors have arrived
 
