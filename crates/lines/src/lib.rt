@@ -137,32 +137,34 @@ pub fn put_number(out: &mut [u8], at: usize, n: u32) -> usize
 }
 
 // Writes the digits of a number into eight bytes, from the first on, and says how many they are.
-pub fn counter(digits: &mut [u8], number: u32) -> usize
-    requires { ⌜ Eight (now digits) number ⌝ }
-    ensures { λ r. ⌜ Counted (now (digits .exit)) r number ⌝ }
+pub fn counter(bytes: &mut [u8], number: u32) -> usize
+    requires { ⌜ Eight (now bytes) number ⌝ }
+    ensures { λ r. ⌜ Counted (now (bytes .exit)) r number ⌝ }
+    ensures { λ r. ⌜ now (bytes .exit) ≡ sets (now (bytes .entry)) 0 (digits number) ⌝ }
 {
     let len = width(number);
-    put_digits(digits, 0, len, number);
+    put_digits(bytes, 0, len, number);
     len
 }
 
 // The digits of a number, of which there are len, become those of the next, without a division; says how many those are.
 // The number itself is named for the contract alone.
-pub fn count_on(digits: &mut [u8], len: usize, number: u32) -> usize
-    requires { ⌜ Countable (now digits) len number ⌝ }
-    ensures { λ r. ⌜ Counted (now (digits .exit)) r (number + 1) ⌝ }
+pub fn count_on(bytes: &mut [u8], len: usize, number: u32) -> usize
+    requires { ⌜ Countable (now bytes) len number ⌝ }
+    ensures { λ r. ⌜ Counted (now (bytes .exit)) r (number + 1) ⌝ }
+    ensures { λ r. ⌜ now (bytes .exit) ≡ sets (now (bytes .entry)) 0 (digits (number + 1)) ⌝ }
 {
     let mut i = len;
     while 0 < i {
         i = i - 1;
-        if digits[i] < 57 {
-            digits[i] = digits[i] + 1;
+        if bytes[i] < 57 {
+            bytes[i] = bytes[i] + 1;
             return len;
         }
-        digits[i] = 48;
+        bytes[i] = 48;
     }
-    digits[len] = 48;
-    digits[0] = 49;
+    bytes[len] = 48;
+    bytes[0] = 49;
     len + 1
 }
 

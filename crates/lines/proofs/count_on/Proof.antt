@@ -4,10 +4,10 @@ use Rattle.lines.proofs.count_on.Statement.{statement}
 use Rattle.lines.proofs.count_on.Tie as tie
 
 abbrev Inv-loop : tie.InvT-loop
-Inv-loop digits₀ len number i₀ digits i = Carrying digits len number i
+Inv-loop bytes₀ len number i₀ bytes i = Carrying bytes₀ bytes len number i
 
 abbrev μ-loop : tie.MeasureT-loop
-μ-loop digits₀ len number i₀ digits i = i
+μ-loop bytes₀ len number i₀ bytes i = i
 
 pub count-on-spec : {M : Type 1} → statement M
 count-on-spec =

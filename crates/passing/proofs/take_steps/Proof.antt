@@ -20,7 +20,7 @@ add-i c = omega (arith, c .before .before .before .before .before .before .befor
 
 loop-again : tie.Need-loop-again Inv-loop μ-loop
 loop-again c =
-    (running-more _ _ _ _ _ _ _ _ _ _ _ _ _ _ _ _ _ _ (c .before .before .before .before .before .before .before .before .before .before .before .before .before .before .before .before .before .before .before .before .before .loop .inv .0) (search needs) _ _ _ _ _ _ _ (c .before .before .before .before .before .before .before .before .before .before .before .before .before .before .before .step-record .ensures) (c .before .before .before .before .before .put-next .ensures) (search needs) (search needs) (search needs) (search needs), c .before .count-on .ensures)
+    (running-more _ _ _ _ _ _ _ _ _ _ _ _ _ _ _ _ _ _ (c .before .before .before .before .before .before .before .before .before .before .before .before .before .before .before .before .before .before .before .before .before .loop .inv .0) (search needs) _ _ _ _ _ _ _ (c .before .before .before .before .before .before .before .before .before .before .before .before .before .before .before .step-record .ensures) (c .before .before .before .before .before .put-next .ensures) (search needs) (search needs) (search needs) (search needs), c .before .count-on .ensures .0)
 
 pub take-steps-spec : {M : Type 1} → statement M
 take-steps-spec =
