@@ -4,14 +4,14 @@ use native.Mathlib.Omega.{arith}
 use mathlib.Core.Path.{_≡_, refl, sym, ap, _∙_}
 use mathlib.Core.List.{List, map}
 use lib.ListN.{length, getD, take, drop, replicate, length-replicate}
-use lib.Seq.{take-at, length-take-le}
+use lib.Seq.{take-at}
 use lib.Dec.{ltb, eqb}
 use mir.Syntax.{w64}
 use mir.Val.{Fits}
 use borrow.Author.Needs.{needs}
 use Rattle.clock.specs.Clocks.{sumOf}
 use Rattle.rules.specs.Fetch.{sumAt, fetched}
-use Rattle.rules.specs.State.{mainframe, Holder, Applied, Interval, Clocks, clockOf, withClock, State, clock}
+use Rattle.rules.specs.State.{mainframe, Applied, Interval, Clocks, clockOf, withClock, State, clock}
 use Rattle.rules.specs.Tables.{sortBy}
 use Rattle.rules.proofs.Holders.{sameHolder, clock-of-with-other}
 use Rattle.memory.specs.Areas.{clocksIn, stateIn}
@@ -21,7 +21,7 @@ use Rattle.memory.proofs.RowLaws.{length-row}
 use Rattle.pending.specs.Pending.{recordOf, slotsBy}
 use Rattle.fetching.specs.Keys.{keyOf}
 use Rattle.fetching.specs.Slots.{numberIn}
-use Rattle.fetching.specs.Needed.{SlotsSound, Fetchable}
+use Rattle.fetching.specs.Needed.{Fetchable}
 use Rattle.fetching.proofs.Fetching.{on-page}
 use Rattle.fetching.proofs.InState.{slots-sound, page-fits-at}
 use Rattle.ranking.specs.Ranks.{pageNumbers}

@@ -1,6 +1,5 @@
 -- `fetch_from` meets its contract: the page is fetched from its row. Assumes nothing.
 use Rattle.collecting.proofs.Ranked.{ranks-laws}
-use borrow.Author.Needs.{needs}
 use Rattle.collecting.proofs.fetch_from.Statement.{statement}
 use Rattle.collecting.proofs.fetch_from.Tie as tie
 
