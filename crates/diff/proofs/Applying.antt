@@ -9,7 +9,6 @@ use lib.ListN.{length, getD, set, length-set}
 use lib.Seq.{sets, length-sets}
 use borrow.Author.Needs.{needs}
 use borrow.Author.Tests.{eq-eqb, ne-eqb}
-use Rattle.diff.specs.Format.{Run}
 use Rattle.diff.specs.Reading.{runCount, mostRuns, runsAt, runsIn, wordsPlace, wordAt, wordsAt, wordCount, orderly, readRefusal, applied}
 use Rattle.diff.specs.Answers.{applyRefusal, pageAfter}
 use Rattle.diff.specs.Needed.{Applicable, NextThere, RunThere}

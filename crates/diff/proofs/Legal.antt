@@ -1,17 +1,17 @@
 -- Which byte strings are read: what a refusal of 0 means, and that writing and reading a diff undo one another. Assumes nothing.
-use Prim.Native.Nat.{ℕ, zero, suc, _+_, _-_, _*_, _≤_}
+use Prim.Native.Nat.{ℕ, suc, _+_, _-_, _*_, _≤_}
 use native.Mathlib.Nat.{zero-add}
 use native.Mathlib.Numerals.{one-add}
 use native.Mathlib.Omega.{arith}
 use mathlib.Core.Path.{_≡_, refl, sym, ap, _∙_}
 use mathlib.Core.Bool.{Bool, true, false, cond, not}
-use mathlib.Core.Option.{Option, some}
+use mathlib.Core.Option.{Option}
 use mathlib.Core.List.{List, [], _∷_, _++_, append-nil}
 use lib.ListN.{length, take, drop, length-append, length-drop, take-append-drop}
 use lib.Seq.{take-all, drop-at}
 use lib.Dec.{ltb, eqb}
 use borrow.Author.Tests.{ltb-false, eqb-true, eqb-false, not-false, ne-eqb, le-ltb, eq-eqb}
-use Rattle.diff.specs.Format.{Below, Run, runs, setWords, pairBytes, wordsBytes, bytesOf, written}
+use Rattle.diff.specs.Format.{Below, runs, setWords, pairBytes, wordsBytes, bytesOf}
 use Rattle.diff.specs.Reading.{runCount, mostRuns, runsIn, wordsPlace, wordsAt, wordCount, orderly, pairsRefusal, readRefusal, settings}
 use Rattle.diff.proofs.Runs.{runs-of-settings, words-of-settings, settings-of-runs, runs-orderly, words-counted, orderly-bound, orderly-count}
 use Rattle.diff.proofs.Words.{length-words, length-word-bytes, words-read, words-written, length-runs-at, length-pair-bytes, pairs-read, pairs-written}
