@@ -57,7 +57,7 @@ pub fn write_word(
 }
 
 // Takes the twin of the word's page if that is clean, then stores.
-fn store(words: &mut [u32], marks: &mut [u8], p: ProcessorId, w: usize, v: u32)
+pub fn store(words: &mut [u32], marks: &mut [u8], p: ProcessorId, w: usize, v: u32)
     requires { ⌜ WordThere (now words) (now marks) (p .0) w ⌝ }
     ensures { λ _. ⌜ Stored (now (words .entry)) (now (marks .entry)) (now (words .exit)) (now (marks .exit)) (p .0) w v ⌝ }
 {
@@ -87,7 +87,7 @@ fn put_word(words: &mut [u32], p: ProcessorId, w: usize, v: u32)
 }
 
 // The word in a processor's copy.
-fn word_at(words: &[u32], p: ProcessorId, w: usize) -> u32
+pub fn word_at(words: &[u32], p: ProcessorId, w: usize) -> u32
     requires { ⌜ WordIn (now words) (p .0) w ⌝ }
     ensures { λ r. ⌜ r ≡ getD (now (words .entry)) (wordPlace (p .0) w) 0 ⌝ }
 {

@@ -89,7 +89,7 @@ module _ (c c′ r : List ℕ) (p g : ℕ) (v : List ℕ) (e : clocksIn mainfram
       ∙ clock-of-with-other (clocksIn mainframe c) (Applied p g) v (Interval (recordOf r i .processor) (recordOf r i .interval)) refl in
       ap (λ (k : List ℕ). ((sumOf k * 16 + recordOf r i .processor) * 64 + recordOf r i .interval) * 128 + i) same
 
-  numbers-kept : (q n : ℕ) → pageNumbers c′ r q n ≡ pageNumbers c r q n
+  pub numbers-kept : (q n : ℕ) → pageNumbers c′ r q n ≡ pageNumbers c r q n
   unfolding pageNumbers
   numbers-kept q n = ap (λ (f : ℕ → ℕ). sortBy ltb (map f (slotsBy (λ i. eqb (recordOf r i .page) q) n))) (λ j i. number-kept i j)
 
@@ -108,23 +108,26 @@ ranks-kept c w r m l counts p g c′ w′ x k b =
 -- ---- a page fetched from its row
 
 module _ (c w r m l counts : List ℕ) (p g : ℕ) (h : Fetchable c w r m p g) (k : PagesRanked c r m l counts) where
+  page-fits : g < 8
+  page-fits = on-page c w r m p g h .page
+
   -- the page has a count
-  pub from-counted : g < 8
-  from-counted = on-page c w r m p g h .page
+  pub from-counted : g < length counts
+  from-counted = omega (arith, page-fits, k .pages)
 
   -- the places of its row are numbers of a machine word, in words and in bytes
   pub from-fits : Fits w64 (128 * g)
-  from-fits = omega (arith, from-counted)
+  from-fits = omega (arith, page-fits)
 
   pub to-fits : Fits w64 (128 * g + 128)
-  to-fits = omega (arith, from-counted)
+  to-fits = omega (arith, page-fits)
 
   pub bytes-fit : Fits w64 (128 * g * 4)
-  bytes-fit = omega (arith, from-counted)
+  bytes-fit = omega (arith, page-fits)
 
   -- its row lies within the ranks
   pub from-within : 128 * g + 128 ≤ length l
-  from-within = omega (arith, k .whole, from-counted)
+  from-within = omega (arith, k .whole, page-fits)
 
   -- from which it can be fetched
   pub from-fetchable : (n : ℕ) → n ≡ getD counts g 0 → FetchableRanked c w r m p g (take (128 * g + 128 - 128 * g) (drop (128 * g) l)) n
@@ -135,8 +138,8 @@ module _ (c w r m l counts : List ℕ) (p g : ℕ) (h : Fetchable c w r m p g) (
       ap (λ (j : ℕ). take j (drop (128 * g) l)) d in
       record {
         fetchable = h;
-        within = omega (arith, e, k .few g from-counted, ap length row, length-row 128 l g from-within);
-        ranks = rw (e, row) (k .row g from-counted);
+        within = omega (arith, e, k .few g page-fits, ap length row, length-row 128 l g from-within);
+        ranks = rw (e, row) (k .row g page-fits);
       }
 
 pub ruleset ranks-laws = (standing-rankable, standing-there, count-rankable, standing-ranked, from-counted, from-fits, to-fits, bytes-fit, from-within, from-fetchable, needs)

@@ -15,7 +15,7 @@ pub record StandingRankable (c r m l : List ℕ) : Type 0 where
 -- the row of each page begins with the numbers of the page's records, upwards, and `counts` says how many they are
 pub record PagesRanked (c r m l counts : List ℕ) : Type 0 where
   pub whole : length l ≡ 1024
-  pub pages : length counts ≡ 8
+  pub pages : 8 ≤ length counts
   pub few : (g : ℕ) → g < 8 → getD counts g 0 ≤ 128
   pub row : (g : ℕ) → g < 8 → take (getD counts g 0) (rowOf 128 l g) ≡ pageNumbers c r g (getD m 3 0)
 

@@ -32,7 +32,7 @@ fn fetch_all(clocks: &mut [u8], words: &mut [u32], records: &[u8], marks: &[u8])
 {
     let mut ranks = no_ranks();
     let counts = rank_standing(clocks, records, marks, &mut ranks);
-    fetch_each(clocks, words, records, marks, &ranks, counts)
+    fetch_each(clocks, words, records, marks, &ranks, &counts)
 }
 
 // Ranks the records that stand: the row of each page begins with their numbers. Yields how many each page has.
@@ -44,7 +44,7 @@ fn rank_standing(clocks: &[u8], records: &[u8], marks: &[u8], ranks: &mut [u32])
 }
 
 // Room for the number of each record that can stand, for each page.
-fn no_ranks() -> [u32; 1024]
+pub fn no_ranks() -> [u32; 1024]
     ensures { λ r. ⌜ r ≡ replicate 1024 0 ⌝ }
 {
     [0; 1024]
@@ -57,10 +57,10 @@ fn fetch_each(
     records: &[u8],
     marks: &[u8],
     ranks: &[u32],
-    counts: [u8; 8],
+    counts: &[u8],
 ) -> u32
     requires { ⌜ Ready (now clocks) (now words) (now records) (now marks) ⌝ }
-    requires { ⌜ PagesRanked (now clocks) (now records) (now marks) (now ranks) counts ⌝ }
+    requires { ⌜ PagesRanked (now clocks) (now records) (now marks) (now ranks) (now counts) ⌝ }
     ensures { λ r. ⌜ CountedAs (allFetched mainframe (stateIn mainframe (now (clocks .entry)) (now (words .entry)) (now (records .entry)) (now (marks .entry))) (stateIn mainframe (now (clocks .entry)) (now (words .entry)) (now (records .entry)) (now (marks .entry)) .counts .processors)) r (now (clocks .exit)) (now (words .exit)) (now (records .entry)) (now (marks .entry)) ⌝ }
 {
     let n = wide(marks[0]);
@@ -90,13 +90,13 @@ fn fetch_pages(
     records: &[u8],
     marks: &[u8],
     ranks: &[u32],
-    counts: [u8; 8],
+    counts: &[u8],
 ) -> u32
     requires { ⌜ Acts (now clocks) (now words) (now records) (now marks) (p .0) ⌝ }
-    requires { ⌜ PagesRanked (now clocks) (now records) (now marks) (now ranks) counts ⌝ }
+    requires { ⌜ PagesRanked (now clocks) (now records) (now marks) (now ranks) (now counts) ⌝ }
     ensures { λ r. ⌜ CountedAs (pagesFetched mainframe (stateIn mainframe (now (clocks .entry)) (now (words .entry)) (now (records .entry)) (now (marks .entry))) (p .0) (stateIn mainframe (now (clocks .entry)) (now (words .entry)) (now (records .entry)) (now (marks .entry)) .counts .pages)) r (now (clocks .exit)) (now (words .exit)) (now (records .entry)) (now (marks .entry)) ⌝ }
     ensures few { λ r. ⌜ r ≤ 1024 ⌝ }
-    ensures ranked { λ r. ⌜ PagesRanked (now (clocks .exit)) (now (records .entry)) (now (marks .entry)) (now (ranks .entry)) counts ⌝ }
+    ensures ranked { λ r. ⌜ PagesRanked (now (clocks .exit)) (now (records .entry)) (now (marks .entry)) (now (ranks .entry)) (now (counts .entry)) ⌝ }
 {
     let n = wide(marks[1]);
     let mut count: u32 = 0;
@@ -109,7 +109,7 @@ fn fetch_pages(
 }
 
 // Fetches page g for processor p from the row of the page. The count is the records applied.
-fn fetch_from(
+pub fn fetch_from(
     p: ProcessorId,
     g: PageId,
     clocks: &mut [u8],
@@ -117,10 +117,10 @@ fn fetch_from(
     records: &[u8],
     marks: &[u8],
     ranks: &[u32],
-    counts: [u8; 8],
+    counts: &[u8],
 ) -> u32
     requires { ⌜ Fetchable (now clocks) (now words) (now records) (now marks) (p .0) (g .0) ⌝ }
-    requires { ⌜ PagesRanked (now clocks) (now records) (now marks) (now ranks) counts ⌝ }
+    requires { ⌜ PagesRanked (now clocks) (now records) (now marks) (now ranks) (now counts) ⌝ }
     ensures { λ r. ⌜ Brought (now (clocks .entry)) (now (words .entry)) (now (records .entry)) (now (marks .entry)) (p .0) (g .0) (now (clocks .exit)) (now (words .exit)) r ⌝ }
 {
     let at = g.0;

@@ -86,7 +86,7 @@ pub fn step_in_order(
 }
 
 // The refusal of a step, or 0.
-fn refusal_of(
+pub fn refusal_of(
     kind: u32,
     processor: u32,
     object: u32,

@@ -88,7 +88,7 @@ fn run_end(number: u32, from: usize, chunk: usize) -> usize
     from + 8 * numbers
 }
 
-// Takes the steps from a place on to another, on areas in order: the inner loop of the run program.
+// Takes the steps from a place on to another, on areas in order: the inner loop of the run program. The records are ranked once for all of them.
 fn take_steps(
     stand: Stand,
     chunk: &[u8],
@@ -106,10 +106,21 @@ fn take_steps(
     let mut number = stand.number;
     let mut at = stand.at;
     let mut i = from;
+    let mut ranks = collecting::no_ranks();
+    let mut counts = keeping::no_counts();
     let mut digits = [48u8; 8];
     let mut len = lines::counter(&mut digits, number);
     while i < end {
-        let outcome = running::step_record(chunk, i, clocks, words, records, marks);
+        let outcome = keeping::step_record(
+            chunk,
+            i,
+            clocks,
+            words,
+            records,
+            marks,
+            &mut ranks,
+            &mut counts,
+        );
         at = taking::put_next(lines, at, digits, len, number, outcome);
         len = lines::count_on(&mut digits, len, number);
         number = number + 1;

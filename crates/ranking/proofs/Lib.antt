@@ -1,3 +1,4 @@
 pub mod Picking
 pub mod Putting
+pub mod Listing
 pub mod Bringing

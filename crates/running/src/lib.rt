@@ -145,15 +145,15 @@ fn run_step(
 }
 
 // The four fields of a step.
-struct Fields {
-    kind: u32,
-    processor: u32,
-    object: u32,
-    value: u32,
+pub struct Fields {
+    pub kind: u32,
+    pub processor: u32,
+    pub object: u32,
+    pub value: u32,
 }
 
 // The fields of the record from a place on.
-fn fields_at(bytes: &[u8], at: usize) -> Fields
+pub fn fields_at(bytes: &[u8], at: usize) -> Fields
     requires { ⌜ at + 8 ≤ length (now bytes) ⌝ }
     ensures { λ r. ⌜ FieldsAre (now (bytes .entry)) at (r .kind) (r .processor) (r .object) (r .value) ⌝ }
 {

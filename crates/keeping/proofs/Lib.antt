@@ -1,0 +1,4 @@
+pub mod Standing
+pub mod Ranks
+pub mod Fetching
+pub mod Acting
