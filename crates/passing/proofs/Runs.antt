@@ -5,15 +5,15 @@ use native.Mathlib.Omega.{arith}
 use mathlib.Core.Path.{_∙_, _≡_, ap, refl, sym}
 use mathlib.Core.Bool.{Bool, false, not, true}
 use mathlib.Core.List.{List, []}
-use lib.ListN.{drop, length, take}
+use lib.ListN.{drop, length, length-replicate, replicate, take}
 use borrow.Author.Tests.{not-false}
 use borrow.Author.Needs.{needs}
 use Rattle.rules.specs.State.{mainframe}
 use Rattle.memory.specs.Areas.{stateIn, areas}
-use Rattle.engine.specs.Promises.{SteppedAs}
 use Rattle.acting.specs.declared.Outcome.{Outcome}
-use Rattle.running.specs.Needed.{StepThere}
 use Rattle.running.specs.Records.{stepFrom}
+use Rattle.keeping.specs.Needed.{RanksKept, StepKept, SteppedKept}
+use Rattle.keeping.proofs.Ranks.{none-kept}
 use Rattle.lines.specs.Needed.{Countable, Counted, Room}
 use Rattle.taking.specs.Needed.{LinePut, Steppable, Takeable, outcomeLine, standsAt}
 use Rattle.taking.specs.declared.Stand.{Stand}
@@ -22,12 +22,13 @@ use Rattle.passing.specs.Bytes.{bytesTaken}
 use Rattle.passing.specs.Needed.{Ahead, Passable, Passing, Runnable}
 use Rattle.passing.proofs.Passing.{clocks-sized, lines-sized, marks-sized, passing-begins, passing-more, record-takeable, records-sized, words-sized}
 
--- the steps up to a place are taken, from this number on to that, and there are more up to the end
-pub record Running (number₀ at₀ : ℕ) (chunk : List ℕ) (from end : ℕ) (out₀ c₀ w₀ r₀ m₀ : List ℕ) (number at i : ℕ) (out c w r m : List ℕ) : Type 0 where
+-- the steps up to a place are taken, from this number on to that, there are more up to the end, and the ranks are kept
+pub record Running (number₀ at₀ : ℕ) (chunk : List ℕ) (from end : ℕ) (out₀ c₀ w₀ r₀ m₀ : List ℕ) (number at i : ℕ) (out c w r m l n : List ℕ) : Type 0 where
   pub passing :
       Passing (record { number = number₀; stopped = false; ready = true; at = at₀ }) chunk from out₀ c₀ w₀ r₀ m₀ (record { number = number; stopped = false; ready = true; at = at }) i out c w r m
   pub ahead : Ahead number i end (length chunk)
   pub opened : 1 ≤ number
+  pub kept : RanksKept c r m l n
 
 module _ (s : Stand) (chunk : List ℕ) (from end : ℕ) (out c w r m : List ℕ) where
   -- what the loop asks
@@ -37,8 +38,8 @@ module _ (s : Stand) (chunk : List ℕ) (from end : ℕ) (out c w r m : List ℕ
 
   module _ (h : Runnable s chunk from end out c w r m) where
     -- none is taken yet
-    pub running-begins : Running (s .number) (s .at) chunk from end out c w r m (s .number) (s .at) from out c w r m
-    running-begins =
+    pub running-begins : (l n : List ℕ) → l ≡ replicate 1024 0 → n ≡ replicate 9 0 → Running (s .number) (s .at) chunk from end out c w r m (s .number) (s .at) from out c w r m l n
+    running-begins l n el en =
         record {
           passing =
               passing-begins (record { number = s .number; stopped = false; ready = true; at = s .at }) chunk from out c w r m
@@ -50,13 +51,14 @@ module _ (s : Stand) (chunk : List ℕ) (from end : ℕ) (out c w r m : List ℕ
               });
           ahead = h .ahead;
           opened = h .opened;
+          kept = rw en (none-kept c r m l (ap length el ∙ length-replicate {A = ℕ} 1024 0));
         }
 
     -- the steps so far lead from the first stand to this one
-    pub running-ends : (number at i : ℕ) (out′ c′ w′ r′ m′ : List ℕ) → Running (s .number) (s .at) chunk from end out c w r m number at i out′ c′ w′ r′ m′
+    pub running-ends : (number at i : ℕ) (out′ c′ w′ r′ m′ l n : List ℕ) → Running (s .number) (s .at) chunk from end out c w r m number at i out′ c′ w′ r′ m′ l n
         → Passing s chunk from out c w r m (record { number = number; stopped = false; ready = true; at = at }) i out′ c′ w′ r′ m′
     unfolding standsAt
-    running-ends number at i out′ c′ w′ r′ m′ k =
+    running-ends number at i out′ c′ w′ r′ m′ l n k =
         record {
           able = k .passing .able;
           is =
@@ -70,26 +72,26 @@ module _ (s : Stand) (chunk : List ℕ) (from end : ℕ) (out c w r m : List ℕ
           marks = k .passing .marks;
         }
 
-module _ (number₀ at₀ : ℕ) (chunk : List ℕ) (from end : ℕ) (out₀ c₀ w₀ r₀ m₀ : List ℕ) (number at i : ℕ) (out c w r m : List ℕ)
-    (h : Running number₀ at₀ chunk from end out₀ c₀ w₀ r₀ m₀ number at i out c w r m) where
+module _ (number₀ at₀ : ℕ) (chunk : List ℕ) (from end : ℕ) (out₀ c₀ w₀ r₀ m₀ : List ℕ) (number at i : ℕ) (out c w r m l n : List ℕ)
+    (h : Running number₀ at₀ chunk from end out₀ c₀ w₀ r₀ m₀ number at i out c w r m l n) where
   -- they are records taken one after the other
   pub running-passes : Passing (record { number = number₀; stopped = false; ready = true; at = at₀ }) chunk from out₀ c₀ w₀ r₀ m₀ (record { number = number; stopped = false; ready = true; at = at }) i out c w r m
   running-passes = h .passing
 
-  module _ (l : i < end) where
+  module _ (b : i < end) where
     -- the next record stands in the chunk, and is a step
     next-within : i + 8 ≤ length chunk
-    next-within = omega (arith, l, h .ahead .whole, h .ahead .within)
+    next-within = omega (arith, b, h .ahead .whole, h .ahead .within)
 
     next-numbered : number ≤ 1000000
-    next-numbered = omega (arith, l, h .ahead .whole, h .ahead .few)
+    next-numbered = omega (arith, b, h .ahead .whole, h .ahead .few)
 
     next-steppable : Steppable true chunk i c w r m
     next-steppable = record { there = next-within; order = h .passing .able .order }
 
     -- what its step and its line ask
-    pub next-there : StepThere chunk i c w r m
-    next-there = step-there true chunk i c w r m next-steppable refl
+    pub next-there : StepKept chunk i c w r m l n
+    next-there = record { there = step-there true chunk i c w r m next-steppable refl; kept = h .kept }
 
     pub room-for-next : Room out at 44
     room-for-next = record { room = omega (arith, next-within, h .passing .able .room) }
@@ -99,17 +101,17 @@ module _ (number₀ at₀ : ℕ) (chunk : List ℕ) (from end : ℕ) (out₀ c�
     next-countable d len k = record { now-counted = k; few = omega (arith, next-numbered) }
 
     -- one more is taken
-    pub running-more : (o : Outcome) (c′ w′ r′ m′ out′ : List ℕ) (at′ : ℕ) → SteppedAs (stateIn mainframe c w r m) (stepFrom (drop i chunk)) o c′ w′ r′ m′
+    pub running-more : (o : Outcome) (c′ w′ r′ m′ l′ n′ out′ : List ℕ) (at′ : ℕ) → SteppedKept (stateIn mainframe c w r m) (stepFrom (drop i chunk)) o c′ w′ r′ m′ l′ n′
         → LinePut out at (outcomeLine number o) out′ at′
         → length c′ ≡ length c → length w′ ≡ length w → length r′ ≡ length r → length m′ ≡ length m
-        → Running number₀ at₀ chunk from end out₀ c₀ w₀ r₀ m₀ (number + 1) at′ (i + 8) out′ c′ w′ r′ m′
-    running-more o c′ w′ r′ m′ out′ at′ d k ec ew er em =
+        → Running number₀ at₀ chunk from end out₀ c₀ w₀ r₀ m₀ (number + 1) at′ (i + 8) out′ c′ w′ r′ m′ l′ n′
+    running-more o c′ w′ r′ m′ l′ n′ out′ at′ d k ec ew er em =
         let s₀ : Stand = record { number = number₀; stopped = false; ready = true; at = at₀ } in
         let s : Stand = record { number = number; stopped = false; ready = true; at = at } in
         let s′ : Stand = record { number = number + 1; stopped = false; ready = true; at = at′ } in
         let left : 8 ≤ length chunk - i = omega (arith, next-within) in
         let able : Takeable s chunk i out c w r m = record-takeable s₀ chunk from out₀ c₀ w₀ r₀ m₀ s i out c w r m (h .passing) left in
-        let answered = step-in-order true chunk i c w r m next-steppable refl o c′ w′ r′ m′ d in
+        let answered = step-in-order true chunk i c w r m next-steppable refl o c′ w′ r′ m′ (d .stepped) in
         let taken = step-taken s chunk i out c w r m o c′ w′ r′ m′ out′ at′ (record { takeable = able; fewer = next-numbered }) answered k in
         record {
           passing =
@@ -117,12 +119,20 @@ module _ (number₀ at₀ : ℕ) (chunk : List ℕ) (from end : ℕ) (out₀ c�
               (next-is-step s chunk i out c w r m s′ out′ c′ w′ r′ m′ (λ z. omega (arith, h .opened, z)) next-numbered taken) ec ew er em;
           ahead =
               record {
-                on = omega (arith, l, h .ahead .whole);
-                whole = omega (arith, l, h .ahead .whole);
+                on = omega (arith, b, h .ahead .whole);
+                whole = omega (arith, b, h .ahead .whole);
                 within = h .ahead .within;
-                few = omega (arith, l, h .ahead .whole, h .ahead .few);
+                few = omega (arith, b, h .ahead .whole, h .ahead .few);
               };
           opened = omega arith;
+          kept = d .kept;
         }
 
-pub ruleset run-laws = (passing-begins, lines-sized, clocks-sized, words-sized, records-sized, marks-sized, runnable, running-begins, running-ends, running-passes, next-there, room-for-next, next-countable, needs)
+  -- the ranks keep their sizes
+  pub ranks-sized : length l ≡ 1024
+  ranks-sized = h .kept .ranked .whole
+
+  pub counts-sized : length n ≡ 9
+  counts-sized = h .kept .long
+
+pub ruleset run-laws = (passing-begins, lines-sized, clocks-sized, words-sized, records-sized, marks-sized, runnable, running-begins, running-ends, running-passes, next-there, ranks-sized, counts-sized, room-for-next, next-countable, needs)
