@@ -4,7 +4,7 @@ use Prim.Native.Nat.{ℕ, suc, _+_, _-_, _*_, _≤_, _<_}
 use native.Mathlib.Numerals.{add-one}
 use native.Mathlib.Omega.{arith}
 use mathlib.Core.Path.{_≡_, refl, sym, ap, _∙_}
-use mathlib.Core.Bool.{Bool, true, false, not, false≢true}
+use mathlib.Core.Bool.{Bool, true, false, not, _&&_}
 use mathlib.Core.List.{List, _++_, map, append-assoc}
 use lib.ListN.{length, getD, take, drop, set, length-drop, length-set, replicate, length-replicate}
 use lib.Seq.{length-take-le, drop-drop, sets, length-sets, sets-eq}
@@ -15,7 +15,6 @@ use Rattle.rules.specs.State.{mainframe, Barrier, Clocks, withClock, cleared, h
 use Rattle.rules.specs.Steps.{allArrived, allLearned, roundDone, wantsCollection, want}
 use Rattle.rules.specs.Tables.{every}
 use Rattle.rules.proofs.Facts.{Within}
-use Rattle.rules.proofs.Tables.{every-at}
 use Rattle.memory.specs.Areas.{clockRow, arrivedPlace, clocksIn, stateIn}
 use Rattle.memory.specs.Layout.{rowOf}
 use Rattle.memory.specs.Needed.{RowThere}
@@ -27,16 +26,25 @@ use Rattle.barrier.specs.Effects.{HoldsClocks, ArrivedAll, RoundDone, Wa
 
 -- ---- whether all processors have arrived
 
--- the first k of n processors have arrived
-pub record Arriving (m : List ℕ) (n k : ℕ) : Type 0 where
+-- one that has not arrived, and one that has
+pub still-missing : (b : Bool) (x : ℕ) → x ≡ 0 → false ≡ (b && not (eqb x 0))
+still-missing true x e = rw (eq-eqb x 0 e)
+still-missing false x e = refl
+
+pub still-here : (b : Bool) (x : ℕ) → (x ≡ 0 → ⊥) → b ≡ (b && not (eqb x 0))
+still-here true x e = rw (ne-eqb x 0 e)
+still-here false x e = refl
+
+-- b says whether the first k of n processors have arrived
+pub record Arriving (m : List ℕ) (n : ℕ) (b : Bool) (k : ℕ) : Type 0 where
   pub marks : length m ≡ 93
   pub few : n ≤ 8
   pub count : n ≡ getD m 0 0
   pub upto : k ≤ n
-  pub first : (c w r : List ℕ) → every k (λ j. hasArrived (stateIn mainframe c w r m) (suc j)) ≡ true
+  pub first : (c w r : List ℕ) → every k (λ j. hasArrived (stateIn mainframe c w r m) (suc j)) ≡ b
 
 -- none was looked at yet
-pub arriving-begins : (m : List ℕ) (n : ℕ) → MarksThere m → n ≡ getD m 0 0 → Arriving m n 0
+pub arriving-begins : (m : List ℕ) (n : ℕ) → MarksThere m → n ≡ getD m 0 0 → Arriving m n true 0
 unfolding every
 arriving-begins m n h e = record { marks = h .marks; few = omega (arith, h .few); count = e; upto = omega arith; first = λ c w r. refl }
 
@@ -46,38 +54,22 @@ mark-read c w r m k h =
     let at : 4 + suc k ≡ 5 + k = omega arith in
     ap (λ (x : ℕ). not (eqb x 0)) (arrived-read c w r m (suc k) (omega arith) (omega arith) ∙ ap (λ (j : ℕ). getD m j 0) at)
 
--- one has not arrived
-pub arriving-missing : (m : List ℕ) (n k : ℕ) → Arriving m n k → k < n → getD m (5 + k) 0 ≡ 0 → ArrivedAll m false
-unfolding allArrived
-arriving-missing m n k a h e = record { is = λ c w r. sym (go c w r (allArrived (stateIn mainframe c w r m)) refl) }
-  where
-    go : (c w r : List ℕ) (b : Bool) → allArrived (stateIn mainframe c w r m) ≡ b → allArrived (stateIn mainframe c w r m) ≡ false
-    go c w r false z = z
-    go c w r true z =
-        let there : k < stateIn mainframe c w r m .counts .processors = omega (arith, processors-read c w r m, a .count) in
-        let yes-mark = every-at (stateIn mainframe c w r m .counts .processors) (λ j. hasArrived (stateIn mainframe c w r m) (suc j)) k z there in
-        let no-mark : hasArrived (stateIn mainframe c w r m) (suc k) ≡ false = mark-read c w r m k (omega (arith, a .few)) ∙ rw (eq-eqb (getD m (5 + k) 0) 0 e) in
-        absurd (false≢true (sym no-mark ∙ yes-mark))
-
--- one more has arrived
-pub arriving-more : (m : List ℕ) (n k : ℕ) → Arriving m n k → k < n → (getD m (5 + k) 0 ≡ 0 → ⊥) → Arriving m n (k + 1)
+-- one more was looked at
+pub arriving-more : (m : List ℕ) (n : ℕ) (b d : Bool) (k : ℕ) → Arriving m n b k → k < n → d ≡ (b && not (eqb (getD m (5 + k) 0) 0)) → Arriving m n d (k + 1)
 unfolding every
-arriving-more m n k a h e =
+arriving-more m n b d k a h e =
     record {
       marks = a .marks;
       few = a .few;
       count = a .count;
       upto = omega arith;
-      first =
-          λ c w r.
-          rw (add-one k)
-          (rw (a .first c w r, mark-read c w r m k (omega (arith, a .few)), ne-eqb (getD m (5 + k) 0) 0 e));
+      first = λ c w r. rw (add-one k) (rw (a .first c w r, mark-read c w r m k (omega (arith, a .few)), e));
     }
 
--- all have arrived
-pub arriving-ends : (m : List ℕ) (n k : ℕ) → Arriving m n k → n ≤ k → ArrivedAll m true
+-- all were
+pub arriving-ends : (m : List ℕ) (n : ℕ) (b : Bool) (k : ℕ) → Arriving m n b k → n ≤ k → ArrivedAll m b
 unfolding allArrived
-arriving-ends m n k a h =
+arriving-ends m n b k a h =
     record {
       is =
           λ c w r.
@@ -152,4 +144,4 @@ wish-kept m h e =
       is = λ c w r. rw (wanted-read c w r m, ne-eqb (getD m 4 0) 0 e);
     }
 
-pub ruleset round-laws = (arriving-begins, arriving-missing, arriving-more, arriving-ends, arrived-part, learners-there, barrier-row-there, round-done, wish-set, wish-kept, needs)
+pub ruleset round-laws = (still-missing, still-here, arriving-begins, arriving-more, arriving-ends, arrived-part, learners-there, barrier-row-there, round-done, wish-set, wish-kept, needs)

@@ -1,9 +1,11 @@
 // Arriving at the barrier, which may complete a round, and wanting a collection, on lent memory that holds a state in order.
 // The contracts say in the words of the rules (specs/Steps.antt of the crate rules) what state the areas hold afterwards.
 ghost use mathlib.Core.Path.{_≡_};
+ghost use mathlib.Core.Bool.{not, _&&_};
 ghost use Prim.Native.Nat.{_<_};
 ghost use lib.ListN.{length, replicate};
 ghost use lib.Seq.{sets};
+ghost use lib.Dec.{eqb};
 ghost use Rattle.rules.specs.State.{mainframe};
 ghost use Rattle.rules.specs.Steps.{atBarrier, allLearned, arrive};
 ghost use Rattle.memory.specs.Areas.{clocksIn, stateIn};
@@ -63,20 +65,26 @@ fn at_barrier(
     marks[4 + p.0] = 1;
 }
 
-// Whether all processors have arrived.
+// Whether all processors have arrived. Every mark is looked at: where the first one missing stands nobody can foresee.
 fn all_arrived(marks: &[u8]) -> bool
     requires { ⌜ MarksThere (now marks) ⌝ }
     ensures { λ r. ⌜ ArrivedAll (now (marks .entry)) r ⌝ }
 {
     let n = wide(marks[0]);
+    let mut all = true;
     let mut k: usize = 0;
     while k < n {
-        if marks[5 + k] == 0 {
-            return false;
-        }
+        all = still(all, marks[5 + k]);
         k = k + 1;
     }
-    true
+    all
+}
+
+// Whether all before have arrived, and this one has.
+fn still(before: bool, mark: u8) -> bool
+    ensures { λ r. ⌜ r ≡ (before && not (eqb mark 0)) ⌝ }
+{
+    if mark == 0 { false } else { before }
 }
 
 // Completes a round, and collects garbage if that is wanted. Yields how many records were applied.
