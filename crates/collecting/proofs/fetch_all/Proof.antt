@@ -1,7 +1,7 @@
+-- `fetch_all` meets its contract: the records are ranked, and each processor fetches each page from them. Assumes nothing.
 use Rattle.collecting.proofs.Ranked.{ranks-laws}
 use Rattle.collecting.proofs.fetch_all.Statement.{statement}
 use Rattle.collecting.proofs.fetch_all.Tie as tie
-use borrow.Author.Needs.{needs}
 
 pub fetch-all-spec : {M : Type 1} → statement M
 fetch-all-spec =
