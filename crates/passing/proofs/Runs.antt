@@ -128,11 +128,4 @@ module _ (number₀ at₀ : ℕ) (chunk : List ℕ) (from end : ℕ) (out₀ c�
           kept = d .kept;
         }
 
-  -- the ranks keep their sizes
-  pub ranks-sized : length l ≡ 1024
-  ranks-sized = h .kept .ranked .whole
-
-  pub counts-sized : length n ≡ 9
-  counts-sized = h .kept .long
-
-pub ruleset run-laws = (passing-begins, lines-sized, clocks-sized, words-sized, records-sized, marks-sized, runnable, running-begins, running-ends, running-passes, next-there, ranks-sized, counts-sized, room-for-next, next-countable, needs)
+pub ruleset run-laws = (passing-begins, lines-sized, clocks-sized, words-sized, records-sized, marks-sized, runnable, running-begins, running-ends, running-passes, next-there, room-for-next, next-countable, needs)
