@@ -1,4 +1,5 @@
 pub mod Standing
+pub mod Limits
 pub mod Ranks
 pub mod Fetching
 pub mod Acting

@@ -7,6 +7,8 @@ use mathlib.Core.Bool.{Bool, false, not, true}
 use mathlib.Core.List.{List, []}
 use lib.ListN.{drop, length, length-replicate, replicate, take}
 use borrow.Author.Tests.{not-false}
+use mir.Syntax.{w32, w64}
+use mir.Val.{Fits}
 use borrow.Author.Needs.{needs}
 use Rattle.rules.specs.State.{mainframe}
 use Rattle.memory.specs.Areas.{stateIn, areas}
@@ -23,12 +25,12 @@ use Rattle.passing.specs.Needed.{Ahead, Passable, Passing, Runnable}
 use Rattle.passing.proofs.Passing.{clocks-sized, lines-sized, marks-sized, passing-begins, passing-more, record-takeable, records-sized, words-sized}
 
 -- the steps up to a place are taken, from this number on to that, there are more up to the end, and the ranks are kept
-pub record Running (number₀ at₀ : ℕ) (chunk : List ℕ) (from end : ℕ) (out₀ c₀ w₀ r₀ m₀ : List ℕ) (number at i : ℕ) (out c w r m l n : List ℕ) : Type 0 where
+pub record Running (number₀ at₀ : ℕ) (chunk : List ℕ) (from end : ℕ) (out₀ c₀ w₀ r₀ m₀ : List ℕ) (number at i : ℕ) (out c w r m l n lim : List ℕ) : Type 0 where
   pub passing :
       Passing (record { number = number₀; stopped = false; ready = true; at = at₀ }) chunk from out₀ c₀ w₀ r₀ m₀ (record { number = number; stopped = false; ready = true; at = at }) i out c w r m
   pub ahead : Ahead number i end (length chunk)
   pub opened : 1 ≤ number
-  pub kept : RanksKept c r m l n
+  pub kept : RanksKept c r m l n lim
 
 module _ (s : Stand) (chunk : List ℕ) (from end : ℕ) (out c w r m : List ℕ) where
   -- what the loop asks
@@ -38,8 +40,9 @@ module _ (s : Stand) (chunk : List ℕ) (from end : ℕ) (out c w r m : List ℕ
 
   module _ (h : Runnable s chunk from end out c w r m) where
     -- none is taken yet
-    pub running-begins : (l n : List ℕ) → l ≡ replicate 1024 0 → n ≡ replicate 9 0 → Running (s .number) (s .at) chunk from end out c w r m (s .number) (s .at) from out c w r m l n
-    running-begins l n el en =
+    pub running-begins : (l n lim : List ℕ) → l ≡ replicate 1024 0 → n ≡ replicate 9 0 → lim ≡ replicate 64 0
+        → Running (s .number) (s .at) chunk from end out c w r m (s .number) (s .at) from out c w r m l n lim
+    running-begins l n lim el en ei =
         record {
           passing =
               passing-begins (record { number = s .number; stopped = false; ready = true; at = s .at }) chunk from out c w r m
@@ -51,14 +54,14 @@ module _ (s : Stand) (chunk : List ℕ) (from end : ℕ) (out c w r m : List ℕ
               });
           ahead = h .ahead;
           opened = h .opened;
-          kept = rw en (none-kept c r m l (ap length el ∙ length-replicate {A = ℕ} 1024 0));
+          kept = rw en (none-kept c r m l lim (ap length el ∙ length-replicate {A = ℕ} 1024 0) (ap length ei ∙ length-replicate {A = ℕ} 64 0));
         }
 
     -- the steps so far lead from the first stand to this one
-    pub running-ends : (number at i : ℕ) (out′ c′ w′ r′ m′ l n : List ℕ) → Running (s .number) (s .at) chunk from end out c w r m number at i out′ c′ w′ r′ m′ l n
+    pub running-ends : (number at i : ℕ) (out′ c′ w′ r′ m′ l n lim : List ℕ) → Running (s .number) (s .at) chunk from end out c w r m number at i out′ c′ w′ r′ m′ l n lim
         → Passing s chunk from out c w r m (record { number = number; stopped = false; ready = true; at = at }) i out′ c′ w′ r′ m′
     unfolding standsAt
-    running-ends number at i out′ c′ w′ r′ m′ l n k =
+    running-ends number at i out′ c′ w′ r′ m′ l n lim k =
         record {
           able = k .passing .able;
           is =
@@ -72,8 +75,8 @@ module _ (s : Stand) (chunk : List ℕ) (from end : ℕ) (out c w r m : List ℕ
           marks = k .passing .marks;
         }
 
-module _ (number₀ at₀ : ℕ) (chunk : List ℕ) (from end : ℕ) (out₀ c₀ w₀ r₀ m₀ : List ℕ) (number at i : ℕ) (out c w r m l n : List ℕ)
-    (h : Running number₀ at₀ chunk from end out₀ c₀ w₀ r₀ m₀ number at i out c w r m l n) where
+module _ (number₀ at₀ : ℕ) (chunk : List ℕ) (from end : ℕ) (out₀ c₀ w₀ r₀ m₀ : List ℕ) (number at i : ℕ) (out c w r m l n lim : List ℕ)
+    (h : Running number₀ at₀ chunk from end out₀ c₀ w₀ r₀ m₀ number at i out c w r m l n lim) where
   -- they are records taken one after the other
   pub running-passes : Passing (record { number = number₀; stopped = false; ready = true; at = at₀ }) chunk from out₀ c₀ w₀ r₀ m₀ (record { number = number; stopped = false; ready = true; at = at }) i out c w r m
   running-passes = h .passing
@@ -86,11 +89,19 @@ module _ (number₀ at₀ : ℕ) (chunk : List ℕ) (from end : ℕ) (out₀ c�
     next-numbered : number ≤ 1000000
     next-numbered = omega (arith, b, h .ahead .whole, h .ahead .few)
 
+    -- the next number is one of 32 bits
+    pub next-fits : Fits w32 (number + 1)
+    next-fits = omega (arith, next-numbered)
+
+    -- and its place one of 64
+    pub next-place : Fits w64 end → Fits w64 (i + 8)
+    next-place e = omega (arith, e, b, h .ahead .whole)
+
     next-steppable : Steppable true chunk i c w r m
     next-steppable = record { there = next-within; order = h .passing .able .order }
 
     -- what its step and its line ask
-    pub next-there : StepKept chunk i c w r m l n
+    pub next-there : StepKept chunk i c w r m l n lim
     next-there = record { there = step-there true chunk i c w r m next-steppable refl; kept = h .kept }
 
     pub room-for-next : Room out at 44
@@ -101,11 +112,12 @@ module _ (number₀ at₀ : ℕ) (chunk : List ℕ) (from end : ℕ) (out₀ c�
     next-countable d len k = record { now-counted = k; few = omega (arith, next-numbered) }
 
     -- one more is taken
-    pub running-more : (o : Outcome) (c′ w′ r′ m′ l′ n′ out′ : List ℕ) (at′ : ℕ) → SteppedKept (stateIn mainframe c w r m) (stepFrom (drop i chunk)) o c′ w′ r′ m′ l′ n′
+    pub running-more : (o : Outcome) (c′ w′ r′ m′ l′ n′ lim′ out′ : List ℕ) (at′ : ℕ)
+        → SteppedKept (stateIn mainframe c w r m) (stepFrom (drop i chunk)) o c′ w′ r′ m′ l′ n′ lim′
         → LinePut out at (outcomeLine number o) out′ at′
         → length c′ ≡ length c → length w′ ≡ length w → length r′ ≡ length r → length m′ ≡ length m
-        → Running number₀ at₀ chunk from end out₀ c₀ w₀ r₀ m₀ (number + 1) at′ (i + 8) out′ c′ w′ r′ m′ l′ n′
-    running-more o c′ w′ r′ m′ l′ n′ out′ at′ d k ec ew er em =
+        → Running number₀ at₀ chunk from end out₀ c₀ w₀ r₀ m₀ (number + 1) at′ (i + 8) out′ c′ w′ r′ m′ l′ n′ lim′
+    running-more o c′ w′ r′ m′ l′ n′ lim′ out′ at′ d k ec ew er em =
         let s₀ : Stand = record { number = number₀; stopped = false; ready = true; at = at₀ } in
         let s : Stand = record { number = number; stopped = false; ready = true; at = at } in
         let s′ : Stand = record { number = number + 1; stopped = false; ready = true; at = at′ } in
@@ -128,4 +140,4 @@ module _ (number₀ at₀ : ℕ) (chunk : List ℕ) (from end : ℕ) (out₀ c�
           kept = d .kept;
         }
 
-pub ruleset run-laws = (passing-begins, lines-sized, clocks-sized, words-sized, records-sized, marks-sized, runnable, running-begins, running-ends, running-passes, next-there, room-for-next, next-countable, needs)
+pub ruleset run-laws = (passing-begins, lines-sized, clocks-sized, words-sized, records-sized, marks-sized, runnable, running-begins, running-ends, running-passes, next-there, next-fits, room-for-next, next-countable, needs)

@@ -108,6 +108,7 @@ fn take_steps(
     let mut i = from;
     let mut ranks = collecting::no_ranks();
     let mut counts = keeping::no_counts();
+    let mut limits = keeping::no_limits();
     let mut digits = [48u8; 8];
     let mut len = lines::counter(&mut digits, number);
     while i < end {
@@ -120,6 +121,7 @@ fn take_steps(
             marks,
             &mut ranks,
             &mut counts,
+            &mut limits,
         );
         at = taking::put_next(lines, at, digits, len, number, outcome);
         len = lines::count_on(&mut digits, len, number);
