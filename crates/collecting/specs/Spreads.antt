@@ -1,0 +1,32 @@
+-- What a collection does in its own order: which records each row of the words gets, page by page, and then the applied clocks settled. Assumes
+-- nothing.
+use Prim.Native.Nat.{ℕ, zero, suc, _*_}
+use mathlib.Core.List.{List}
+use lib.ListN.{getD, take}
+use lib.Seq.{sets}
+use Rattle.rules.specs.State.{mainframe, Record}
+use Rattle.memory.specs.Areas.{appliedRow}
+use Rattle.memory.specs.Layout.{rowOf}
+use Rattle.spreading.specs.Spread.{allBelow, numbersTo}
+
+-- ---- the words
+
+-- what row j gets of the ranked records of page g, for the copies of the first n processors
+unfoldable pub pageTo : List ℕ → List ℕ → List ℕ → List ℕ → ℕ → ℕ → ℕ → List Record
+pageTo c r l counts n g j = numbersTo c r n g (take (getD counts g 0) (rowOf 128 l g)) j
+
+-- what it gets of those of the first `pages`
+unfoldable pub pagesTo : List ℕ → List ℕ → List ℕ → List ℕ → ℕ → ℕ → ℕ → List Record
+pagesTo c r l counts n pages j = allBelow pages (λ g. pageTo c r l counts n g j)
+
+-- ---- the clocks
+
+-- the applied clocks of the first `pages` of processor p become the processor's clock
+unfoldable pub settledPages : List ℕ → ℕ → ℕ → List ℕ
+settledPages c p zero = c
+settledPages c p (suc g) = sets (settledPages c p g) (8 * appliedRow mainframe p g) (rowOf 8 c p)
+
+-- so for each of the first n processors
+unfoldable pub settledAll : List ℕ → ℕ → ℕ → List ℕ
+settledAll c zero pages = c
+settledAll c (suc k) pages = settledPages (settledAll c k pages) (suc k) pages
