@@ -1,21 +1,21 @@
--- The two orders agree: laid record by record into all copies, each row of the words gets what it gets in the rules' order. Rests on Order.
--- Assumes nothing.
-use Prim.Native.Nat.{ℕ, zero, suc, _+_, _*_, _/_, _%_, _≤_, _<_}
+-- The two orders agree: laid record by record into all copies, each row of the words gets what it gets in the rules' order. Assumes
+-- nothing.
+use Prim.Native.Nat.{ℕ, suc, _+_, _*_, _/_, _%_, _≤_, _<_}
 use native.Mathlib.Numerals.{add-one}
 use native.Mathlib.Omega.{arith}
-use native.Mathlib.Decide.{decLt, ℕ-discrete}
+use native.Mathlib.Decide.{ℕ-discrete}
 use mathlib.Core.Path.{_≡_, refl, sym, ap, ap₂, _∙_}
 use mathlib.Core.Bool.{Bool, true, false, cond, not, _&&_}
-use mathlib.Core.List.{List, [], _∷_, _++_, map, append-nil}
-use lib.ListN.{length, getD, take}
+use mathlib.Core.List.{List, [], _∷_, _++_}
+use lib.ListN.{getD, take}
 use lib.Dec.{leb, ltb, eqb}
-use borrow.Author.Tests.{ltb-true, lt-ltb, le-ltb, eq-eqb, ne-eqb}
+use borrow.Author.Tests.{ltb-true, eq-eqb, ne-eqb}
 use Rattle.clock.specs.Clocks.{entryOf}
 use Rattle.rules.specs.State.{mainframe, Processor, Applied, Record}
 use Rattle.rules.specs.Tables.{select}
 use Rattle.rules.proofs.Facts.{Within}
 use Rattle.rules.proofs.Selected.{Each}
-use Rattle.memory.specs.Areas.{appliedRow, clockRow, copyRow, stateIn}
+use Rattle.memory.specs.Areas.{appliedRow, clockRow, copyRow}
 use Rattle.memory.specs.Layout.{rowOf}
 use Rattle.memory.specs.Needed.{Ready, OnPage}
 use Rattle.memory.proofs.ClockLaws.{clock-read}
@@ -30,40 +30,10 @@ use Rattle.ranking.specs.Ranks.{newsBetween, newsTo, duePicked}
 use Rattle.ranking.specs.Needed.{PickThere, FetchableRanked}
 use Rattle.ranking.proofs.Picking.{due-picked}
 use Rattle.ranking.proofs.Bringing.{ranked-pickable}
-use Rattle.spreading.specs.Spread.{allOf, allBelow, newsAt, recordTo, numbersTo}
+use Rattle.spreading.specs.Spread.{allOf, newsAt, recordTo, numbersTo}
+use Rattle.spreading.proofs.Spreading.{all-of-none, all-below-one}
 use Rattle.collecting.specs.Needed.{PagesRanked}
-use Rattle.collecting.specs.Spreads.{pageTo, pagesTo}
-use Rattle.collecting.proofs.Order.{fetchedTo, allFetchedTo}
-
--- ---- lists of which all but one are empty
-
--- all are empty
-all-of-none : {A B : Type 0} (f : A → List B) (l : List A) → ((x : A) → f x ≡ []) → allOf f l ≡ []
-unfolding allOf
-all-of-none f [] h = refl
-all-of-none {B = B} f (x ∷ l) h = ap₂ (λ (p q : List B). p ++ q) (h x) (all-of-none f l h)
-
-module _ {B : Type 0} (f : ℕ → List B) (i : ℕ) where
-  -- all but that of i
-  below-one : (n : ℕ) → ((k : ℕ) → k < n → (k ≡ i → ⊥) → f k ≡ []) → allBelow n f ≡ cond (ltb i n) (f i) []
-  unfolding allBelow
-  below-one zero h = sym (rw (le-ltb i 0 (omega arith)))
-  below-one (suc n) h = go (ℕ-discrete i n) (below-one n (λ k b. h k (omega (arith, b))))
-    where
-      go : Dec (i ≡ n) → allBelow n f ≡ cond (ltb i n) (f i) [] → allBelow n f ++ f n ≡ cond (ltb i (suc n)) (f i) []
-      go (yes e) ih =
-          let empty : allBelow n f ≡ [] = ih ∙ ap (λ (b : Bool). cond b (f i) []) (le-ltb i n (omega (arith, e))) in
-          ap (λ (l : List B). l ++ f n) empty
-          ∙ ap f (sym e)
-          ∙ sym (ap (λ (b : Bool). cond b (f i) []) (lt-ltb i (suc n) (omega (arith, e))))
-      go (no e) ih =
-          ap₂ (λ (l k : List B). l ++ k) ih (h n (omega arith) (λ s. e (sym s)))
-          ∙ append-nil (cond (ltb i n) (f i) [])
-          ∙ ap (λ (b : Bool). cond b (f i) []) (same (decLt i n))
-        where
-          same : Dec (i < n) → ltb i n ≡ ltb i (suc n)
-          same (yes s) = lt-ltb i n s ∙ sym (lt-ltb i (suc n) (omega arith))
-          same (no s) = le-ltb i n (omega arith) ∙ sym (le-ltb i (suc n) (omega arith))
+use Rattle.collecting.specs.Spreads.{pageTo, pagesTo, fetchedTo, allFetchedTo}
 
 -- ---- the records of a page that are news to a processor are those that are due
 
@@ -183,14 +153,14 @@ module _ (c w r m l counts : List ℕ) (a : Ready c w r m) (ranked : PagesRanked
     by-records : pagesTo c r l counts processors pages j ≡ cond (ltb g pages) (cond (ltb k processors) news []) []
     unfolding pagesTo
     by-records =
-        below-one (λ i. pageTo c r l counts processors i j) g pages (λ i b e. elsewhere i e)
+        all-below-one (λ i. pageTo c r l counts processors i j) g pages (λ i b e. elsewhere i e)
         ∙ ap (λ (q : List Record). cond (ltb g pages) q []) of-page
 
     -- what it gets of the fetches of a processor
     of-processor : (i : ℕ) → pages ≤ 8 → fetchedTo c r standing (suc i) pages j ≡ cond (ltb g pages) (cond (eqb k i) (dueIn c r standing (suc i) g) []) []
     unfolding fetchedTo copyRow mainframe
     of-processor i few =
-        below-one (λ h. cond (eqb j (copyRow mainframe (suc i) h)) (dueIn c r standing (suc i) h) []) g pages
+        all-below-one (λ h. cond (eqb j (copyRow mainframe (suc i) h)) (dueIn c r standing (suc i) h) []) g pages
         (λ h b e. rw (ne-eqb j (copyRow mainframe (suc i) h) (λ s. e (omega (arith, s, b, few)))))
         ∙ ap (λ (b : Bool). cond (ltb g pages) (cond b (dueIn c r standing (suc i) g) []) []) same
       where
@@ -205,7 +175,7 @@ module _ (c w r m l counts : List ℕ) (a : Ready c w r m) (ranked : PagesRanked
     by-fetches : pages ≤ 8 → allFetchedTo c r standing processors pages j ≡ cond (ltb k processors) (cond (ltb g pages) (dueIn c r standing (suc k) g) []) []
     unfolding allFetchedTo
     by-fetches few =
-        below-one (λ i. fetchedTo c r standing (suc i) pages j) k processors
+        all-below-one (λ i. fetchedTo c r standing (suc i) pages j) k processors
         (λ i b e. of-processor i few ∙ rw (ne-eqb k i (λ s. e (sym s))) (none (ltb g pages)))
         ∙ ap (λ (q : List Record). cond (ltb k processors) q []) (of-processor k few ∙ rw (eq-eqb k k refl))
 

@@ -1,10 +1,10 @@
 -- Every page fetched for every processor, record by record: one law for each way of the code, and `fetches-laws`. Rests on Agreeing. Assumes
 -- nothing.
-use Prim.Native.Nat.{ℕ, zero, suc, _+_, _-_, _*_, _≤_, _<_}
+use Prim.Native.Nat.{ℕ, _+_, _-_, _*_, _≤_, _<_}
 use native.Mathlib.Numerals.{add-one}
 use native.Mathlib.Omega.{arith}
-use mathlib.Core.Path.{_≡_, refl, sym, ap, _∙_}
-use mathlib.Core.List.{List, [], _++_}
+use mathlib.Core.Path.{_≡_, sym, ap, _∙_}
+use mathlib.Core.List.{List}
 use lib.ListN.{length, getD, take, drop}
 use mir.Syntax.{w32, w64}
 use mir.Val.{Fits}
@@ -20,12 +20,12 @@ use Rattle.ranking.specs.Needed.{PickThere, Pickable}
 use Rattle.ranking.proofs.Bringing.{ranked-pickable}
 use Rattle.spreading.specs.Spread.{allBelow, numbersTo, Spread}
 use Rattle.spreading.specs.Needed.{NumberThere, PageSpreadable}
-use Rattle.spreading.proofs.Spreading.{spread-none, spread-same, spread-then, spread-words, spread-count}
+use Rattle.spreading.proofs.Spreading.{spread-none, spread-then, spread-words, spread-count}
 use Rattle.collecting.specs.Needed.{PagesRanked, RowSpreadable, AllSettleable}
-use Rattle.collecting.specs.Spreads.{pageTo, pagesTo, settledAll}
+use Rattle.collecting.specs.Spreads.{pageTo, pagesTo, settledAll, allFetchedTo}
 use Rattle.collecting.specs.Effects.{CountedAs}
 use Rattle.collecting.proofs.Settling.{length-settled-all}
-use Rattle.collecting.proofs.Order.{allFetchedTo, AllReached, all-reached}
+use Rattle.collecting.proofs.Order.{AllReached, all-reached}
 use Rattle.collecting.proofs.Agreeing.{row-fetchable, rows-agree}
 
 -- ---- spread_row

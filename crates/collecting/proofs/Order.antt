@@ -9,15 +9,15 @@ use lib.ListN.{length, getD}
 use lib.Seq.{sets}
 use lib.Dec.{eqb}
 use Rattle.rules.specs.Fetch.{isPending, sumAt, earlier, fetched, fetchCount}
-use Rattle.rules.specs.State.{mainframe, Processor, Applied, Interval, Counts, Clocks, clockOf, Record, State}
+use Rattle.rules.specs.State.{mainframe, Processor, Applied, Counts, Clocks, clockOf, Record, State}
 use Rattle.rules.specs.Steps.{Fetches, pagesFetched, allFetched}
 use Rattle.rules.specs.Tables.{select, sortBy}
 use Rattle.rules.proofs.Facts.{InOrder, Within}
 use Rattle.rules.proofs.KeptFetch.{fetched-parts}
 use Rattle.rules.proofs.KeptParts.{among-when, Parts, parts-of, in-order-of}
 use Rattle.memory.specs.Areas.{appliedRow, intervalRow, clockRow, copyRow, clocksIn, stateIn}
-use Rattle.memory.specs.Layout.{rowOf, tabulate, perProcessor}
-use Rattle.memory.specs.Needed.{Lent, Ready, Acts, OnPage}
+use Rattle.memory.specs.Layout.{rowOf, tabulate}
+use Rattle.memory.specs.Needed.{Ready, Acts, OnPage}
 use Rattle.memory.proofs.ClockLaws.{clock-read}
 use Rattle.memory.proofs.MarkLaws.{processors-read, pages-read}
 use Rattle.memory.proofs.RowLaws.{interval-table-same}
@@ -27,8 +27,8 @@ use Rattle.fetching.specs.Slots.{dueIn, rowApplied}
 use Rattle.fetching.specs.Needed.{Fetchable}
 use Rattle.fetching.proofs.Fetching.{on-page, page-counted, after-fetch}
 use Rattle.spreading.specs.Spread.{allBelow, Spread}
-use Rattle.spreading.proofs.Spreading.{spread-none, spread-same, spread-then, spread-row}
-use Rattle.collecting.specs.Spreads.{settledPages, settledAll}
+use Rattle.spreading.proofs.Spreading.{all-below-same, spread-none, spread-same, spread-then, spread-row}
+use Rattle.collecting.specs.Spreads.{settledPages, settledAll, fetchedTo, allFetchedTo}
 use Rattle.collecting.proofs.Settling.{length-settled-pages, length-settled-all, settled-pages-row, settled-all-row}
 
 -- ---- the fetches keep order
@@ -110,10 +110,6 @@ due-stays c c′ r n p g o h =
 
 -- ---- one processor
 
--- what row j gets when processor p fetches the first n pages
-unfoldable pub fetchedTo : List ℕ → List ℕ → ℕ → ℕ → ℕ → ℕ → List Record
-fetchedTo c r standing p n j = allBelow n (λ g. cond (eqb j (copyRow mainframe p g)) (dueIn c r standing p g) [])
-
 -- the words after the fetches of the first g pages: with the settled clocks they hold the rules' state
 record PagesReached (c w r m : List ℕ) (p g : ℕ) : Type 0 where
   pub words : List ℕ
@@ -187,21 +183,11 @@ module _ (c w r m : List ℕ) (p : ℕ) (a : Acts c w r m p) where
 
 -- ---- every processor
 
--- what row j gets when the first n processors fetch the first `pages` pages
-unfoldable pub allFetchedTo : List ℕ → List ℕ → ℕ → ℕ → ℕ → ℕ → List Record
-allFetchedTo c r standing n pages j = allBelow n (λ k. fetchedTo c r standing (suc k) pages j)
-
 -- the words after the fetches of the first n processors: with the settled clocks they hold the rules' state
 pub record AllReached (c w r m : List ℕ) (n : ℕ) : Type 0 where
   pub words : List ℕ
   pub is : stateIn mainframe (settledAll c n (getD m 1 0)) words r m ≡ allFetched mainframe (stateIn mainframe c w r m) n .after
   pub spread : Spread w words (allFetchedTo c r (getD m 3 0) n (getD m 1 0)) (allFetched mainframe (stateIn mainframe c w r m) n .count)
-
--- lists that agree below a bound
-all-below-same : {B : Type 0} (n : ℕ) (f h : ℕ → List B) → ((i : ℕ) → i < n → f i ≡ h i) → allBelow n f ≡ allBelow n h
-unfolding allBelow
-all-below-same zero f h e = refl
-all-below-same {B} (suc n) f h e = ap₂ (λ (l k : List B). l ++ k) (all-below-same n f h (λ i b. e i (omega (arith, b)))) (e n (omega arith))
 
 module _ (c w r m : List ℕ) (a : Ready c w r m) where
   abbrev whole : State

@@ -1,4 +1,4 @@
--- The ranked records of a collection: where they come from, what keeps them, and that a page can be fetched from its row. Assumes nothing.
+-- The ranked records of a collection: where they come from, that a fetch leaves their numbers, and that a page can be fetched from its row. Assumes nothing.
 use Prim.Native.Nat.{ℕ, _+_, _-_, _*_, _≤_, _<_}
 use native.Mathlib.Omega.{arith}
 use mathlib.Core.Path.{_≡_, refl, sym, ap, _∙_}
@@ -10,11 +10,11 @@ use mir.Syntax.{w64}
 use mir.Val.{Fits}
 use borrow.Author.Needs.{needs}
 use Rattle.clock.specs.Clocks.{sumOf}
-use Rattle.rules.specs.Fetch.{sumAt, fetched}
-use Rattle.rules.specs.State.{mainframe, Applied, Interval, Clocks, clockOf, withClock, State, clock}
+use Rattle.rules.specs.Fetch.{sumAt}
+use Rattle.rules.specs.State.{mainframe, Applied, Interval, Clocks, clockOf, withClock}
 use Rattle.rules.specs.Tables.{sortBy}
 use Rattle.rules.proofs.Holders.{sameHolder, clock-of-with-other}
-use Rattle.memory.specs.Areas.{clocksIn, stateIn}
+use Rattle.memory.specs.Areas.{clocksIn}
 use Rattle.memory.specs.Layout.{rowOf}
 use Rattle.memory.specs.Needed.{Ready}
 use Rattle.memory.proofs.RowLaws.{length-row}
@@ -25,7 +25,7 @@ use Rattle.fetching.specs.Needed.{Fetchable}
 use Rattle.fetching.proofs.Fetching.{on-page}
 use Rattle.fetching.proofs.InState.{slots-sound, page-fits-at}
 use Rattle.ranking.specs.Ranks.{pageNumbers}
-use Rattle.ranking.specs.Needed.{Rankable, Ranked, FetchableRanked, Brought}
+use Rattle.ranking.specs.Needed.{Rankable, Ranked, FetchableRanked}
 use Rattle.ranking.proofs.Picking.{page-few}
 use Rattle.collecting.specs.Needed.{StandingRankable, PagesRanked}
 
@@ -92,18 +92,6 @@ module _ (c c′ r : List ℕ) (p g : ℕ) (v : List ℕ) (e : clocksIn mainfram
   pub numbers-kept : (q n : ℕ) → pageNumbers c′ r q n ≡ pageNumbers c r q n
   unfolding pageNumbers
   numbers-kept q n = ap (λ (f : ℕ → ℕ). sortBy ltb (map f (slotsBy (λ i. eqb (recordOf r i .page) q) n))) (λ j i. number-kept i j)
-
--- the rows still have the numbers of their pages
-pub ranks-kept : (c w r m l counts : List ℕ) (p g : ℕ) (c′ w′ : List ℕ) (x : ℕ) → PagesRanked c r m l counts → Brought c w r m p g c′ w′ x → PagesRanked c′ r m l counts
-unfolding stateIn fetched
-ranks-kept c w r m l counts p g c′ w′ x k b =
-    let moved : clocksIn mainframe c′ ≡ withClock (clocksIn mainframe c) (Applied p g) (clock (stateIn mainframe c w r m) p) = ap (λ (s : State). s .clocks) (b .holds) in
-    record {
-      whole = k .whole;
-      pages = k .pages;
-      few = k .few;
-      row = λ q f. k .row q f ∙ sym (numbers-kept c c′ r p g (clock (stateIn mainframe c w r m) p) moved q (getD m 3 0));
-    }
 
 -- ---- a page fetched from its row
 

@@ -3,14 +3,14 @@
 use Prim.Native.Nat.{ℕ, zero, suc, _+_, _*_, _/_, _%_, _≤_, _<_}
 use native.Mathlib.Numerals.{add-one}
 use native.Mathlib.Omega.{arith}
-use native.Mathlib.Decide.{decLt, ℕ-discrete}
+use native.Mathlib.Decide.{ℕ-discrete}
 use mathlib.Core.Path.{_≡_, refl, sym, ap, ap₂, _∙_}
 use mathlib.Core.Bool.{Bool, true, false, cond, _&&_}
 use mathlib.Core.List.{List, [], _∷_, _++_, append-nil}
 use lib.ListN.{length, getD, take}
 use lib.Seq.{length-take-le, take-suc, getD-take}
 use lib.Dec.{ltb, eqb}
-use mir.Syntax.{w32, w64}
+use mir.Syntax.{w32}
 use mir.Val.{Fits}
 use borrow.Author.Tests.{lt-ltb, le-ltb, eq-eqb, ne-eqb}
 use borrow.Author.Needs.{needs}
@@ -26,17 +26,9 @@ use Rattle.fetching.proofs.Applying.{copy-there}
 use Rattle.fetching.proofs.Ordering.{slots-below}
 use Rattle.spreading.specs.Spread.{allOf, newsAt, listedTo, recordTo, numbersTo, Spread}
 use Rattle.spreading.specs.Needed.{Listable, ListedFor, NumberThere, RecordSpreadable, PageSpreadable}
-use Rattle.spreading.proofs.Spreading.{all-of-more, spread-none, spread-same, spread-then, spread-laid}
+use Rattle.spreading.proofs.Spreading.{all-of-more, below-next, spread-none, spread-same, spread-then, spread-laid}
 
 -- ---- which rows are listed
-
--- one number more is below the bound
-below-next : (k n : ℕ) → (k ≡ n → ⊥) → ltb k (suc n) ≡ ltb k n
-below-next k n e = go (decLt k n)
-  where
-    go : Dec (k < n) → ltb k (suc n) ≡ ltb k n
-    go (yes h) = lt-ltb k (suc n) (omega arith) ∙ sym (lt-ltb k n h)
-    go (no h) = le-ltb k (suc n) (omega arith) ∙ sym (le-ltb k n (omega arith))
 
 module _ (t : Record) (g : ℕ) (test : ℕ → Bool) (b : g < 8) (j : ℕ) where
   -- the row is the copy of page g of one of the first n processors, and that one passes

@@ -15,7 +15,7 @@ use Rattle.clock.specs.Clocks.{entryOf}
 use Rattle.rules.specs.State.{mainframe}
 use Rattle.memory.specs.Areas.{appliedRow}
 use Rattle.memory.specs.Layout.{rowOf}
-use Rattle.memory.specs.Needed.{RowThere, OnPage}
+use Rattle.memory.specs.Needed.{OnPage}
 use Rattle.memory.proofs.RowLaws.{get-row}
 use Rattle.pending.specs.Pending.{slotsBy}
 use Rattle.ranking.specs.Ranks.{newsBetween, newsTo}

@@ -1,15 +1,15 @@
--- Laws of records spread over the rows of the words: of none, of one row, of some and then others; and that the words and the count are
--- determined by which records each row gets. Assumes nothing.
+-- Laws of lists one after the other, and of records spread over the rows of the words: of none, of one row, of some and then others; and that
+-- the words and the count are determined by which records each row gets. Assumes nothing.
 use Prim.Native.Nat.{ℕ, zero, suc, _+_, _*_, _/_, _%_, _<_}
 use native.Mathlib.Omega.{arith}
-use native.Mathlib.Decide.{ℕ-discrete}
-use mathlib.Core.Path.{_≡_, refl, sym, ap, _∙_}
-use mathlib.Core.Bool.{cond}
+use native.Mathlib.Decide.{decLt, ℕ-discrete}
+use mathlib.Core.Path.{_≡_, refl, sym, ap, ap₂, _∙_}
+use mathlib.Core.Bool.{Bool, cond}
 use mathlib.Core.List.{List, [], _∷_, _++_, append-nil, append-assoc}
 use lib.ListN.{length, getD, length-append}
 use lib.Seq.{ext-getD, length-sets}
-use lib.Dec.{eqb}
-use borrow.Author.Tests.{eq-eqb, ne-eqb}
+use lib.Dec.{ltb, eqb}
+use borrow.Author.Tests.{lt-ltb, le-ltb, eq-eqb, ne-eqb}
 use Rattle.diff.specs.Reading.{applied}
 use Rattle.rules.specs.Fetch.{appliedAll}
 use Rattle.rules.specs.State.{Record}
@@ -19,7 +19,7 @@ use Rattle.rules.proofs.Tables.{total-same, total-zero, total-change}
 use Rattle.memory.specs.Layout.{rowOf}
 use Rattle.memory.proofs.RowLaws.{length-row, get-row, row-of-sets}
 use Rattle.fetching.specs.Slots.{diffLaid, rowApplied}
-use Rattle.spreading.specs.Spread.{allOf, Spread}
+use Rattle.spreading.specs.Spread.{allOf, allBelow, Spread}
 
 -- ---- lists one after the other
 
@@ -28,6 +28,41 @@ pub all-of-more : {A B : Type 0} (f : A → List B) (l : List A) (x : A) → all
 unfolding allOf
 all-of-more f [] x = append-nil (f x)
 all-of-more {B = B} f (y ∷ l) x = ap (λ (k : List B). f y ++ k) (all-of-more f l x) ∙ sym (append-assoc (f y) (allOf f l) (f x))
+
+-- where each is empty there is nothing
+pub all-of-none : {A B : Type 0} (f : A → List B) (l : List A) → ((x : A) → f x ≡ []) → allOf f l ≡ []
+unfolding allOf
+all-of-none f [] h = refl
+all-of-none {B = B} f (x ∷ l) h = ap₂ (λ (p q : List B). p ++ q) (h x) (all-of-none f l h)
+
+-- lists that agree below a bound
+pub all-below-same : {B : Type 0} (n : ℕ) (f h : ℕ → List B) → ((i : ℕ) → i < n → f i ≡ h i) → allBelow n f ≡ allBelow n h
+unfolding allBelow
+all-below-same zero f h e = refl
+all-below-same {B} (suc n) f h e = ap₂ (λ (l k : List B). l ++ k) (all-below-same n f h (λ i b. e i (omega (arith, b)))) (e n (omega arith))
+
+-- another number is below a bound where it is below the next
+pub below-next : (k n : ℕ) → (k ≡ n → ⊥) → ltb k (suc n) ≡ ltb k n
+below-next k n e = go (decLt k n)
+  where
+    go : Dec (k < n) → ltb k (suc n) ≡ ltb k n
+    go (yes h) = lt-ltb k (suc n) (omega arith) ∙ sym (lt-ltb k n h)
+    go (no h) = le-ltb k (suc n) (omega arith) ∙ sym (le-ltb k n (omega arith))
+
+-- where each but that of i is empty there is that one
+pub all-below-one : {B : Type 0} (f : ℕ → List B) (i n : ℕ) → ((k : ℕ) → k < n → (k ≡ i → ⊥) → f k ≡ []) → allBelow n f ≡ cond (ltb i n) (f i) []
+unfolding allBelow
+all-below-one f i zero h = sym (rw (le-ltb i 0 (omega arith)))
+all-below-one {B} f i (suc n) h = go (ℕ-discrete i n) (all-below-one f i n (λ k b. h k (omega (arith, b))))
+  where
+    go : Dec (i ≡ n) → allBelow n f ≡ cond (ltb i n) (f i) [] → allBelow n f ++ f n ≡ cond (ltb i (suc n)) (f i) []
+    go (yes e) ih =
+        let empty : allBelow n f ≡ [] = ih ∙ ap (λ (b : Bool). cond b (f i) []) (le-ltb i n (omega (arith, e))) in
+        ap (λ (l : List B). l ++ f n) empty ∙ ap f (sym e) ∙ sym (ap (λ (b : Bool). cond b (f i) []) (lt-ltb i (suc n) (omega (arith, e))))
+    go (no e) ih =
+        ap₂ (λ (l k : List B). l ++ k) ih (h n (omega arith) (λ s. e (sym s)))
+        ∙ append-nil (cond (ltb i n) (f i) [])
+        ∙ ap (λ (b : Bool). cond b (f i) []) (sym (below-next i n e))
 
 -- some records applied and then others
 applied-append : (w : ℕ) (l k : List Record) (page : List ℕ) → appliedAll w (l ++ k) page ≡ appliedAll w k (appliedAll w l page)
