@@ -56,7 +56,7 @@ pub fn no_ranks() -> [u32; 1024]
 }
 
 // Every processor fetches every page from the ranked records: each record goes to all copies to which it is news, then all pages are settled.
-// Yields how many were applied. What a fetch does to one copy does not depend on the others, so the order is the rules' after all.
+// Yields how many were applied. What a fetch does to one copy depends on no other, so the words are those of the rules' order.
 fn fetch_each(
     clocks: &mut [u8],
     words: &mut [u32],
