@@ -21,9 +21,10 @@ use Rattle.ranking.proofs.Bringing.{ranked-pickable}
 use Rattle.spreading.specs.Spread.{allBelow, numbersTo, Spread}
 use Rattle.spreading.specs.Needed.{NumberThere, PageSpreadable}
 use Rattle.spreading.proofs.Spreading.{spread-none, spread-then, spread-words, spread-count}
-use Rattle.collecting.specs.Needed.{PagesRanked, RowSpreadable, AllSettleable}
+use Rattle.collecting.specs.Needed.{PagesRanked, RowSpreadable}
 use Rattle.collecting.specs.Spreads.{pageTo, pagesTo, settledAll, allFetchedTo}
 use Rattle.collecting.specs.Effects.{CountedAs}
+use Rattle.collecting.proofs.Ranked.{standing-rankable}
 use Rattle.collecting.proofs.Settling.{length-settled-all}
 use Rattle.collecting.proofs.Order.{AllReached, all-reached}
 use Rattle.collecting.proofs.Agreeing.{row-fetchable, rows-agree}
@@ -150,37 +151,26 @@ module _ (c w₀ w r m l counts : List ℕ) (n pages g count : ℕ) (t : PagesSp
       let e : g ≡ getD m 1 0 = omega (arith, h, t .upto, t .pages-are) in
       rw (t .processors-are, e) at (t .spread)
 
--- ---- fetch_each
+-- ---- fetch_all
 
 module _ (c w r m : List ℕ) (a : Ready c w r m) where
-  -- all pages of all processors can be settled
-  pub each-settleable : (n pages : ℕ) → n ≡ getD m 0 0 → pages ≡ getD m 1 0 → AllSettleable c n pages
-  unfolding mainframe
-  each-settleable n pages en ep =
-      record {
-        clocks = a .lent .clocks;
-        processors = omega (arith, en, processors-read c w r m, a .in-order .processors-fit);
-        few = omega (arith, ep, pages-read c w r m, a .in-order .pages-fit);
-      }
-
-  -- the areas hold the state after all fetches
-  pub each-fetched : (l counts w′ c′ : List ℕ) (count n pages : ℕ) → PagesRanked c r m l counts → Spread w w′ (pagesTo c r l counts (getD m 0 0) (getD m 1 0)) count
-      → n ≡ getD m 0 0 → pages ≡ getD m 1 0 → c′ ≡ settledAll c n pages
-      → CountedAs (allFetched mainframe (stateIn mainframe c w r m) (stateIn mainframe c w r m .counts .processors)) count c′ w′ r m
-  each-fetched l counts w′ c′ count n pages ranked s en ep ec =
+  -- with the clocks settled the areas hold the state after all fetches
+  pub all-fetched : (l counts w′ : List ℕ) (count : ℕ) → PagesRanked c r m l counts → Spread w w′ (pagesTo c r l counts (getD m 0 0) (getD m 1 0)) count
+      → CountedAs (allFetched mainframe (stateIn mainframe c w r m) (stateIn mainframe c w r m .counts .processors)) count (settledAll c (getD m 0 0) (getD m 1 0)) w′ r m
+  all-fetched l counts w′ count ranked s =
       record {
         applied = spread-count w w′ (last .words) laid due count (after .count) s (last .spread) same ∙ ap (λ (k : ℕ). allFetched mainframe state k .count) all;
         areas =
             record {
               lent =
                   record {
-                    clocks = ap length ec ∙ length-settled-all c n pages ∙ a .lent .clocks;
+                    clocks = length-settled-all c (getD m 0 0) (getD m 1 0) ∙ a .lent .clocks;
                     words = s .words;
                     records = a .lent .records;
                     marks = a .lent .marks;
                   };
               is =
-                  rw (ec, en, ep, spread-words w w′ (last .words) laid due count (after .count) s (last .spread) same) (last .is)
+                  rw (spread-words w w′ (last .words) laid due count (after .count) s (last .spread) same) (last .is)
                   ∙ ap (λ (k : ℕ). allFetched mainframe state k .after) all;
             };
       }
@@ -206,4 +196,4 @@ module _ (c w r m : List ℕ) (a : Ready c w r m) where
       all : getD m 0 0 ≡ state .counts .processors
       all = sym (processors-read c w r m)
 
-pub ruleset fetches-laws = (row-counted, row-from-fits, row-to-fits, row-bytes-fit, row-within, row-spreadable, row-spread, processors-there, pages-there, spreading-begins, spreading-there, spreading-fits, spreading-more, spreading-ends, each-settleable, each-fetched, needs)
+pub ruleset fetches-laws = (row-counted, row-from-fits, row-to-fits, row-bytes-fit, row-within, row-spreadable, row-spread, processors-there, pages-there, spreading-begins, spreading-there, spreading-fits, spreading-more, spreading-ends, standing-rankable, all-fetched, needs)

@@ -26,19 +26,6 @@ pub record RowSpreadable (c w r l counts : List ℕ) (g n : ℕ) : Type 0 where
   pub pages : 8 ≤ length counts
   pub row : PageSpreadable c w r g (rowOf 128 l g) (getD counts g 0) n
 
--- the area of the clocks, a processor that has rows in it, and how many of its pages are to be settled
-pub record PagesSettleable (c : List ℕ) (p pages : ℕ) : Type 0 where
-  pub clocks : length c ≡ 4744
-  pub from : 1 ≤ p
-  pub to : p ≤ 8
-  pub few : pages ≤ 8
-
--- the same for the first n processors
-pub record AllSettleable (c : List ℕ) (n pages : ℕ) : Type 0 where
-  pub clocks : length c ≡ 4744
-  pub processors : n ≤ 8
-  pub few : pages ≤ 8
-
 -- the areas of the clocks and of the marks
 pub record ClocksAndMarks (c m : List ℕ) : Type 0 where
   pub clocks : length c ≡ 4744

@@ -10,17 +10,15 @@ ghost use Rattle.memory.specs.Needed.{Ready};
 ghost use Rattle.fetching.specs.Needed.{Fetchable};
 ghost use Rattle.ranking.specs.Needed.{Brought};
 ghost use Rattle.spreading.specs.Spread.{Spread};
-ghost use Rattle.collecting.specs.Needed.{StandingRankable, PagesRanked, RowSpreadable, PagesSettleable, AllSettleable, ClocksAndMarks};
-ghost use Rattle.collecting.specs.Spreads.{pageTo, pagesTo, settledPages, settledAll};
+ghost use Rattle.collecting.specs.Needed.{StandingRankable, PagesRanked, RowSpreadable, ClocksAndMarks};
+ghost use Rattle.collecting.specs.Spreads.{pageTo, pagesTo, settledAll};
 ghost use Rattle.collecting.specs.Effects.{CountedAs, Emptied};
 use clock::PageId;
 use clock::ProcessorId;
-use memory::applied_row;
 use memory::clear;
-use memory::clock_at;
-use memory::put_clock;
 
-// Garbage collection: every processor, upwards, fetches every page, upwards; then the records go. Yields how many records were applied.
+// Garbage collection: every processor, upwards, fetches every page, upwards; then the records go. Yields how many records were applied. The
+// fetches need not settle the clocks, since all clocks are cleared then.
 pub fn collect(clocks: &mut [u8], words: &mut [u32], records: &[u8], marks: &mut [u8]) -> u32
     requires { ⌜ Ready (now clocks) (now words) (now records) (now marks) ⌝ }
     ensures { λ r. ⌜ CountedAs (collected mainframe (stateIn mainframe (now (clocks .entry)) (now (words .entry)) (now (records .entry)) (now (marks .entry)))) r (now (clocks .exit)) (now (words .exit)) (now (records .entry)) (now (marks .exit)) ⌝ }
@@ -30,14 +28,15 @@ pub fn collect(clocks: &mut [u8], words: &mut [u32], records: &[u8], marks: &mut
     count
 }
 
-// Every processor, upwards, fetches every page. Yields how many records were applied. The records are ranked once for all fetches.
-fn fetch_all(clocks: &mut [u8], words: &mut [u32], records: &[u8], marks: &[u8]) -> u32
+// Every processor fetches every page, as far as the words show it: the clocks are left, and with the applied ones settled the areas would hold the
+// state after all fetches. Yields how many records were applied. The records are ranked once, and each goes to all copies to which it is news.
+fn fetch_all(clocks: &[u8], words: &mut [u32], records: &[u8], marks: &[u8]) -> u32
     requires { ⌜ Ready (now clocks) (now words) (now records) (now marks) ⌝ }
-    ensures { λ r. ⌜ CountedAs (allFetched mainframe (stateIn mainframe (now (clocks .entry)) (now (words .entry)) (now (records .entry)) (now (marks .entry))) (stateIn mainframe (now (clocks .entry)) (now (words .entry)) (now (records .entry)) (now (marks .entry)) .counts .processors)) r (now (clocks .exit)) (now (words .exit)) (now (records .entry)) (now (marks .entry)) ⌝ }
+    ensures { λ r. ⌜ CountedAs (allFetched mainframe (stateIn mainframe (now (clocks .entry)) (now (words .entry)) (now (records .entry)) (now (marks .entry))) (stateIn mainframe (now (clocks .entry)) (now (words .entry)) (now (records .entry)) (now (marks .entry)) .counts .processors)) r (settledAll (now (clocks .entry)) (getD (now (marks .entry)) 0 0) (getD (now (marks .entry)) 1 0)) (now (words .exit)) (now (records .entry)) (now (marks .entry)) ⌝ }
 {
     let mut ranks = no_ranks();
     let counts = rank_standing(clocks, records, marks, &mut ranks);
-    fetch_each(clocks, words, records, marks, &ranks, &counts)
+    spread_pages(clocks, words, records, marks, &ranks, &counts)
 }
 
 // Ranks the records that stand: the row of each page begins with their numbers. Yields how many each page has.
@@ -53,25 +52,6 @@ pub fn no_ranks() -> [u32; 1024]
     ensures { λ r. ⌜ r ≡ replicate 1024 0 ⌝ }
 {
     [0; 1024]
-}
-
-// Every processor fetches every page from the ranked records: each record goes to all copies to which it is news, then all pages are settled.
-// Yields how many were applied. What a fetch does to one copy depends on no other, so the words are those of the rules' order.
-fn fetch_each(
-    clocks: &mut [u8],
-    words: &mut [u32],
-    records: &[u8],
-    marks: &[u8],
-    ranks: &[u32],
-    counts: &[u8],
-) -> u32
-    requires { ⌜ Ready (now clocks) (now words) (now records) (now marks) ⌝ }
-    requires { ⌜ PagesRanked (now clocks) (now records) (now marks) (now ranks) (now counts) ⌝ }
-    ensures { λ r. ⌜ CountedAs (allFetched mainframe (stateIn mainframe (now (clocks .entry)) (now (words .entry)) (now (records .entry)) (now (marks .entry))) (stateIn mainframe (now (clocks .entry)) (now (words .entry)) (now (records .entry)) (now (marks .entry)) .counts .processors)) r (now (clocks .exit)) (now (words .exit)) (now (records .entry)) (now (marks .entry)) ⌝ }
-{
-    let count = spread_pages(clocks, words, records, marks, ranks, counts);
-    settle_all(clocks, wide(marks[0]), wide(marks[1]));
-    count
 }
 
 // Lays the ranked records of every page into all copies to which they are news. Yields how often a record was laid.
@@ -117,32 +97,6 @@ fn spread_row(
     let to = from + 128;
     let n = wide(counts[at]);
     spreading::spread_page(g, clocks, words, records, &ranks[from..to], n, processors)
-}
-
-// The applied clock of every page of every processor becomes the processor's clock.
-fn settle_all(clocks: &mut [u8], processors: usize, pages: usize)
-    requires { ⌜ AllSettleable (now clocks) processors pages ⌝ }
-    ensures { λ _. ⌜ now (clocks .exit) ≡ settledAll (now (clocks .entry)) processors pages ⌝ }
-{
-    let mut k: usize = 0;
-    while k < processors {
-        settle_pages(clocks, ProcessorId(k + 1), pages);
-        k = k + 1;
-    }
-}
-
-// The applied clock of every page of one processor becomes the processor's clock.
-fn settle_pages(clocks: &mut [u8], p: ProcessorId, pages: usize)
-    requires { ⌜ PagesSettleable (now clocks) (p .0) pages ⌝ }
-    ensures { λ _. ⌜ now (clocks .exit) ≡ settledPages (now (clocks .entry)) (p .0) pages ⌝ }
-{
-    let known = clock_at(clocks, p.0);
-    let mut g: usize = 0;
-    while g < pages {
-        let row = applied_row(p, PageId(g));
-        put_clock(clocks, row, known);
-        g = g + 1;
-    }
 }
 
 // Fetches page g for processor p from the row of the page. The count is the records applied.
