@@ -1,272 +1,201 @@
--- Fetching every page for every processor: one law for each way of the code, and `fetches-laws`. Assumes nothing.
-use Prim.Native.Nat.{ℕ, zero, suc, _+_, _*_, _≤_, _<_}
+-- Every page fetched for every processor, record by record: one law for each way of the code, and `fetches-laws`. Rests on Agreeing. Assumes
+-- nothing.
+use Prim.Native.Nat.{ℕ, _+_, _-_, _*_, _≤_, _<_}
 use native.Mathlib.Numerals.{add-one}
 use native.Mathlib.Omega.{arith}
-use mathlib.Core.Path.{_≡_, refl, ap, _∙_}
-use mathlib.Core.Bool.{Bool, true, false, cond}
-use mathlib.Core.List.{List, [], _∷_}
-use lib.ListN.{length, getD}
-use mir.Syntax.{w32}
+use mathlib.Core.Path.{_≡_, sym, ap, _∙_}
+use mathlib.Core.List.{List}
+use lib.ListN.{length, getD, take, drop}
+use mir.Syntax.{w32, w64}
 use mir.Val.{Fits}
 use borrow.Author.Needs.{needs}
-use Rattle.rules.specs.Fetch.{isPending, fetched, fetchCount}
-use Rattle.rules.specs.State.{mainframe, Counts, Record, State, standing}
-use Rattle.rules.specs.Steps.{Fetches, pagesFetched, allFetched}
-use Rattle.rules.specs.Tables.{select}
-use Rattle.rules.proofs.Facts.{InOrder, slots-enough}
-use Rattle.rules.proofs.Fetching.{fetch-counts-pending}
-use Rattle.rules.proofs.KeptFetch.{fetched-parts}
-use Rattle.rules.proofs.KeptParts.{among-when, Parts, parts-of, in-order-of}
-use Rattle.rules.proofs.Slots.{length-standing}
+use Rattle.rules.specs.State.{mainframe, Record, State}
+use Rattle.rules.specs.Steps.{Fetches, allFetched}
+use Rattle.rules.proofs.Selected.{Each, each-map}
 use Rattle.memory.specs.Areas.{stateIn}
-use Rattle.memory.specs.Needed.{Lent, Ready, Acts}
+use Rattle.memory.specs.Layout.{rowOf}
+use Rattle.memory.specs.Needed.{Ready}
 use Rattle.memory.proofs.MarkLaws.{processors-read, pages-read}
-use Rattle.fetching.specs.Needed.{Fetchable}
-use Rattle.ranking.specs.Needed.{Brought}
-use Rattle.collecting.specs.Needed.{PagesRanked}
+use Rattle.ranking.specs.Needed.{PickThere, FetchableRanked}
+use Rattle.ranking.proofs.News.{ranked-there}
+use Rattle.spreading.specs.Spread.{allBelow, numbersTo, Spread}
+use Rattle.spreading.specs.Needed.{NumberThere, PageSpreadable}
+use Rattle.spreading.proofs.Spreading.{spread-none, spread-then, spread-words, spread-count}
+use Rattle.collecting.specs.Needed.{PagesRanked, RowSpreadable}
+use Rattle.collecting.specs.Spreads.{pageTo, pagesTo, settledAll, allFetchedTo}
 use Rattle.collecting.specs.Effects.{CountedAs}
-use Rattle.collecting.proofs.Ranked.{ranks-kept}
+use Rattle.collecting.proofs.Ranked.{standing-rankable}
+use Rattle.collecting.proofs.Settling.{length-settled-all}
+use Rattle.collecting.proofs.Order.{AllReached, all-reached}
+use Rattle.collecting.proofs.Agreeing.{row-fetchable, rows-agree}
 
--- ---- a fetch keeps order and counts at most as many records as stand
+-- ---- spread_row
 
--- a fetch of a present page by a present processor
-pub fetched-in-order : (s : State) (p g : ℕ) → InOrder mainframe s → 1 ≤ p → p ≤ s .counts .processors → g < s .counts .pages → InOrder mainframe (fetched mainframe s p g)
-fetched-in-order s p g o h k l =
-    let f : Parts mainframe s = parts-of mainframe s o in
-    in-order-of mainframe (fetched mainframe s p g)
-    (fetched-parts mainframe s p g f (record { counts = f .counts; processor = among-when (s .counts) p h k; page = l }))
+module _ (c w r l counts : List ℕ) (g n : ℕ) (h : RowSpreadable c w r l counts g n) where
+  -- the page has a count
+  pub row-counted : g < length counts
+  row-counted = omega (arith, h .pages, h .row .page)
 
-length-select : (t : Record → Bool) (l : List Record) → length (select t l) ≤ length l
-unfolding select
-length-select t [] = omega arith
-length-select t (x ∷ l) = go (t x) (length-select t l)
-  where
-    go : (b : Bool) → length (select t l) ≤ length l → length (cond b (x ∷ select t l) (select t l)) ≤ suc (length l)
-    go true h = omega arith
-    go false h = omega arith
+  -- the places of its row are numbers of a machine word, in words and in bytes
+  pub row-from-fits : Fits w64 (128 * g)
+  row-from-fits = omega (arith, h .row .page)
 
-few-fetched : (s : State) (p g : ℕ) → InOrder mainframe s → fetchCount s p g ≤ 128
-unfolding standing mainframe
-few-fetched s p g o =
-    omega (
-      arith,
-      fetch-counts-pending s p g,
-      length-select (isPending (s .clocks) p g) (standing s),
-      length-standing (s .records) (slots-enough mainframe s o),
-      o .sized .few-standing,
-    )
+  pub row-to-fits : Fits w64 (128 * g + 128)
+  row-to-fits = omega (arith, h .row .page)
 
--- what the fetches of the first n pages keep
-record PagesKept (s : State) (f : Fetches) (n : ℕ) : Type 0 where
-  pub in-order : InOrder mainframe (f .after)
-  pub counts : f .after .counts ≡ s .counts
-  pub few : f .count ≤ 128 * n
+  pub row-bytes-fit : Fits w64 (128 * g * 4)
+  row-bytes-fit = omega (arith, h .row .page)
 
-pages-kept : (s : State) (p n : ℕ) → InOrder mainframe s → 1 ≤ p → p ≤ s .counts .processors → n ≤ s .counts .pages → PagesKept s (pagesFetched mainframe s p n) n
-unfolding pagesFetched fetched
-pages-kept s p zero o h k l = record { in-order = o; counts = refl; few = omega arith }
-pages-kept s p (suc g) o h k l =
-    let q : PagesKept s (pagesFetched mainframe s p g) g = pages-kept s p g o h k (omega arith) in
-    let f : State = pagesFetched mainframe s p g .after in
-    let processors : f .counts .processors ≡ s .counts .processors = ap (λ (n : Counts). n .processors) (q .counts) in
-    let pages : f .counts .pages ≡ s .counts .pages = ap (λ (n : Counts). n .pages) (q .counts) in
-    record {
-      in-order = fetched-in-order f p g (q .in-order) h (omega (arith, processors)) (omega (arith, pages));
-      counts = q .counts;
-      few = omega (arith, q .few, few-fetched f p g (q .in-order));
-    }
+  -- its row lies within the ranks
+  pub row-within : 128 * g + 128 ≤ length l
+  row-within = omega (arith, h .whole, h .row .page)
 
--- ---- one processor fetches each page
+  row-is : take (128 * g + 128 - 128 * g) (drop (128 * g) l) ≡ rowOf 128 l g
+  unfolding rowOf
+  row-is = let d : 128 * g + 128 - 128 * g ≡ 128 = omega arith in ap (λ (j : ℕ). take j (drop (128 * g) l)) d
 
--- the pages below g are fetched
-pub record PagesFetching (c₀ w₀ c w r m l counts : List ℕ) (p n g count : ℕ) : Type 0 where
-  pub acts : Acts c₀ w₀ r m p
+  -- its records can be laid
+  pub row-spreadable : (k : ℕ) → k ≡ getD counts g 0 → PageSpreadable c w r g (take (128 * g + 128 - 128 * g) (drop (128 * g) l)) k n
+  row-spreadable k e = rw (e, row-is) (h .row)
+
+  -- and then each row has what it gets of them
+  pub row-spread : (k count : ℕ) (w′ : List ℕ) → k ≡ getD counts g 0
+      → Spread w w′ (numbersTo c r n g (take k (take (128 * g + 128 - 128 * g) (drop (128 * g) l)))) count → Spread w w′ (pageTo c r l counts n g) count
+  unfolding pageTo
+  row-spread k count w′ e s = rw (e, row-is) at s
+
+-- ---- spread_pages: the records of the first g pages are laid
+
+pub record PagesSpreading (c w₀ w r m l counts : List ℕ) (n pages g count : ℕ) : Type 0 where
+  pub ready : Ready c w₀ r m
   pub ranked : PagesRanked c r m l counts
-  pub lent : Lent c w r m
-  pub pages : n ≡ getD m 1 0
-  pub upto : g ≤ n
-  pub is : stateIn mainframe c w r m ≡ pagesFetched mainframe (stateIn mainframe c₀ w₀ r m) p g .after
-  pub counted : count ≡ pagesFetched mainframe (stateIn mainframe c₀ w₀ r m) p g .count
+  pub processors-are : n ≡ getD m 0 0
+  pub pages-are : pages ≡ getD m 1 0
+  pub upto : g ≤ pages
+  pub few : count ≤ 1024 * g
+  pub spread : Spread w₀ w (pagesTo c r l counts n g) count
 
--- none is fetched yet
-pub pages-begin : (c w r m l counts : List ℕ) (p n : ℕ) → Acts c w r m p → PagesRanked c r m l counts → n ≡ getD m 1 0
-    → PagesFetching c w c w r m l counts p n 0 0
-unfolding pagesFetched
-pages-begin c w r m l counts p n a k e = record { acts = a; ranked = k; lent = a .lent; pages = e; upto = omega arith; is = refl; counted = refl }
+module _ (c w r m : List ℕ) (a : Ready c w r m) where
+  -- the counts of processors and pages are among the marks
+  pub processors-there : 0 < length m
+  processors-there = omega (arith, a .lent .marks)
 
-module _ (c₀ w₀ c w r m l counts : List ℕ) (p n g count : ℕ) (f : PagesFetching c₀ w₀ c w r m l counts p n g count) where
-  kept-here : PagesKept (stateIn mainframe c₀ w₀ r m) (pagesFetched mainframe (stateIn mainframe c₀ w₀ r m) p g) g
-  kept-here =
-      let a = f .acts in
-      pages-kept (stateIn mainframe c₀ w₀ r m) p g (a .in-order) (a .from) (a .to) (omega (arith, f .pages, f .upto, pages-read c₀ w₀ r m))
+  pub pages-there : 1 < length m
+  pages-there = omega (arith, a .lent .marks)
 
-  in-order-here : InOrder mainframe (stateIn mainframe c w r m)
-  in-order-here = rw (f .is) (kept-here .in-order)
+  -- none is laid
+  pub spreading-begins : (l counts : List ℕ) (n pages : ℕ) → PagesRanked c r m l counts → n ≡ getD m 0 0 → pages ≡ getD m 1 0
+      → PagesSpreading c w w r m l counts n pages 0 0
+  unfolding pagesTo allBelow
+  spreading-begins l counts n pages k en ep =
+      record { ready = a; ranked = k; processors-are = en; pages-are = ep; upto = omega arith; few = omega arith; spread = spread-none w (a .lent .words) }
 
-  -- the next page can be fetched
-  pub next-fetchable : g < n → Fetchable c w r m p g
-  unfolding stateIn
-  next-fetchable h =
+module _ (c w₀ w r m l counts : List ℕ) (n pages g count : ℕ) (t : PagesSpreading c w₀ w r m l counts n pages g count) where
+  -- there are at most eight processors and pages
+  processors-few : n ≤ 8
+  unfolding mainframe
+  processors-few = omega (arith, t .processors-are, processors-read c w₀ r m, t .ready .in-order .processors-fit)
+
+  pages-few : pages ≤ 8
+  unfolding mainframe
+  pages-few = omega (arith, t .pages-are, pages-read c w₀ r m, t .ready .in-order .pages-fit)
+
+  -- the next page's records can be laid
+  pub spreading-there : g < pages → RowSpreadable c w r l counts g n
+  spreading-there h =
       record {
-        lent = f .lent;
-        in-order = in-order-here;
-        some-processor = f .acts .from;
-        processor-present = f .acts .to;
-        page-present = omega (arith, f .pages);
+        whole = t .ranked .whole;
+        pages = t .ranked .pages;
+        row =
+            record {
+              clocks = t .ready .lent .clocks;
+              words = t .spread .words;
+              page = omega (arith, h, pages-few);
+              few = processors-few;
+              within = from-row .within;
+              short = t .ranked .few g (omega (arith, h, pages-few));
+              numbers = each-map (λ x. PickThere r x w₀ 1 g) (λ x. NumberThere r x) (take (getD counts g 0) (rowOf 128 l g)) (λ x e. there x e) first;
+            };
       }
+    where
+      from-row : FetchableRanked c w₀ r m 1 g (rowOf 128 l g) (getD counts g 0)
+      from-row =
+          row-fetchable c w₀ r m l counts (t .ready) (t .ranked) 1 g (omega arith) (omega (arith, processors-read c w₀ r m, t .ready .in-order .some-processor)) (omega (arith, h, t .pages-are))
 
-  -- its records are ranked
-  pub next-ranked : PagesRanked c r m l counts
-  next-ranked = f .ranked
+      first : Each (λ x. PickThere r x w₀ 1 g) (take (getD counts g 0) (rowOf 128 l g))
+      first = ranked-there c w₀ r m 1 g (rowOf 128 l g) (getD counts g 0) from-row
 
-  module _ (x : ℕ) (c′ w′ : List ℕ) (h : g < n) (b : Brought c w r m p g c′ w′ x) where
+      there : (x : ℕ) → PickThere r x w₀ 1 g → NumberThere r x
+      there x e = record { named = e .named; within = e .due .there .within; diff-fits = e .due .there .diff-fits; legal = e .due .there .legal }
+
+  module _ (a : ℕ) (w′ : List ℕ) (h : g < pages) (small : a ≤ 1024) (s : Spread w w′ (pageTo c r l counts n g) a) where
     -- the sum has room
-    pub pages-count-fits : Fits w32 (count + x)
-    unfolding mainframe
-    pages-count-fits =
-        omega (
-          arith,
-          kept-here .few,
-          f .counted,
-          b .counted,
-          few-fetched (stateIn mainframe c w r m) p g in-order-here,
-          f .pages,
-          pages-read c₀ w₀ r m,
-          f .acts .in-order .pages-fit,
-        )
+    pub spreading-fits : Fits w32 (count + a)
+    spreading-fits = omega (arith, t .few, small, h, pages-few)
 
-    -- one more is fetched
-    pub pages-more : PagesFetching c₀ w₀ c′ w′ r m l counts p n (g + 1) (count + x)
-    unfolding pagesFetched
-    pages-more =
+    -- those of one page more are laid
+    pub spreading-more : PagesSpreading c w₀ w′ r m l counts n pages (g + 1) (count + a)
+    unfolding pagesTo allBelow
+    spreading-more =
         record {
-          acts = f .acts;
-          ranked = ranks-kept c w r m l counts p g c′ w′ x (f .ranked) b;
-          lent = b .lent;
-          pages = f .pages;
+          ready = t .ready;
+          ranked = t .ranked;
+          processors-are = t .processors-are;
+          pages-are = t .pages-are;
           upto = omega arith;
-          is = b .holds ∙ rw (add-one g) (ap (λ (t : State). fetched mainframe t p g) (f .is));
-          counted = rw (add-one g, b .counted, f .counted, f .is);
+          few = omega (arith, t .few, small);
+          spread = rw (add-one g) (spread-then w₀ w w′ (pagesTo c r l counts n g) (pageTo c r l counts n g) count a (t .spread) s);
         }
 
-  -- at most 128 records were applied to each
-  pub pages-few : n ≤ g → count ≤ 1024
-  unfolding mainframe
-  pages-few h = omega (arith, kept-here .few, f .counted, f .upto, f .pages, pages-read c₀ w₀ r m, f .acts .in-order .pages-fit)
+  -- those of all pages are
+  pub spreading-ends : pages ≤ g → Spread w₀ w (pagesTo c r l counts (getD m 0 0) (getD m 1 0)) count
+  spreading-ends h =
+      let e : g ≡ getD m 1 0 = omega (arith, h, t .upto, t .pages-are) in
+      rw (t .processors-are, e) at (t .spread)
 
-  -- the records are ranked still
-  pub pages-ranked : n ≤ g → PagesRanked c r m l counts
-  pages-ranked h = f .ranked
+-- ---- fetch_all
 
-  -- every page is fetched
-  pub pages-end : n ≤ g → CountedAs (pagesFetched mainframe (stateIn mainframe c₀ w₀ r m) p (stateIn mainframe c₀ w₀ r m .counts .pages)) count c w r m
-  pages-end h =
-      let s : State = stateIn mainframe c₀ w₀ r m in
-      let e : g ≡ s .counts .pages = omega (arith, f .pages, f .upto, pages-read c₀ w₀ r m) in
+module _ (c w r m : List ℕ) (a : Ready c w r m) where
+  -- with the clocks settled the areas hold the state after all fetches
+  pub all-fetched : (l counts w′ : List ℕ) (count : ℕ) → PagesRanked c r m l counts → Spread w w′ (pagesTo c r l counts (getD m 0 0) (getD m 1 0)) count
+      → CountedAs (allFetched mainframe (stateIn mainframe c w r m) (stateIn mainframe c w r m .counts .processors)) count (settledAll c (getD m 0 0) (getD m 1 0)) w′ r m
+  all-fetched l counts w′ count ranked s =
       record {
-        applied = f .counted ∙ ap (λ (k : ℕ). pagesFetched mainframe s p k .count) e;
-        areas = record { lent = f .lent; is = f .is ∙ ap (λ (k : ℕ). pagesFetched mainframe s p k .after) e };
+        applied = spread-count w w′ (last .words) laid due count (after .count) s (last .spread) same ∙ ap (λ (k : ℕ). allFetched mainframe state k .count) all;
+        areas =
+            record {
+              lent =
+                  record {
+                    clocks = length-settled-all c (getD m 0 0) (getD m 1 0) ∙ a .lent .clocks;
+                    words = s .words;
+                    records = a .lent .records;
+                    marks = a .lent .marks;
+                  };
+              is =
+                  rw (spread-words w w′ (last .words) laid due count (after .count) s (last .spread) same) (last .is)
+                  ∙ ap (λ (k : ℕ). allFetched mainframe state k .after) all;
+            };
       }
+    where
+      state : State
+      state = stateIn mainframe c w r m
 
--- ---- every processor fetches each page
+      laid : ℕ → List Record
+      laid = pagesTo c r l counts (getD m 0 0) (getD m 1 0)
 
-record AllKept (s : State) (f : Fetches) : Type 0 where
-  pub in-order : InOrder mainframe (f .after)
-  pub counts : f .after .counts ≡ s .counts
+      due : ℕ → List Record
+      due = allFetchedTo c r (getD m 3 0) (getD m 0 0) (getD m 1 0)
 
-all-kept : (s : State) (n : ℕ) → InOrder mainframe s → n ≤ s .counts .processors → AllKept s (allFetched mainframe s n)
-unfolding allFetched
-all-kept s zero o h = record { in-order = o; counts = refl }
-all-kept s (suc k) o h =
-    let q : AllKept s (allFetched mainframe s k) = all-kept s k o (omega arith) in
-    let f : State = allFetched mainframe s k .after in
-    let processors : f .counts .processors ≡ s .counts .processors = ap (λ (n : Counts). n .processors) (q .counts) in
-    let pages : f .counts .pages ≡ s .counts .pages = ap (λ (n : Counts). n .pages) (q .counts) in
-    let t = pages-kept f (suc k) (s .counts .pages) (q .in-order) (omega arith) (omega (arith, processors)) (omega (arith, pages)) in
-    record { in-order = t .in-order; counts = t .counts ∙ q .counts }
+      last : AllReached c w r m (getD m 0 0)
+      last = all-reached c w r m a (getD m 0 0) (omega arith)
 
-next-all : (s t u : State) (k pages : ℕ) → t ≡ allFetched mainframe s k .after → pages ≡ s .counts .pages → u ≡ pagesFetched mainframe t (k + 1) pages .after
-    → u ≡ allFetched mainframe s (k + 1) .after
-unfolding allFetched
-next-all s t u k pages e d h = h ∙ rw (add-one k, e, d)
+      after : Fetches
+      after = allFetched mainframe state (getD m 0 0)
 
-next-counted : (s t : State) (k pages count x : ℕ) → t ≡ allFetched mainframe s k .after → pages ≡ s .counts .pages → count ≡ allFetched mainframe s k .count
-    → x ≡ pagesFetched mainframe t (k + 1) pages .count → count + x ≡ allFetched mainframe s (k + 1) .count
-unfolding allFetched
-next-counted s t k pages count x e d a b = rw (a, b, add-one k, e, d)
+      same : (j : ℕ) → j < 128 → laid j ≡ due j
+      same j b = rows-agree c w r m l counts a ranked j
 
--- the first k processors have fetched
-pub record AllFetching (c₀ w₀ c w r m l counts : List ℕ) (n k count : ℕ) : Type 0 where
-  pub ready : Ready c₀ w₀ r m
-  pub ranked : PagesRanked c r m l counts
-  pub lent : Lent c w r m
-  pub processors : n ≡ getD m 0 0
-  pub eight : n ≤ 8
-  pub upto : k ≤ n
-  pub few : count ≤ 1024 * k
-  pub is : stateIn mainframe c w r m ≡ allFetched mainframe (stateIn mainframe c₀ w₀ r m) k .after
-  pub counted : count ≡ allFetched mainframe (stateIn mainframe c₀ w₀ r m) k .count
+      all : getD m 0 0 ≡ state .counts .processors
+      all = sym (processors-read c w r m)
 
--- none has fetched yet
-pub all-begin : (c w r m l counts : List ℕ) (n : ℕ) → Ready c w r m → PagesRanked c r m l counts → n ≡ getD m 0 0 → AllFetching c w c w r m l counts n 0 0
-unfolding allFetched mainframe
-all-begin c w r m l counts n a q e =
-    record {
-      ready = a;
-      ranked = q;
-      lent = a .lent;
-      processors = e;
-      eight = omega (arith, e, processors-read c w r m, a .in-order .processors-fit);
-      upto = omega arith;
-      few = omega arith;
-      is = refl;
-      counted = refl;
-    }
-
-module _ (c₀ w₀ c w r m l counts : List ℕ) (n k count : ℕ) (f : AllFetching c₀ w₀ c w r m l counts n k count) where
-  all-kept-here : AllKept (stateIn mainframe c₀ w₀ r m) (allFetched mainframe (stateIn mainframe c₀ w₀ r m) k)
-  all-kept-here = all-kept (stateIn mainframe c₀ w₀ r m) k (f .ready .in-order) (omega (arith, f .processors, f .upto, processors-read c₀ w₀ r m))
-
-  order-here : InOrder mainframe (stateIn mainframe c w r m)
-  order-here = rw (f .is) (all-kept-here .in-order)
-
-  -- the next processor can fetch
-  pub next-acts : k < n → Acts c w r m (k + 1)
-  unfolding stateIn
-  next-acts h = record { lent = f .lent; in-order = order-here; from = omega arith; to = omega (arith, f .processors) }
-
-  -- from records that are ranked
-  pub ranked-still : PagesRanked c r m l counts
-  ranked-still = f .ranked
-
-  -- one more has fetched
-  pub all-more : (x : ℕ) (c′ w′ : List ℕ) → k < n → x ≤ 1024 → PagesRanked c′ r m l counts
-      → CountedAs (pagesFetched mainframe (stateIn mainframe c w r m) (k + 1) (stateIn mainframe c w r m .counts .pages)) x c′ w′ r m
-      → AllFetching c₀ w₀ c′ w′ r m l counts n (k + 1) (count + x)
-  all-more x c′ w′ h small q s =
-      let s₀ : State = stateIn mainframe c₀ w₀ r m in
-      let s₁ : State = stateIn mainframe c w r m in
-      let pages : s₁ .counts .pages ≡ s₀ .counts .pages = unfold stateIn in refl in
-      record {
-        ready = f .ready;
-        ranked = q;
-        lent = s .areas .lent;
-        processors = f .processors;
-        eight = f .eight;
-        upto = omega arith;
-        few = omega (arith, f .few);
-        is = next-all s₀ s₁ (stateIn mainframe c′ w′ r m) k (s₁ .counts .pages) (f .is) pages (s .areas .is);
-        counted = next-counted s₀ s₁ k (s₁ .counts .pages) count x (f .is) pages (f .counted) (s .applied);
-      }
-
-  -- all have fetched
-  pub all-end : n ≤ k → CountedAs (allFetched mainframe (stateIn mainframe c₀ w₀ r m) (stateIn mainframe c₀ w₀ r m .counts .processors)) count c w r m
-  all-end h =
-      let s : State = stateIn mainframe c₀ w₀ r m in
-      let e : k ≡ s .counts .processors = omega (arith, f .processors, f .upto, processors-read c₀ w₀ r m) in
-      record {
-        applied = f .counted ∙ ap (λ (i : ℕ). allFetched mainframe s i .count) e;
-        areas = record { lent = f .lent; is = f .is ∙ ap (λ (i : ℕ). allFetched mainframe s i .after) e };
-      }
-
-pub ruleset fetches-laws = (pages-begin, next-fetchable, next-ranked, pages-count-fits, pages-more, pages-few, pages-ranked, pages-end, all-begin, next-acts, ranked-still, all-more, all-end, needs)
+pub ruleset fetches-laws = (row-counted, row-from-fits, row-to-fits, row-bytes-fit, row-within, row-spreadable, row-spread, processors-there, pages-there, spreading-begins, spreading-there, spreading-fits, spreading-more, spreading-ends, standing-rankable, all-fetched, needs)

@@ -1,31 +1,27 @@
--- The ranked records of a collection: where they come from, what keeps them, and that a page can be fetched from its row. Assumes nothing.
-use Prim.Native.Nat.{ℕ, _+_, _-_, _*_, _≤_, _<_}
+-- The ranked records of a collection: where they come from, and that a fetch leaves their numbers. Assumes nothing.
+use Prim.Native.Nat.{ℕ, _+_, _*_, _<_}
 use native.Mathlib.Omega.{arith}
 use mathlib.Core.Path.{_≡_, refl, sym, ap, _∙_}
 use mathlib.Core.List.{List, map}
 use lib.ListN.{length, getD, take, drop, replicate, length-replicate}
 use lib.Seq.{take-at}
 use lib.Dec.{ltb, eqb}
-use mir.Syntax.{w64}
-use mir.Val.{Fits}
 use borrow.Author.Needs.{needs}
 use Rattle.clock.specs.Clocks.{sumOf}
-use Rattle.rules.specs.Fetch.{sumAt, fetched}
-use Rattle.rules.specs.State.{mainframe, Applied, Interval, Clocks, clockOf, withClock, State, clock}
+use Rattle.rules.specs.Fetch.{sumAt}
+use Rattle.rules.specs.State.{mainframe, Applied, Interval, Clocks, clockOf, withClock}
 use Rattle.rules.specs.Tables.{sortBy}
 use Rattle.rules.proofs.Holders.{sameHolder, clock-of-with-other}
-use Rattle.memory.specs.Areas.{clocksIn, stateIn}
+use Rattle.memory.specs.Areas.{clocksIn}
 use Rattle.memory.specs.Layout.{rowOf}
 use Rattle.memory.specs.Needed.{Ready}
-use Rattle.memory.proofs.RowLaws.{length-row}
 use Rattle.pending.specs.Pending.{recordOf, slotsBy}
 use Rattle.fetching.specs.Keys.{keyOf}
 use Rattle.fetching.specs.Slots.{numberIn}
 use Rattle.fetching.specs.Needed.{Fetchable}
-use Rattle.fetching.proofs.Fetching.{on-page}
 use Rattle.fetching.proofs.InState.{slots-sound, page-fits-at}
 use Rattle.ranking.specs.Ranks.{pageNumbers}
-use Rattle.ranking.specs.Needed.{Rankable, Ranked, FetchableRanked, Brought}
+use Rattle.ranking.specs.Needed.{Rankable, Ranked}
 use Rattle.ranking.proofs.Picking.{page-few}
 use Rattle.collecting.specs.Needed.{StandingRankable, PagesRanked}
 
@@ -93,53 +89,4 @@ module _ (c c′ r : List ℕ) (p g : ℕ) (v : List ℕ) (e : clocksIn mainfram
   unfolding pageNumbers
   numbers-kept q n = ap (λ (f : ℕ → ℕ). sortBy ltb (map f (slotsBy (λ i. eqb (recordOf r i .page) q) n))) (λ j i. number-kept i j)
 
--- the rows still have the numbers of their pages
-pub ranks-kept : (c w r m l counts : List ℕ) (p g : ℕ) (c′ w′ : List ℕ) (x : ℕ) → PagesRanked c r m l counts → Brought c w r m p g c′ w′ x → PagesRanked c′ r m l counts
-unfolding stateIn fetched
-ranks-kept c w r m l counts p g c′ w′ x k b =
-    let moved : clocksIn mainframe c′ ≡ withClock (clocksIn mainframe c) (Applied p g) (clock (stateIn mainframe c w r m) p) = ap (λ (s : State). s .clocks) (b .holds) in
-    record {
-      whole = k .whole;
-      pages = k .pages;
-      few = k .few;
-      row = λ q f. k .row q f ∙ sym (numbers-kept c c′ r p g (clock (stateIn mainframe c w r m) p) moved q (getD m 3 0));
-    }
-
--- ---- a page fetched from its row
-
-module _ (c w r m l counts : List ℕ) (p g : ℕ) (h : Fetchable c w r m p g) (k : PagesRanked c r m l counts) where
-  page-fits : g < 8
-  page-fits = on-page c w r m p g h .page
-
-  -- the page has a count
-  pub from-counted : g < length counts
-  from-counted = omega (arith, page-fits, k .pages)
-
-  -- the places of its row are numbers of a machine word, in words and in bytes
-  pub from-fits : Fits w64 (128 * g)
-  from-fits = omega (arith, page-fits)
-
-  pub to-fits : Fits w64 (128 * g + 128)
-  to-fits = omega (arith, page-fits)
-
-  pub bytes-fit : Fits w64 (128 * g * 4)
-  bytes-fit = omega (arith, page-fits)
-
-  -- its row lies within the ranks
-  pub from-within : 128 * g + 128 ≤ length l
-  from-within = omega (arith, k .whole, page-fits)
-
-  -- from which it can be fetched
-  pub from-fetchable : (n : ℕ) → n ≡ getD counts g 0 → FetchableRanked c w r m p g (take (128 * g + 128 - 128 * g) (drop (128 * g) l)) n
-  unfolding rowOf
-  from-fetchable n e =
-      let row : take (128 * g + 128 - 128 * g) (drop (128 * g) l) ≡ rowOf 128 l g =
-      let d : 128 * g + 128 - 128 * g ≡ 128 = omega arith in
-      ap (λ (j : ℕ). take j (drop (128 * g) l)) d in
-      record {
-        fetchable = h;
-        within = omega (arith, e, k .few g page-fits, ap length row, length-row 128 l g from-within);
-        ranks = rw (e, row) (k .row g page-fits);
-      }
-
-pub ruleset ranks-laws = (standing-rankable, standing-there, count-rankable, standing-ranked, from-counted, from-fits, to-fits, bytes-fit, from-within, from-fetchable, needs)
+pub ruleset ranks-laws = (standing-rankable, standing-there, count-rankable, standing-ranked, needs)

@@ -6,6 +6,7 @@ use lib.ListN.{length, getD, take}
 use Rattle.memory.specs.Layout.{rowOf}
 use Rattle.ranking.specs.Needed.{Rankable}
 use Rattle.ranking.specs.Ranks.{pageNumbers}
+use Rattle.spreading.specs.Needed.{PageSpreadable}
 
 -- the records that stand can be ranked
 pub record StandingRankable (c r m l : List ℕ) : Type 0 where
@@ -18,6 +19,12 @@ pub record PagesRanked (c r m l counts : List ℕ) : Type 0 where
   pub pages : 8 ≤ length counts
   pub few : (g : ℕ) → g < 8 → getD counts g 0 ≤ 128
   pub row : (g : ℕ) → g < 8 → take (getD counts g 0) (rowOf 128 l g) ≡ pageNumbers c r g (getD m 3 0)
+
+-- the row of a page begins with numbers whose records can be laid into the copies of the first n processors
+pub record RowSpreadable (c w r l counts : List ℕ) (g n : ℕ) : Type 0 where
+  pub whole : length l ≡ 1024
+  pub pages : 8 ≤ length counts
+  pub row : PageSpreadable c w r g (rowOf 128 l g) (getD counts g 0) n
 
 -- the areas of the clocks and of the marks
 pub record ClocksAndMarks (c m : List ℕ) : Type 0 where

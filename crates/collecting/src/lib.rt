@@ -2,20 +2,20 @@
 // The contracts say in the words of the rules (specs/Steps.antt of the crate rules) what state the areas hold afterwards.
 ghost use mathlib.Core.Path.{_≡_};
 ghost use Prim.Native.Nat.{_≤_, _<_};
-ghost use lib.ListN.{replicate};
+ghost use lib.ListN.{getD, replicate};
 ghost use Rattle.rules.specs.State.{mainframe};
-ghost use Rattle.rules.specs.Steps.{pagesFetched, allFetched, collected};
+ghost use Rattle.rules.specs.Steps.{allFetched, collected};
 ghost use Rattle.memory.specs.Areas.{stateIn};
-ghost use Rattle.memory.specs.Needed.{Ready, Acts};
-ghost use Rattle.fetching.specs.Needed.{Fetchable};
-ghost use Rattle.ranking.specs.Needed.{Brought};
-ghost use Rattle.collecting.specs.Needed.{StandingRankable, PagesRanked, ClocksAndMarks};
+ghost use Rattle.memory.specs.Needed.{Ready};
+ghost use Rattle.spreading.specs.Spread.{Spread};
+ghost use Rattle.collecting.specs.Needed.{StandingRankable, PagesRanked, RowSpreadable, ClocksAndMarks};
+ghost use Rattle.collecting.specs.Spreads.{pageTo, pagesTo, settledAll};
 ghost use Rattle.collecting.specs.Effects.{CountedAs, Emptied};
 use clock::PageId;
-use clock::ProcessorId;
 use memory::clear;
 
-// Garbage collection: every processor, upwards, fetches every page, upwards; then the records go. Yields how many records were applied.
+// Garbage collection: every processor, upwards, fetches every page, upwards; then the records go. Yields how many records were applied. The
+// fetches need not settle the clocks, since all clocks are cleared then.
 pub fn collect(clocks: &mut [u8], words: &mut [u32], records: &[u8], marks: &mut [u8]) -> u32
     requires { ⌜ Ready (now clocks) (now words) (now records) (now marks) ⌝ }
     ensures { λ r. ⌜ CountedAs (collected mainframe (stateIn mainframe (now (clocks .entry)) (now (words .entry)) (now (records .entry)) (now (marks .entry)))) r (now (clocks .exit)) (now (words .exit)) (now (records .entry)) (now (marks .exit)) ⌝ }
@@ -25,14 +25,15 @@ pub fn collect(clocks: &mut [u8], words: &mut [u32], records: &[u8], marks: &mut
     count
 }
 
-// Every processor, upwards, fetches every page. Yields how many records were applied. The records are ranked once for all fetches.
-fn fetch_all(clocks: &mut [u8], words: &mut [u32], records: &[u8], marks: &[u8]) -> u32
+// Every processor fetches every page, as far as the words show it: the clocks are left, and with the applied ones settled the areas would hold the
+// state after all fetches. Yields how many records were applied. The records are ranked once, and each goes to all copies to which it is news.
+fn fetch_all(clocks: &[u8], words: &mut [u32], records: &[u8], marks: &[u8]) -> u32
     requires { ⌜ Ready (now clocks) (now words) (now records) (now marks) ⌝ }
-    ensures { λ r. ⌜ CountedAs (allFetched mainframe (stateIn mainframe (now (clocks .entry)) (now (words .entry)) (now (records .entry)) (now (marks .entry))) (stateIn mainframe (now (clocks .entry)) (now (words .entry)) (now (records .entry)) (now (marks .entry)) .counts .processors)) r (now (clocks .exit)) (now (words .exit)) (now (records .entry)) (now (marks .entry)) ⌝ }
+    ensures { λ r. ⌜ CountedAs (allFetched mainframe (stateIn mainframe (now (clocks .entry)) (now (words .entry)) (now (records .entry)) (now (marks .entry))) (stateIn mainframe (now (clocks .entry)) (now (words .entry)) (now (records .entry)) (now (marks .entry)) .counts .processors)) r (settledAll (now (clocks .entry)) (getD (now (marks .entry)) 0 0) (getD (now (marks .entry)) 1 0)) (now (words .exit)) (now (records .entry)) (now (marks .entry)) ⌝ }
 {
     let mut ranks = no_ranks();
     let counts = rank_standing(clocks, records, marks, &mut ranks);
-    fetch_each(clocks, words, records, marks, &ranks, &counts)
+    spread_pages(clocks, words, records, marks, &ranks, &counts)
 }
 
 // Ranks the records that stand: the row of each page begins with their numbers. Yields how many each page has.
@@ -50,9 +51,9 @@ pub fn no_ranks() -> [u32; 1024]
     [0; 1024]
 }
 
-// Every processor, upwards, fetches every page from the ranked records. Yields how many were applied.
-fn fetch_each(
-    clocks: &mut [u8],
+// Lays the ranked records of every page into all copies to which they are news. Yields how often a record was laid.
+fn spread_pages(
+    clocks: &[u8],
     words: &mut [u32],
     records: &[u8],
     marks: &[u8],
@@ -61,73 +62,38 @@ fn fetch_each(
 ) -> u32
     requires { ⌜ Ready (now clocks) (now words) (now records) (now marks) ⌝ }
     requires { ⌜ PagesRanked (now clocks) (now records) (now marks) (now ranks) (now counts) ⌝ }
-    ensures { λ r. ⌜ CountedAs (allFetched mainframe (stateIn mainframe (now (clocks .entry)) (now (words .entry)) (now (records .entry)) (now (marks .entry))) (stateIn mainframe (now (clocks .entry)) (now (words .entry)) (now (records .entry)) (now (marks .entry)) .counts .processors)) r (now (clocks .exit)) (now (words .exit)) (now (records .entry)) (now (marks .entry)) ⌝ }
+    ensures { λ r. ⌜ Spread (now (words .entry)) (now (words .exit)) (pagesTo (now (clocks .entry)) (now (records .entry)) (now (ranks .entry)) (now (counts .entry)) (getD (now (marks .entry)) 0 0) (getD (now (marks .entry)) 1 0)) r ⌝ }
 {
-    let n = wide(marks[0]);
-    let mut count: u32 = 0;
-    let mut k: usize = 0;
-    while k < n {
-        count = count
-            + fetch_pages(
-                ProcessorId(k + 1),
-                clocks,
-                words,
-                records,
-                marks,
-                ranks,
-                counts,
-            );
-        k = k + 1;
-    }
-    count
-}
-
-// One processor fetches every page, upwards. Yields how many records were applied.
-fn fetch_pages(
-    p: ProcessorId,
-    clocks: &mut [u8],
-    words: &mut [u32],
-    records: &[u8],
-    marks: &[u8],
-    ranks: &[u32],
-    counts: &[u8],
-) -> u32
-    requires { ⌜ Acts (now clocks) (now words) (now records) (now marks) (p .0) ⌝ }
-    requires { ⌜ PagesRanked (now clocks) (now records) (now marks) (now ranks) (now counts) ⌝ }
-    ensures { λ r. ⌜ CountedAs (pagesFetched mainframe (stateIn mainframe (now (clocks .entry)) (now (words .entry)) (now (records .entry)) (now (marks .entry))) (p .0) (stateIn mainframe (now (clocks .entry)) (now (words .entry)) (now (records .entry)) (now (marks .entry)) .counts .pages)) r (now (clocks .exit)) (now (words .exit)) (now (records .entry)) (now (marks .entry)) ⌝ }
-    ensures few { λ r. ⌜ r ≤ 1024 ⌝ }
-    ensures ranked { λ r. ⌜ PagesRanked (now (clocks .exit)) (now (records .entry)) (now (marks .entry)) (now (ranks .entry)) (now (counts .entry)) ⌝ }
-{
-    let n = wide(marks[1]);
+    let processors = wide(marks[0]);
+    let pages = wide(marks[1]);
     let mut count: u32 = 0;
     let mut g: usize = 0;
-    while g < n {
-        count = count + fetch_from(p, PageId(g), clocks, words, records, marks, ranks, counts);
+    while g < pages {
+        count = count + spread_row(PageId(g), clocks, words, records, ranks, counts, processors);
         g = g + 1;
     }
     count
 }
 
-// Fetches page g for processor p from the row of the page. The count is the records applied.
-pub fn fetch_from(
-    p: ProcessorId,
+// Lays the records of the row of page g into all copies to which they are news. Yields how often a record was laid.
+fn spread_row(
     g: PageId,
-    clocks: &mut [u8],
+    clocks: &[u8],
     words: &mut [u32],
     records: &[u8],
-    marks: &[u8],
     ranks: &[u32],
     counts: &[u8],
+    processors: usize,
 ) -> u32
-    requires { ⌜ Fetchable (now clocks) (now words) (now records) (now marks) (p .0) (g .0) ⌝ }
-    requires { ⌜ PagesRanked (now clocks) (now records) (now marks) (now ranks) (now counts) ⌝ }
-    ensures { λ r. ⌜ Brought (now (clocks .entry)) (now (words .entry)) (now (records .entry)) (now (marks .entry)) (p .0) (g .0) (now (clocks .exit)) (now (words .exit)) r ⌝ }
+    requires { ⌜ RowSpreadable (now clocks) (now words) (now records) (now ranks) (now counts) (g .0) processors ⌝ }
+    ensures { λ r. ⌜ Spread (now (words .entry)) (now (words .exit)) (pageTo (now (clocks .entry)) (now (records .entry)) (now (ranks .entry)) (now (counts .entry)) processors (g .0)) r ⌝ }
+    ensures few { λ r. ⌜ r ≤ 1024 ⌝ }
 {
     let at = g.0;
     let from = 128 * at;
     let to = from + 128;
     let n = wide(counts[at]);
-    ranking::fetch_ranked(p, g, clocks, words, records, marks, &ranks[from..to], n)
+    spreading::spread_page(g, clocks, words, records, &ranks[from..to], n, processors)
 }
 
 // The records go, all clocks become zeros and the wish clears.

@@ -1,4 +1,3 @@
 pub mod Picking
 pub mod Putting
-pub mod Listing
-pub mod Bringing
+pub mod News
