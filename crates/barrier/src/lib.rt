@@ -50,7 +50,7 @@ pub fn want(marks: &mut [u8])
 }
 
 // Closes the interval; the barrier's clock joins the processor's; the processor is marked.
-fn at_barrier(
+pub fn at_barrier(
     p: ProcessorId,
     clocks: &mut [u8],
     words: &[u32],
@@ -66,7 +66,7 @@ fn at_barrier(
 }
 
 // Whether all processors have arrived. Every mark is looked at: where the first one missing stands nobody can foresee.
-fn all_arrived(marks: &[u8]) -> bool
+pub fn all_arrived(marks: &[u8]) -> bool
     requires { ⌜ MarksThere (now marks) ⌝ }
     ensures { λ r. ⌜ ArrivedAll (now (marks .entry)) r ⌝ }
 {
@@ -100,7 +100,7 @@ fn complete_round(clocks: &mut [u8], words: &mut [u32], records: &[u8], marks: &
 }
 
 // Every processor learns the barrier's clock, which returns to zeros, and the marks clear.
-fn round_done(clocks: &mut [u8], marks: &mut [u8])
+pub fn round_done(clocks: &mut [u8], marks: &mut [u8])
     requires { ⌜ RoundThere (now clocks) (now marks) ⌝ }
     ensures { λ _. ⌜ RoundDone (now (clocks .entry)) (now (marks .entry)) (now (clocks .exit)) (now (marks .exit)) ⌝ }
 {

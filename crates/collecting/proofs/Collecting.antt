@@ -24,7 +24,6 @@ use Rattle.spreading.proofs.Spreading.{spread-none, spread-then, spread-words, 
 use Rattle.collecting.specs.Needed.{PagesRanked, RowSpreadable}
 use Rattle.collecting.specs.Spreads.{pageTo, pagesTo, settledAll, allFetchedTo}
 use Rattle.collecting.specs.Effects.{CountedAs}
-use Rattle.collecting.proofs.Ranked.{standing-rankable}
 use Rattle.collecting.proofs.Settling.{length-settled-all}
 use Rattle.collecting.proofs.Order.{AllReached, all-reached}
 use Rattle.collecting.proofs.Agreeing.{row-fetchable, rows-agree}
@@ -153,7 +152,7 @@ module _ (c w₀ w r m l counts : List ℕ) (n pages g count : ℕ) (t : PagesSp
       let e : g ≡ getD m 1 0 = omega (arith, h, t .upto, t .pages-are) in
       rw (t .processors-are, e) at (t .spread)
 
--- ---- fetch_all
+-- ---- all fetches
 
 module _ (c w r m : List ℕ) (a : Ready c w r m) where
   -- with the clocks settled the areas hold the state after all fetches
@@ -198,4 +197,4 @@ module _ (c w r m : List ℕ) (a : Ready c w r m) where
       all : getD m 0 0 ≡ state .counts .processors
       all = sym (processors-read c w r m)
 
-pub ruleset fetches-laws = (row-counted, row-from-fits, row-to-fits, row-bytes-fit, row-within, row-spreadable, row-spread, processors-there, pages-there, spreading-begins, spreading-there, spreading-fits, spreading-more, spreading-ends, standing-rankable, all-fetched, needs)
+pub ruleset fetches-laws = (row-counted, row-from-fits, row-to-fits, row-bytes-fit, row-within, row-spreadable, row-spread, processors-there, pages-there, spreading-begins, spreading-there, spreading-fits, spreading-more, spreading-ends, needs)

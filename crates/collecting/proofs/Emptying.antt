@@ -1,20 +1,22 @@
--- What is emptied once all have fetched, and the collection put together: one law for each way of the code, and `empty-laws`.
--- Assumes nothing.
+-- What is emptied once all have fetched, and the collection put together: one law for each way of the code, and `empty-laws`. Rests on
+-- Collecting. Assumes nothing.
 use Prim.Native.Nat.{ℕ}
 use mathlib.Core.Path.{_≡_, sym, ap, _∙_}
 use mathlib.Core.List.{List}
-use lib.ListN.{length, set, length-set, replicate, length-replicate}
+use lib.ListN.{length, getD, set, length-set, replicate, length-replicate}
 use borrow.Author.Needs.{needs}
 use Rattle.rules.specs.State.{mainframe, Clocks, State}
-use Rattle.rules.specs.Steps.{allFetched, allCleared, emptied, collected}
+use Rattle.rules.specs.Steps.{allCleared, emptied, collected}
 use Rattle.memory.specs.Areas.{clocksIn, recordsIn, stateIn}
 use Rattle.memory.specs.Needed.{Ready}
 use Rattle.memory.proofs.ClockLaws.{clocks-zeros}
 use Rattle.memory.proofs.MarkLaws.{standing-written, wanted-written}
-use Rattle.collecting.specs.Needed.{ClocksAndMarks}
+use Rattle.spreading.specs.Spread.{Spread}
+use Rattle.collecting.specs.Needed.{PagesRanked, ClocksAndMarks}
 use Rattle.collecting.specs.Effects.{CountedAs, Emptied}
-use Rattle.collecting.specs.Spreads.{settledAll}
+use Rattle.collecting.specs.Spreads.{pagesTo, settledAll}
 use Rattle.collecting.proofs.Settling.{length-settled-all}
+use Rattle.collecting.proofs.Collecting.{all-fetched}
 
 -- the records go, all clocks are zeros, the wish is clear
 pub emptied-areas : (c m c′ : List ℕ) → ClocksAndMarks c m → c′ ≡ replicate (length c) 0 → Emptied c m c′ (set (set m 3 0) 4 0)
@@ -48,18 +50,19 @@ emptied-settled c w r m n pages =
     ap (λ (k : Clocks). record { counts = t .counts; clocks = k; pages = t .pages; records = t .records; marks = t .marks })
     (cleared-same c (settledAll c n pages) (sym (length-settled-all c n pages)))
 
--- all have fetched, then all was emptied
-pub collected-done : (s : State) (x n pages : ℕ) (c w r m c′ m′ : List ℕ) → CountedAs (allFetched mainframe s (s .counts .processors)) x (settledAll c n pages) w r m
-    → Emptied c m c′ m′ → CountedAs (collected mainframe s) x c′ w r m′
+-- all records are laid into all copies, then all was emptied
+pub collected-done : (c w r m l counts w′ c′ m′ : List ℕ) (x : ℕ) → Ready c w r m → PagesRanked c r m l counts → Spread w w′ (pagesTo c r l counts (getD m 0 0) (getD m 1 0)) x
+    → Emptied c m c′ m′ → CountedAs (collected mainframe (stateIn mainframe c w r m)) x c′ w′ r m′
 unfolding collected
-collected-done s x n pages c w r m c′ m′ h e =
-    let l = h .areas .lent in
+collected-done c w r m l counts w′ c′ m′ x a k s e =
+    let h = all-fetched c w r m a l counts w′ x k s in
+    let t = h .areas .lent in
     record {
       applied = h .applied;
       areas =
           record {
-            lent = record { clocks = e .clocks; words = l .words; records = l .records; marks = e .marks };
-            is = e .is w r ∙ emptied-settled c w r m n pages ∙ ap (λ (t : State). emptied t) (h .areas .is);
+            lent = record { clocks = e .clocks; words = t .words; records = t .records; marks = e .marks };
+            is = e .is w′ r ∙ emptied-settled c w′ r m (getD m 0 0) (getD m 1 0) ∙ ap (λ (u : State). emptied u) (h .areas .is);
           };
     }
 

@@ -4,36 +4,44 @@ ghost use mathlib.Core.Path.{_≡_};
 ghost use Prim.Native.Nat.{_≤_, _<_};
 ghost use lib.ListN.{getD, replicate};
 ghost use Rattle.rules.specs.State.{mainframe};
-ghost use Rattle.rules.specs.Steps.{allFetched, collected};
+ghost use Rattle.rules.specs.Steps.{collected};
 ghost use Rattle.memory.specs.Areas.{stateIn};
 ghost use Rattle.memory.specs.Needed.{Ready};
 ghost use Rattle.spreading.specs.Spread.{Spread};
 ghost use Rattle.collecting.specs.Needed.{StandingRankable, PagesRanked, RowSpreadable, ClocksAndMarks};
-ghost use Rattle.collecting.specs.Spreads.{pageTo, pagesTo, settledAll};
+ghost use Rattle.collecting.specs.Spreads.{pageTo, pagesTo};
 ghost use Rattle.collecting.specs.Effects.{CountedAs, Emptied};
 use clock::PageId;
 use memory::clear;
 
 // Garbage collection: every processor, upwards, fetches every page, upwards; then the records go. Yields how many records were applied. The
-// fetches need not settle the clocks, since all clocks are cleared then.
+// records are ranked once for all fetches.
 pub fn collect(clocks: &mut [u8], words: &mut [u32], records: &[u8], marks: &mut [u8]) -> u32
     requires { ⌜ Ready (now clocks) (now words) (now records) (now marks) ⌝ }
     ensures { λ r. ⌜ CountedAs (collected mainframe (stateIn mainframe (now (clocks .entry)) (now (words .entry)) (now (records .entry)) (now (marks .entry)))) r (now (clocks .exit)) (now (words .exit)) (now (records .entry)) (now (marks .exit)) ⌝ }
 {
-    let count = fetch_all(clocks, words, records, marks);
-    empty(clocks, marks);
-    count
-}
-
-// Every processor fetches every page, as far as the words show it: the clocks are left, and with the applied ones settled the areas would hold the
-// state after all fetches. Yields how many records were applied. The records are ranked once, and each goes to all copies to which it is news.
-fn fetch_all(clocks: &[u8], words: &mut [u32], records: &[u8], marks: &[u8]) -> u32
-    requires { ⌜ Ready (now clocks) (now words) (now records) (now marks) ⌝ }
-    ensures { λ r. ⌜ CountedAs (allFetched mainframe (stateIn mainframe (now (clocks .entry)) (now (words .entry)) (now (records .entry)) (now (marks .entry))) (stateIn mainframe (now (clocks .entry)) (now (words .entry)) (now (records .entry)) (now (marks .entry)) .counts .processors)) r (settledAll (now (clocks .entry)) (getD (now (marks .entry)) 0 0) (getD (now (marks .entry)) 1 0)) (now (words .exit)) (now (records .entry)) (now (marks .entry)) ⌝ }
-{
     let mut ranks = no_ranks();
     let counts = rank_standing(clocks, records, marks, &mut ranks);
-    spread_pages(clocks, words, records, marks, &ranks, &counts)
+    collect_ranked(clocks, words, records, marks, &ranks, &counts)
+}
+
+// The same where the records are ranked. Each goes to all copies to which it is news; the fetches need not settle the clocks, since all clocks
+// are cleared then.
+pub fn collect_ranked(
+    clocks: &mut [u8],
+    words: &mut [u32],
+    records: &[u8],
+    marks: &mut [u8],
+    ranks: &[u32],
+    counts: &[u8],
+) -> u32
+    requires { ⌜ Ready (now clocks) (now words) (now records) (now marks) ⌝ }
+    requires { ⌜ PagesRanked (now clocks) (now records) (now marks) (now ranks) (now counts) ⌝ }
+    ensures { λ r. ⌜ CountedAs (collected mainframe (stateIn mainframe (now (clocks .entry)) (now (words .entry)) (now (records .entry)) (now (marks .entry)))) r (now (clocks .exit)) (now (words .exit)) (now (records .entry)) (now (marks .exit)) ⌝ }
+{
+    let count = spread_pages(clocks, words, records, marks, ranks, counts);
+    empty(clocks, marks);
+    count
 }
 
 // Ranks the records that stand: the row of each page begins with their numbers. Yields how many each page has.

@@ -3,3 +3,4 @@ pub mod Limits
 pub mod Ranks
 pub mod Fetching
 pub mod Acting
+pub mod Arriving
