@@ -1,16 +1,15 @@
 -- The two orders agree: laid record by record into all copies, each row of the words gets what it gets in the rules' order. Assumes
 -- nothing.
-use Prim.Native.Nat.{ℕ, suc, _+_, _*_, _/_, _%_, _≤_, _<_}
+use Prim.Native.Nat.{ℕ, suc, _+_, _/_, _%_, _≤_, _<_}
 use native.Mathlib.Numerals.{add-one}
 use native.Mathlib.Omega.{arith}
 use native.Mathlib.Decide.{ℕ-discrete}
 use mathlib.Core.Path.{_≡_, refl, sym, ap, ap₂, _∙_}
-use mathlib.Core.Bool.{Bool, true, false, cond, not, _&&_}
+use mathlib.Core.Bool.{Bool, true, false, cond, not}
 use mathlib.Core.List.{List, [], _∷_, _++_}
 use lib.ListN.{getD, take}
-use lib.Dec.{leb, ltb, eqb}
+use lib.Dec.{ltb, eqb}
 use borrow.Author.Tests.{ltb-true, eq-eqb, ne-eqb}
-use Rattle.clock.specs.Clocks.{entryOf}
 use Rattle.rules.specs.State.{mainframe, Processor, Applied, Record}
 use Rattle.rules.specs.Tables.{select}
 use Rattle.rules.proofs.Facts.{Within}
@@ -26,7 +25,7 @@ use Rattle.fetching.specs.Slots.{dueIn}
 use Rattle.fetching.specs.Needed.{Fetchable}
 use Rattle.fetching.proofs.Fetching.{on-page}
 use Rattle.fetching.proofs.InState.{slots-sound}
-use Rattle.ranking.specs.Ranks.{newsBetween, newsTo, duePicked}
+use Rattle.ranking.specs.Ranks.{duePicked}
 use Rattle.ranking.specs.Needed.{PickThere, FetchableRanked}
 use Rattle.ranking.proofs.Picking.{due-picked}
 use Rattle.ranking.proofs.News.{news-pending, ranked-there}
