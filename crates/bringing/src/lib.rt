@@ -48,7 +48,7 @@ pub fn fetch_ranked(
     limit: u32,
 ) -> Fetched
     requires { ⌜ FetchableFrom (now clocks) (now words) (now records) (now marks) (p .0) (g .0) (now ranks) n limit ⌝ }
-    ensures { λ r. ⌜ BroughtTo (now (clocks .entry)) (now (words .entry)) (now (records .entry)) (now (marks .entry)) (p .0) (g .0) (now (ranks .entry)) n (now (clocks .exit)) (now (words .exit)) (r .count) (r .limit) ⌝ }
+    ensures { λ r. ⌜ BroughtTo (now (clocks .entry)) (now (words .entry)) (now (records .entry)) (now (marks .entry)) (p .0) (g .0) (now (ranks .entry)) n limit (now (clocks .exit)) (now (words .exit)) (r .count) (r .limit) ⌝ }
 {
     let row = applied_row(p, g);
     let applied = clock_at(clocks, row);
