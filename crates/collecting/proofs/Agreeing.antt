@@ -32,7 +32,8 @@ use Rattle.ranking.proofs.News.{news-pending, ranked-there}
 use Rattle.spreading.specs.Spread.{allOf, newsAt, recordTo, numbersTo}
 use Rattle.spreading.proofs.Spreading.{all-of-none, all-below-one}
 use Rattle.collecting.specs.Needed.{PagesRanked}
-use Rattle.collecting.specs.Spreads.{pageTo, pagesTo, fetchedTo, allFetchedTo}
+use Rattle.collecting.specs.Spreads.{pageTo, pagesTo}
+use Rattle.collecting.proofs.Order.{fetchedTo, allFetchedTo}
 
 -- ---- the records of a page that are news to a processor are those that are due
 

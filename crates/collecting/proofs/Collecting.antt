@@ -22,10 +22,10 @@ use Rattle.spreading.specs.Spread.{allBelow, numbersTo, Spread}
 use Rattle.spreading.specs.Needed.{NumberThere, PageSpreadable}
 use Rattle.spreading.proofs.Spreading.{spread-none, spread-then, spread-words, spread-count}
 use Rattle.collecting.specs.Needed.{PagesRanked, RowSpreadable}
-use Rattle.collecting.specs.Spreads.{pageTo, pagesTo, settledAll, allFetchedTo}
+use Rattle.collecting.specs.Spreads.{pageTo, pagesTo}
 use Rattle.collecting.specs.Effects.{CountedAs}
-use Rattle.collecting.proofs.Settling.{length-settled-all}
-use Rattle.collecting.proofs.Order.{AllReached, all-reached}
+use Rattle.collecting.proofs.Settling.{settledAll, length-settled-all}
+use Rattle.collecting.proofs.Order.{allFetchedTo, AllReached, all-reached}
 use Rattle.collecting.proofs.Agreeing.{row-fetchable, rows-agree}
 
 -- ---- spread_row

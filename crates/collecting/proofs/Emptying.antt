@@ -14,8 +14,8 @@ use Rattle.memory.proofs.MarkLaws.{standing-written, wanted-written}
 use Rattle.spreading.specs.Spread.{Spread}
 use Rattle.collecting.specs.Needed.{PagesRanked, ClocksAndMarks}
 use Rattle.collecting.specs.Effects.{CountedAs, Emptied}
-use Rattle.collecting.specs.Spreads.{pagesTo, settledAll}
-use Rattle.collecting.proofs.Settling.{length-settled-all}
+use Rattle.collecting.specs.Spreads.{pagesTo}
+use Rattle.collecting.proofs.Settling.{settledAll, length-settled-all}
 use Rattle.collecting.proofs.Collecting.{all-fetched}
 
 -- the records go, all clocks are zeros, the wish is clear

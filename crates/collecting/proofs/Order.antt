@@ -28,8 +28,17 @@ use Rattle.fetching.specs.Needed.{Fetchable}
 use Rattle.fetching.proofs.Fetching.{on-page, page-counted, after-fetch}
 use Rattle.spreading.specs.Spread.{allBelow, Spread}
 use Rattle.spreading.proofs.Spreading.{all-below-same, spread-none, spread-same, spread-then, spread-row}
-use Rattle.collecting.specs.Spreads.{settledPages, settledAll, fetchedTo, allFetchedTo}
-use Rattle.collecting.proofs.Settling.{length-settled-pages, length-settled-all, settled-pages-row, settled-all-row}
+use Rattle.collecting.proofs.Settling.{settledPages, settledAll, length-settled-pages, length-settled-all, settled-pages-row, settled-all-row}
+
+-- ---- the definitions
+
+-- what row j gets when processor p fetches the first `pages`, of the records that are due before all fetches
+unfoldable pub fetchedTo : List ℕ → List ℕ → ℕ → ℕ → ℕ → ℕ → List Record
+fetchedTo c r standing p pages j = allBelow pages (λ g. cond (eqb j (copyRow mainframe p g)) (dueIn c r standing p g) [])
+
+-- what it gets when the first n processors do, one after the other
+unfoldable pub allFetchedTo : List ℕ → List ℕ → ℕ → ℕ → ℕ → ℕ → List Record
+allFetchedTo c r standing n pages j = allBelow n (λ k. fetchedTo c r standing (suc k) pages j)
 
 -- ---- the fetches keep order
 

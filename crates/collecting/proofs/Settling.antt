@@ -4,12 +4,25 @@ use native.Mathlib.Omega.{arith}
 use mathlib.Core.Path.{_≡_, refl, _∙_}
 use mathlib.Core.List.{List}
 use lib.ListN.{length}
-use lib.Seq.{length-sets}
+use lib.Seq.{sets, length-sets}
 use Rattle.rules.specs.State.{mainframe}
 use Rattle.memory.specs.Areas.{appliedRow}
 use Rattle.memory.specs.Layout.{rowOf}
 use Rattle.memory.proofs.RowLaws.{length-row, row-of-sets-other}
-use Rattle.collecting.specs.Spreads.{settledPages, settledAll}
+
+-- ---- the definitions
+
+-- the applied clocks of the first `pages` of processor p become the processor's clock
+unfoldable pub settledPages : List ℕ → ℕ → ℕ → List ℕ
+settledPages c p zero = c
+settledPages c p (suc g) = sets (settledPages c p g) (8 * appliedRow mainframe p g) (rowOf 8 c p)
+
+-- so for each of the first n processors
+unfoldable pub settledAll : List ℕ → ℕ → ℕ → List ℕ
+settledAll c zero pages = c
+settledAll c (suc k) pages = settledPages (settledAll c k pages) (suc k) pages
+
+-- ---- what stays
 
 -- as long as before
 pub length-settled-pages : (c : List ℕ) (p pages : ℕ) → length (settledPages c p pages) ≡ length c

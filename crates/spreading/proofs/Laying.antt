@@ -24,9 +24,13 @@ use Rattle.fetching.specs.Slots.{diffLaid}
 use Rattle.fetching.specs.Needed.{DueThere}
 use Rattle.fetching.proofs.Applying.{copy-there}
 use Rattle.fetching.proofs.Ordering.{slots-below}
-use Rattle.spreading.specs.Spread.{allOf, newsAt, listedTo, recordTo, numbersTo, Spread}
+use Rattle.spreading.specs.Spread.{allOf, newsAt, recordTo, numbersTo, Spread}
 use Rattle.spreading.specs.Needed.{Listable, ListedFor, NumberThere, RecordSpreadable, PageSpreadable}
 use Rattle.spreading.proofs.Spreading.{all-of-more, below-next, spread-none, spread-same, spread-then, spread-laid}
+
+-- what row j gets of the record t, where the copies of page g of some processors get it: processor k + 1 has its copy in row 8 * k + g
+unfoldable pub listedTo : Record → ℕ → List ℕ → ℕ → List Record
+listedTo t g l j = allOf (λ k. cond (eqb j (8 * k + g)) (t ∷ []) []) l
 
 -- ---- which rows are listed
 

@@ -1,5 +1,5 @@
 -- Records laid into the rows of the words: which records each row gets, and what the words are then. Assumes nothing.
-use Prim.Native.Nat.{ℕ, zero, suc, _+_, _*_, _/_, _%_, _<_}
+use Prim.Native.Nat.{ℕ, zero, suc, _+_, _/_, _%_, _<_}
 use mathlib.Core.Path.{_≡_}
 use mathlib.Core.Bool.{Bool, cond, _&&_}
 use mathlib.Core.List.{List, [], _∷_, _++_}
@@ -30,10 +30,6 @@ allBelow (suc n) f = allBelow n f ++ f n
 -- whether the record of number x is news to processor p's copy of page g
 unfoldable pub newsAt : List ℕ → ℕ → ℕ → ℕ → Bool
 newsAt c p g x = newsTo (rowOf 8 c (appliedRow mainframe p g)) (rowOf 8 c p) p x
-
--- what row j gets of the record t, where the copies of page g of some processors get it: processor k + 1 has its copy in row 8 * k + g
-unfoldable pub listedTo : Record → ℕ → List ℕ → ℕ → List Record
-listedTo t g l j = allOf (λ k. cond (eqb j (8 * k + g)) (t ∷ []) []) l
 
 -- what row j gets of the record of number x of page g: the record, where the row is the copy of one of the first n processors and it is news there
 unfoldable pub recordTo : List ℕ → List ℕ → ℕ → ℕ → ℕ → ℕ → List Record
