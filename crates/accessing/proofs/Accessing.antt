@@ -6,6 +6,7 @@ use mathlib.Core.Path.{_≡_, refl, sym, ap, _∙_}
 use mathlib.Core.List.{List}
 use lib.ListN.{getD}
 use borrow.Author.Needs.{needs}
+use Rattle.limits.specs.Limits.{pageWidth}
 use Rattle.rules.specs.Fetch.{fetched, fetchCount}
 use Rattle.rules.specs.State.{mainframe, copyOf, State}
 use Rattle.rules.specs.Steps.{pageOfWord, offsetOfWord, wordOf, read, write}
@@ -15,7 +16,7 @@ use Rattle.memory.proofs.PageLaws.{copy-read}
 use Rattle.memory.proofs.RowLaws.{get-row}
 use Rattle.fetching.specs.Needed.{Fetchable}
 use Rattle.accessing.specs.Needed.{ActsOnWord, OnWord, WordIn, WordThere}
-use Rattle.accessing.specs.Effects.{AnsweredAs, withPages, wordStored, wordPlace, Stored}
+use Rattle.accessing.specs.Effects.{AnsweredAs, wordStored, wordPlace, Stored}
 
 module _ (c w r m : List ℕ) (p a : ℕ) (h : ActsOnWord c w r m p a) where
   word-within : OnWord p a
@@ -25,7 +26,7 @@ module _ (c w r m : List ℕ) (p a : ℕ) (h : ActsOnWord c w r m p a) where
       record { from = t .from; to = omega (arith, t .to, t .in-order .processors-fit); word = omega (arith, h .word, t .in-order .pages-fit) }
 
   -- the page of the word can be fetched
-  pub word-fetchable : Fetchable c w r m p (a / 32)
+  pub word-fetchable : Fetchable c w r m p (a / pageWidth)
   word-fetchable =
       let t = h .acts in
       record { lent = t .lent; in-order = t .in-order; some-processor = t .from; processor-present = t .to; page-present = omega (arith, h .word) }
@@ -38,26 +39,26 @@ module _ (c w r m : List ℕ) (p a : ℕ) (h : ActsOnWord c w r m p a) where
     pub fetched-word-there : WordThere w₁ m p a
     fetched-word-there = record { words = l .words; marks = l .marks; on-word = word-within }
 
-    module _ (e : stateIn mainframe c₁ w₁ r m ≡ fetched mainframe (stateIn mainframe c w r m) p (a / 32)) where
+    module _ (e : stateIn mainframe c₁ w₁ r m ≡ fetched mainframe (stateIn mainframe c w r m) p (a / pageWidth)) where
       -- the word answered, and the state that a read leaves
-      pub read-done : (v k : ℕ) → v ≡ getD w₁ (wordPlace p a) 0 → k ≡ fetchCount (stateIn mainframe c w r m) p (a / 32)
+      pub read-done : (v k : ℕ) → v ≡ getD w₁ (wordPlace p a) 0 → k ≡ fetchCount (stateIn mainframe c w r m) p (a / pageWidth)
           → AnsweredAs (read mainframe (stateIn mainframe c w r m) p a) v k c₁ w₁ r m
       unfolding read wordOf pageOfWord offsetOfWord wordPlace mainframe stateIn
       read-done v k is counted =
           let o : OnWord p a = word-within in
           record {
             answer =
-                is ∙ sym (get-row 32 w₁ (copyRow mainframe p (a / 32)) (a % 32) 0 (omega arith))
-                ∙ ap (λ (page : List ℕ). getD page (a % 32) 0) (sym (copy-read w₁ m p (a / 32) (o .from) (o .to) (omega (arith, o .word))))
-                ∙ ap (λ (s : State). getD (copyOf (s .pages) p (a / 32)) (a % 32) 0) e;
+                is ∙ sym (get-row pageWidth w₁ (copyRow mainframe p (a / pageWidth)) (a % pageWidth) 0 (omega arith))
+                ∙ ap (λ (page : List ℕ). getD page (a % pageWidth) 0) (sym (copy-read w₁ m p (a / pageWidth) (o .from) (o .to) (omega (arith, o .word))))
+                ∙ ap (λ (s : State). getD (copyOf (s .pages) p (a / pageWidth)) (a % pageWidth) 0) e;
             applied = counted;
             areas = record { lent = l; is = e };
           }
 
       -- the count answered, and the state that a write leaves
-      pub write-done : (w₂ m₂ : List ℕ) (v k : ℕ) → Stored w₁ m w₂ m₂ p a v → k ≡ fetchCount (stateIn mainframe c w r m) p (a / 32)
+      pub write-done : (w₂ m₂ : List ℕ) (v k : ℕ) → Stored w₁ m w₂ m₂ p a v → k ≡ fetchCount (stateIn mainframe c w r m) p (a / pageWidth)
           → AnsweredAs (write mainframe (stateIn mainframe c w r m) p a v) 0 k c₁ w₂ r m₂
-      unfolding write wordStored withPages pageOfWord mainframe
+      unfolding write wordStored pageOfWord mainframe
       write-done w₂ m₂ v k t counted =
           record {
             answer = refl;

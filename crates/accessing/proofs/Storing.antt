@@ -3,39 +3,41 @@ use Prim.Native.Nat.{ℕ, _+_, _-_, _*_, _/_, _%_, _≤_, _<_}
 use native.Mathlib.Omega.{arith}
 use native.Mathlib.Decide.{decLt}
 use mathlib.Core.Path.{_≡_, sym, ap, _∙_}
-use mathlib.Core.Bool.{Bool, false, cond, not}
+use mathlib.Core.Bool.{Bool, true, false, cond, not}
 use mathlib.Core.List.{List, []}
 use lib.ListN.{length, getD, set, length-set}
 use lib.Seq.{getD-set-other, ext-getD, sets, length-sets}
 use lib.Dec.{eqb}
-use borrow.Author.Tests.{eq-eqb, ne-eqb}
 use borrow.Author.Needs.{needs}
-use Rattle.rules.specs.State.{mainframe, Pages, copyOf, dirtyAt, State}
-use Rattle.rules.specs.Steps.{pageOfWord, offsetOfWord, twinTaken, stored}
+use Rattle.limits.specs.Limits.{pageLimit, pageWidth}
+use Rattle.limits.specs.Sizes.{wordArea, wordRowLimit}
+use Rattle.rules.specs.State.{mainframe, Pages, copyOf, dirtyAt, State, withPages}
+use Rattle.rules.specs.Steps.{pageOfWord, offsetOfWord, newTwin, twinTaken, stored}
 use Rattle.rules.specs.Tables.{putCell}
 use Rattle.memory.specs.Areas.{copyRow, twinRow, dirtyPlace, pagesIn, stateIn}
 use Rattle.memory.specs.Layout.{rowOf}
-use Rattle.memory.specs.Needed.{RowThere, OnPage}
+use Rattle.memory.specs.Marks.{dirtyMark}
+use Rattle.memory.specs.Needed.{RowThere, OnPage, PageMark}
 use Rattle.memory.proofs.MarkLaws.{dirty-mark-written}
 use Rattle.memory.proofs.PageLaws.{copy-row-there, copy-read, dirty-read, copy-written, twin-written}
 use Rattle.memory.proofs.RowLaws.{length-row, get-row}
 use Rattle.memory.proofs.Stores.{get-sets-before, get-sets-behind, get-sets-same, get-set, eqb-iff}
 use Rattle.accessing.specs.Needed.{OnWord, WordIn, WordThere, PageThere}
-use Rattle.accessing.specs.Effects.{withPages, twinned, wordStored, wordPlace, TwinTaken, Stored}
+use Rattle.accessing.specs.Effects.{twinned, wordStored, wordPlace, TwinTaken, Stored}
 
 -- ---- the place of a word
 
 -- the page of a word
-pub word-page-number : (p a : ℕ) → OnWord p a → OnPage p (a / 32)
+pub word-page-number : (p a : ℕ) → OnWord p a → OnPage p (a / pageWidth)
 word-page-number p a h = record { from = h .from; to = h .to; page = omega (arith, h .word) }
 
 -- the row of its copy, and its offset there
-pub word-place-is : (p a row : ℕ) → row ≡ copyRow mainframe p (a / 32) → 32 * row + a % 32 ≡ wordPlace p a
+pub word-place-is : (p a row : ℕ) → row ≡ copyRow mainframe p (a / pageWidth) → pageWidth * row + a % pageWidth ≡ wordPlace p a
 unfolding wordPlace
 word-place-is p a row e = rw e
 
 -- it lies within the area
-pub word-place-there : (p a : ℕ) → OnWord p a → wordPlace p a < 4096
+pub word-place-there : (p a : ℕ) → OnWord p a → wordPlace p a < wordArea
 unfolding wordPlace copyRow mainframe
 word-place-there p a h = omega (arith, h .from, h .to, h .word)
 
@@ -81,12 +83,8 @@ row-store n l k o v h b = ext-getD 0 (set l (n * k + o) v) (sets l (n * k) new) 
 
 -- ---- the twin
 
--- the pages with a new twin of page g of p
-unfoldable newlyTwinned : Pages → ℕ → ℕ → Pages
-newlyTwinned m p g = record { copies = m .copies; twins = putCell [] (m .twins) p g (copyOf m p g); dirty = putCell 0 (m .dirty) p g 1 }
-
-twinned-clean : (s : State) (p g : ℕ) → dirtyAt (s .pages) p g ≡ false → withPages s (newlyTwinned (s .pages) p g) ≡ twinned s p g
-unfolding twinned twinTaken newlyTwinned
+twinned-clean : (s : State) (p g : ℕ) → dirtyAt (s .pages) p g ≡ false → withPages s (newTwin (s .pages) p g) ≡ twinned s p g
+unfolding twinned twinTaken newTwin
 twinned-clean s p g e = rw e
 
 module _ (w m : List ℕ) (p g : ℕ) (there : PageThere w m p g) where
@@ -95,41 +93,36 @@ module _ (w m : List ℕ) (p g : ℕ) (there : PageThere w m p g) where
   page-there = record { from = there .from; to = there .to; page = there .page }
 
   -- and its mark
-  pub mark-there : (place : ℕ) → place < 93 → place < length m
-  mark-there place h = omega (arith, there .marks)
+  pub mark-there : PageMark m p g
+  mark-there = record { marks = there .marks; from = there .from; to = there .to; page = there .page }
 
-  pub page-row-there : (row : ℕ) → row < 128 → RowThere 32 w row
+  pub page-row-there : (row : ℕ) → row < wordRowLimit → RowThere pageWidth w row
   page-row-there row h = record { within = omega (arith, there .words) }
 
-  dirty-is : (c r : List ℕ) → dirtyAt (stateIn mainframe c w r m .pages) p g ≡ not (eqb (getD m (dirtyPlace mainframe p g) 0) 0)
+  dirty-is : (c r : List ℕ) → dirtyAt (stateIn mainframe c w r m .pages) p g ≡ not (eqb (dirtyMark m p g) 0)
   unfolding dirtyAt stateIn
   dirty-is c r = ap (λ (x : ℕ). not (eqb x 0)) (dirty-read w m p g (there .from) (there .to) (there .page))
 
-  module _ (place : ℕ) (is : place ≡ dirtyPlace mainframe p g) where
+  module _ (b : Bool) (is : b ≡ not (eqb (dirtyMark m p g) 0)) where
     -- a dirty page has its twin
-    pub twin-kept : (getD m place 0 ≡ 0 → ⊥) → TwinTaken w m w m p g
-    unfolding twinned withPages twinTaken
-    twin-kept h =
-        record {
-          words = there .words;
-          marks = there .marks;
-          is = λ c r. rw (dirty-is c r, ne-eqb (getD m (dirtyPlace mainframe p g) 0) 0 (rw is at h));
-        }
+    pub twin-kept : b ≡ true → TwinTaken w m w m p g
+    unfolding twinned twinTaken
+    twin-kept h = record { words = there .words; marks = there .marks; is = λ c r. rw (dirty-is c r ∙ sym is ∙ h) }
 
     -- a clean one gets it
-    pub twin-first : (w′ : List ℕ) (from to : ℕ) → getD m place 0 ≡ 0 → from ≡ copyRow mainframe p g → to ≡ twinRow mainframe p g
-        → w′ ≡ sets w (32 * to) (rowOf 32 w from) → TwinTaken w m w′ (set m place 1) p g
-    unfolding withPages newlyTwinned stateIn
-    twin-first w′ from to h ef et e =
+    pub twin-first : (w′ m′ : List ℕ) (from to : ℕ) → b ≡ false → w′ ≡ sets w (pageWidth * to) (rowOf pageWidth w from) → from ≡ copyRow mainframe p g
+        → to ≡ twinRow mainframe p g → m′ ≡ set m (dirtyPlace mainframe p g) 1 → TwinTaken w m w′ m′ p g
+    unfolding newTwin stateIn
+    twin-first w′ m′ from to h e ef et em =
         record {
-          words = ap length e ∙ length-sets w (32 * to) (rowOf 32 w from) ∙ there .words;
-          marks = length-set m place 1 ∙ there .marks;
+          words = ap length e ∙ length-sets w (pageWidth * to) (rowOf pageWidth w from) ∙ there .words;
+          marks = ap length em ∙ length-set m (dirtyPlace mainframe p g) 1 ∙ there .marks;
           is =
               λ c r.
-              ap (λ (k : ℕ). stateIn mainframe c w′ r (set m k 1)) is
+              ap (stateIn mainframe c w′ r) em
               ∙ dirty-mark-written c w′ r m 1 (there .marks) p g (there .from) (there .to) (there .page)
               ∙ ap (λ (x : Pages). withPages (stateIn mainframe c w r m) (record { copies = x .copies; twins = x .twins; dirty = putCell 0 (x .dirty) p g 1 })) laid
-              ∙ twinned-clean (stateIn mainframe c w r m) p g (dirty-is c r ∙ rw (eq-eqb (getD m (dirtyPlace mainframe p g) 0) 0 (rw is at h)));
+              ∙ twinned-clean (stateIn mainframe c w r m) p g (dirty-is c r ∙ sym is ∙ h);
         }
       where
         laid : pagesIn mainframe w′ m
@@ -140,38 +133,38 @@ module _ (w m : List ℕ) (p g : ℕ) (there : PageThere w m p g) where
             }
         laid =
             rw (copy-read w m p g (there .from) (there .to) (there .page), e, et, ef)
-            (twin-written w m (rowOf 32 w (copyRow mainframe p g)) p g (there .words)
-            (length-row 32 w (copyRow mainframe p g) (omega (arith, copy-row-there p g (there .from) (there .to) (there .page), there .words))) (there .from)
+            (twin-written w m (rowOf pageWidth w (copyRow mainframe p g)) p g (there .words)
+            (length-row pageWidth w (copyRow mainframe p g) (omega (arith, copy-row-there p g (there .from) (there .to) (there .page), there .words))) (there .from)
             (there .to) (there .page))
 
 -- ---- the store
 
-copy-stored : (w m w′ : List ℕ) (p a v : ℕ) → length w ≡ 4096 → OnWord p a → w′ ≡ set w (wordPlace p a) v → v < 4294967296
+copy-stored : (w m w′ : List ℕ) (p a v : ℕ) → length w ≡ wordArea → OnWord p a → w′ ≡ set w (wordPlace p a) v → v < 4294967296
     → pagesIn mainframe w′ m ≡ stored mainframe (pagesIn mainframe w m) p a v
 unfolding stored pageOfWord offsetOfWord mainframe wordPlace
 copy-stored w m w′ p a v long o e small =
-    let row : ℕ = copyRow mainframe p (a / 32) in
-    let page : a / 32 < 8 = omega (arith, o .word) in
-    let fits : 32 * row + 32 ≤ length w = omega (arith, copy-row-there p (a / 32) (o .from) (o .to) page, long) in
+    let row : ℕ = copyRow mainframe p (a / pageWidth) in
+    let page : a / pageWidth < pageLimit = omega (arith, o .word) in
+    let fits : pageWidth * row + pageWidth ≤ length w = omega (arith, copy-row-there p (a / pageWidth) (o .from) (o .to) page, long) in
     let bits : v % 4294967296 ≡ v = omega arith in
-    ap (λ (x : List ℕ). pagesIn mainframe x m) (e ∙ row-store 32 w row (a % 32) v (omega arith) fits)
-    ∙ copy-written w m (set (rowOf 32 w row) (a % 32) v) p (a / 32) long (length-set (rowOf 32 w row) (a % 32) v ∙ length-row 32 w row fits) (o .from) (o .to) page
-    ∙ rw (bits, copy-read w m p (a / 32) (o .from) (o .to) page)
+    ap (λ (x : List ℕ). pagesIn mainframe x m) (e ∙ row-store pageWidth w row (a % pageWidth) v (omega arith) fits)
+    ∙ copy-written w m (set (rowOf pageWidth w row) (a % pageWidth) v) p (a / pageWidth) long (length-set (rowOf pageWidth w row) (a % pageWidth) v ∙ length-row pageWidth w row fits) (o .from) (o .to) page
+    ∙ rw (bits, copy-read w m p (a / pageWidth) (o .from) (o .to) page)
 
 module _ (w m : List ℕ) (p a : ℕ) (there : WordThere w m p a) where
   -- the page of the word
-  pub word-page-there : PageThere w m p (a / 32)
+  pub word-page-there : PageThere w m p (a / pageWidth)
   word-page-there =
       let o = there .on-word in
       record { words = there .words; marks = there .marks; from = o .from; to = o .to; page = omega (arith, o .word) }
 
   -- the word in what taking the twin left
-  pub word-in : (w₁ m₁ : List ℕ) → TwinTaken w m w₁ m₁ p (a / 32) → WordIn w₁ p a
+  pub word-in : (w₁ m₁ : List ℕ) → TwinTaken w m w₁ m₁ p (a / pageWidth) → WordIn w₁ p a
   word-in w₁ m₁ t = record { words = t .words; on-word = there .on-word }
 
   -- twin, then store
-  pub store-done : (w₁ m₁ w₂ : List ℕ) (v : ℕ) → TwinTaken w m w₁ m₁ p (a / 32) → w₂ ≡ set w₁ (wordPlace p a) v → v < 4294967296 → Stored w m w₂ m₁ p a v
-  unfolding twinned wordStored withPages pageOfWord mainframe stateIn
+  pub store-done : (w₁ m₁ w₂ : List ℕ) (v : ℕ) → TwinTaken w m w₁ m₁ p (a / pageWidth) → w₂ ≡ set w₁ (wordPlace p a) v → v < 4294967296 → Stored w m w₂ m₁ p a v
+  unfolding twinned wordStored pageOfWord mainframe stateIn
   store-done w₁ m₁ w₂ v t e small =
       record {
         words = ap length e ∙ length-set w₁ (wordPlace p a) v ∙ t .words;

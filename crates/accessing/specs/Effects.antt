@@ -4,7 +4,9 @@ use Prim.Native.Nat.{ℕ, _+_, _*_, _/_, _%_}
 use mathlib.Core.Path.{_≡_}
 use mathlib.Core.List.{List}
 use lib.ListN.{length}
-use Rattle.rules.specs.State.{mainframe, Pages, State}
+use Rattle.limits.specs.Limits.{pageWidth}
+use Rattle.limits.specs.Sizes.{markArea, wordArea}
+use Rattle.rules.specs.State.{mainframe, State, withPages}
 use Rattle.rules.specs.Steps.{Effect, pageOfWord, twinTaken, stored}
 use Rattle.memory.specs.Areas.{copyRow, stateIn}
 use Rattle.memory.specs.Needed.{Holds}
@@ -14,10 +16,6 @@ pub record AnsweredAs (e : Effect) (value count : ℕ) (c w r m : List ℕ) : Ty
   pub answer : value ≡ e .value
   pub applied : count ≡ e .count
   pub areas : Holds c w r m (e .after)
-
--- a state with other pages
-unfoldable pub withPages : State → Pages → State
-withPages s m = record { counts = s .counts; clocks = s .clocks; pages = m; records = s .records; marks = s .marks }
 
 -- "if the page is clean, take the twin", for page g of p
 unfoldable pub twinned : State → ℕ → ℕ → State
@@ -29,16 +27,16 @@ wordStored s p a v = withPages s (stored mainframe (twinTaken (s .pages) p (page
 
 -- where word a of p stands in the area of the words
 unfoldable pub wordPlace : ℕ → ℕ → ℕ
-wordPlace p a = 32 * copyRow mainframe p (a / 32) + a % 32
+wordPlace p a = pageWidth * copyRow mainframe p (a / pageWidth) + a % pageWidth
 
 -- the twin of page g of p was taken if the page was clean
 pub record TwinTaken (w m w′ m′ : List ℕ) (p g : ℕ) : Type 0 where
-  pub words : length w′ ≡ 4096
-  pub marks : length m′ ≡ 93
+  pub words : length w′ ≡ wordArea
+  pub marks : length m′ ≡ markArea
   pub is : (c r : List ℕ) → stateIn mainframe c w′ r m′ ≡ twinned (stateIn mainframe c w r m) p g
 
 -- and v was stored in word a of p
 pub record Stored (w m w′ m′ : List ℕ) (p a v : ℕ) : Type 0 where
-  pub words : length w′ ≡ 4096
-  pub marks : length m′ ≡ 93
+  pub words : length w′ ≡ wordArea
+  pub marks : length m′ ≡ markArea
   pub is : (c r : List ℕ) → stateIn mainframe c w′ r m′ ≡ wordStored (stateIn mainframe c w r m) p a v

@@ -3,6 +3,7 @@
 ghost use mathlib.Core.Path.{_≡_};
 ghost use Prim.Native.Nat.{_<_};
 ghost use lib.ListN.{getD, set};
+ghost use Rattle.limits.specs.Sizes.{wordArea};
 ghost use Rattle.rules.specs.State.{mainframe};
 ghost use Rattle.rules.specs.Steps.{read, write};
 ghost use Rattle.memory.specs.Areas.{stateIn};
@@ -10,9 +11,11 @@ ghost use Rattle.accessing.specs.Needed.{ActsOnWord, OnWord, WordIn, Wor
 ghost use Rattle.accessing.specs.Effects.{AnsweredAs, wordPlace, TwinTaken, Stored};
 use clock::PageId;
 use clock::ProcessorId;
+use limits::PAGE_WIDTH;
 use memory::copy_page;
 use memory::copy_row;
-use memory::dirty_place;
+use memory::marks::is_dirty;
+use memory::marks::mark_dirty;
 use memory::twin_row;
 
 // What a read answers: the word, and how many records its fetch applied.
@@ -33,7 +36,7 @@ pub fn read_word(
     requires { ⌜ ActsOnWord (now clocks) (now words) (now records) (now marks) (p .0) w ⌝ }
     ensures { λ r. ⌜ AnsweredAs (read mainframe (stateIn mainframe (now (clocks .entry)) (now (words .entry)) (now (records .entry)) (now (marks .entry))) (p .0) w) (r .value) (r .count) (now (clocks .exit)) (now (words .exit)) (now (records .entry)) (now (marks .entry)) ⌝ }
 {
-    let count = fetching::fetch_page(p, PageId(w / 32), clocks, words, records, marks);
+    let count = fetching::fetch_page(p, PageId(w / PAGE_WIDTH), clocks, words, records, marks);
     let value = word_at(words, p, w);
     Answered { value, count }
 }
@@ -51,7 +54,7 @@ pub fn write_word(
     requires { ⌜ ActsOnWord (now clocks) (now words) (now records) (now marks) (p .0) w ⌝ }
     ensures { λ r. ⌜ AnsweredAs (write mainframe (stateIn mainframe (now (clocks .entry)) (now (words .entry)) (now (records .entry)) (now (marks .entry))) (p .0) w v) 0 r (now (clocks .exit)) (now (words .exit)) (now (records .entry)) (now (marks .exit)) ⌝ }
 {
-    let count = fetching::fetch_page(p, PageId(w / 32), clocks, words, records, marks);
+    let count = fetching::fetch_page(p, PageId(w / PAGE_WIDTH), clocks, words, records, marks);
     store(words, marks, p, w, v);
     count
 }
@@ -61,7 +64,7 @@ pub fn store(words: &mut [u32], marks: &mut [u8], p: ProcessorId, w: usize, v: u
     requires { ⌜ WordThere (now words) (now marks) (p .0) w ⌝ }
     ensures { λ _. ⌜ Stored (now (words .entry)) (now (marks .entry)) (now (words .exit)) (now (marks .exit)) (p .0) w v ⌝ }
 {
-    take_twin(words, marks, p, PageId(w / 32));
+    take_twin(words, marks, p, PageId(w / PAGE_WIDTH));
     put_word(words, p, w, v);
 }
 
@@ -70,12 +73,11 @@ fn take_twin(words: &mut [u32], marks: &mut [u8], p: ProcessorId, g: PageId)
     requires { ⌜ PageThere (now words) (now marks) (p .0) (g .0) ⌝ }
     ensures { λ _. ⌜ TwinTaken (now (words .entry)) (now (marks .entry)) (now (words .exit)) (now (marks .exit)) (p .0) (g .0) ⌝ }
 {
-    let place = dirty_place(p, g);
-    if marks[place] != 0 {
+    if is_dirty(marks, p, g) {
         return;
     }
     copy_page(words, copy_row(p, g), twin_row(p, g));
-    marks[place] = 1;
+    mark_dirty(marks, p, g);
 }
 
 // Stores a word in a processor's copy.
@@ -98,7 +100,7 @@ pub fn word_at(words: &[u32], p: ProcessorId, w: usize) -> u32
 fn word_place(p: ProcessorId, w: usize) -> usize
     requires { ⌜ OnWord (p .0) w ⌝ }
     ensures { λ r. ⌜ r ≡ wordPlace (p .0) w ⌝ }
-    ensures { λ r. ⌜ r < 4096 ⌝ }
+    ensures { λ r. ⌜ r < wordArea ⌝ }
 {
-    32 * copy_row(p, PageId(w / 32)) + w % 32
+    PAGE_WIDTH * copy_row(p, PageId(w / PAGE_WIDTH)) + w % PAGE_WIDTH
 }

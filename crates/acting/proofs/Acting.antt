@@ -2,21 +2,19 @@
 -- code, and `acting-laws`. Assumes nothing.
 use Prim.Native.Nat.{ℕ, _*_, _≤_, _<_}
 use native.Mathlib.Omega.{arith}
-use native.Mathlib.Decide.{decLe, ℕ-discrete}
 use mathlib.Core.Path.{_≡_, refl, sym, ap, _∙_}
-use mathlib.Core.Bool.{true, and-eq-true-iff, false≢true}
 use mathlib.Core.List.{List}
 use lib.ListN.{length}
-use lib.Dec.{ltb, eqb}
-use borrow.Author.Tests.{ltb-true}
 use borrow.Author.Needs.{needs}
-use Rattle.rules.specs.Refusals.{stepOf, Action, Read, Write, Acquire, Release, Arrive, Want, actionOf, fits, effect}
+use Rattle.limits.specs.Limits.{pageWidth}
+use Rattle.limits.specs.Sizes.{markArea}
+use Rattle.rules.specs.Refusals.{stepOf, Action, Read, Write, Acquire, Release, Arrive, Want, actionOf, objectBound, effect}
 use Rattle.rules.specs.State.{mainframe, State}
 use Rattle.rules.specs.Steps.{Effect, read, write, acquire, release, arrive}
-use Rattle.rules.proofs.Accepted.{Accepted, accepted-says, present-says, acquire-there, release-there}
+use Rattle.rules.proofs.Accepted.{Accepted, accepted-says, present-says, object-there, acquire-there, release-there}
+use Rattle.rules.proofs.KindsOfSteps.{objectIn, known-says}
 use Rattle.memory.specs.Areas.{stateIn}
 use Rattle.memory.specs.Needed.{Acts, Holds}
-use Rattle.refusals.proofs.ByKind.{kind-zero-unknown, kind-above-unknown}
 use Rattle.collecting.specs.Effects.{CountedAs}
 use Rattle.accessing.specs.Effects.{AnsweredAs}
 use Rattle.accessing.specs.Needed.{ActsOnWord}
@@ -24,8 +22,7 @@ use Rattle.locking.specs.Needed.{ActsOnLock}
 use Rattle.barrier.specs.Effects.{Wanted}
 use Rattle.acting.specs.declared.Outcome.{Outcome}
 use Rattle.acting.specs.declared.Outcome.the-variants.{Done}
-use Rattle.acting.specs.Outcomes.{DoneAs}
-use Rattle.acting.specs.Needed.{Acting, Accessing, Locking, Meeting}
+use Rattle.acting.specs.Needed.{DoneAs, Acting, Accessing, Locking, Meeting}
 
 -- ---- the effect of an action that is known
 
@@ -51,24 +48,15 @@ module _ (c w r m : List ℕ) (k p o v : ℕ) (h : Acting c w r m k p o v) where
       let is = present-says (stateIn mainframe c w r m) p (accepted .processor-present) in
       record { lent = h .ready .lent; in-order = h .ready .in-order; from = is .0; to = is .1 }
 
-  fit : (a : Action) → actionOf (stepOf k p o v) ≡ a → fits mainframe (stateIn mainframe c w r m) (stepOf k p o v) a ≡ true
-  fit a e = sym (ap (λ (x : Action). fits mainframe (stateIn mainframe c w r m) (stepOf k p o v) x) e) ∙ accepted .fields-fit
-
   kind-from : 1 ≤ k
-  kind-from = go (ℕ-discrete k 0)
-    where
-      go : Dec (k ≡ 0) → 1 ≤ k
-      go (yes e) = absurd (false≢true (sym (kind-zero-unknown k p o v e) ∙ accepted .known-kind))
-      go (no z) = omega (arith, z)
+  unfolding stepOf
+  kind-from = known-says k (accepted .known-kind) .0
 
   kind-to : k ≤ 6
-  kind-to = go (decLe k 6)
-    where
-      go : Dec (k ≤ 6) → k ≤ 6
-      go (yes e) = e
-      go (no z) = absurd (false≢true (sym (kind-above-unknown k p o v (omega (arith, z))) ∙ accepted .known-kind))
+  unfolding stepOf
+  kind-to = known-says k (accepted .known-kind) .1
 
-  on-word : o < stateIn mainframe c w r m .counts .pages * 32 → ActsOnWord c w r m p o
+  on-word : o < stateIn mainframe c w r m .counts .pages * pageWidth → ActsOnWord c w r m p o
   on-word b = record { acts = acts; word = b }
 
   on-lock : o < stateIn mainframe c w r m .counts .locks → ActsOnLock c w r m p o
@@ -108,11 +96,10 @@ effect-by s p a b e = ap (λ (x : Action). effect mainframe s p x) e
 module _ (c w r m : List ℕ) (k p o v : ℕ) (h : Accessing c w r m k p o v) where
   -- a read has its word
   pub read-there : k ≡ 1 → ActsOnWord c w r m p o
-  unfolding fits mainframe
+  unfolding objectBound objectIn mainframe
   read-there e =
-      let b = stateIn mainframe c w r m .counts .pages * 32 in
       on-word c w r m k p o v (h .acting)
-      (ltb-true o b (and-eq-true-iff (ltb o b) (eqb (stepOf k p o v .value) 0) .0 (fit c w r m k p o v (h .acting) (Read o) (reads k p o v e)) .0))
+      (object-there mainframe (stateIn mainframe c w r m) (stepOf k p o v) (Read o) (reads k p o v e) (accepted c w r m k p o v (h .acting) .fields-fit))
 
   -- a read was done
   pub read-done : (x n : ℕ) (c′ w′ : List ℕ) → k ≡ 1 → AnsweredAs (read mainframe (stateIn mainframe c w r m) p o) x n c′ w′ r m
@@ -128,10 +115,10 @@ module _ (c w r m : List ℕ) (k p o v : ℕ) (h : Accessing c w r m k p o v) wh
 
   -- a write has its word
   pub write-there : (k ≡ 1 → ⊥) → ActsOnWord c w r m p o
-  unfolding fits mainframe
+  unfolding objectBound objectIn mainframe
   write-there z =
       on-word c w r m k p o v (h .acting)
-      (ltb-true o (stateIn mainframe c w r m .counts .pages * 32) (fit c w r m k p o v (h .acting) (Write o v) (writes k p o v (is-write z))))
+      (object-there mainframe (stateIn mainframe c w r m) (stepOf k p o v) (Write o v) (writes k p o v (is-write z)) (accepted c w r m k p o v (h .acting) .fields-fit))
 
   -- a write was done
   pub write-done : (n : ℕ) (c′ w′ m′ : List ℕ) → (k ≡ 1 → ⊥) → AnsweredAs (write mainframe (stateIn mainframe c w r m) p o v) 0 n c′ w′ r m′
@@ -198,7 +185,7 @@ module _ (c w r m : List ℕ) (k p o v : ℕ) (h : Meeting c w r m k p o v) wher
       (done-with f 0 n c′ w′ r′ m′ refl (a .applied) (a .areas))
 
   -- the marks have their size
-  pub wish-there : (k ≡ 5 → ⊥) → length m ≡ 93
+  pub wish-there : (k ≡ 5 → ⊥) → length m ≡ markArea
   wish-there z = h .acting .ready .lent .marks
 
   -- the wish was set

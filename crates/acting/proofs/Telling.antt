@@ -9,7 +9,8 @@ use Rattle.rules.specs.Refusals.{Step, refusedAs, actionOf, effect, refusalInOr
 use Rattle.rules.specs.State.{Limits, State}
 use Rattle.rules.specs.Steps.{Effect}
 use Rattle.acting.specs.declared.Outcome.the-variants.{Done, Refused}
-use Rattle.acting.specs.Outcomes.{outcomeRefusal, outcomeValue, outcomeCount, told, outcomeOf}
+use Rattle.acting.specs.Telling.{outcomeRefusal, outcomeValue, outcomeCount, told}
+use Rattle.acting.specs.Outcomes.{outcomeOf}
 
 -- a refusal's outcome tells it
 pub told-refused : (n : ℕ) → told (outcomeOf (refusedAs n)) ≡ refusedAs n

@@ -1,11 +1,14 @@
--- What the functions that act ask of one another. Assumes nothing.
+-- What the functions that act ask of one another and promise. Assumes nothing.
 use Prim.Native.Nat.{ℕ, _≤_}
 use mathlib.Core.Path.{_≡_}
 use mathlib.Core.List.{List}
 use Rattle.rules.specs.State.{mainframe}
 use Rattle.rules.specs.Refusals.{stepOf, refusalInOrder}
 use Rattle.memory.specs.Areas.{stateIn}
-use Rattle.memory.specs.Needed.{Ready}
+use Rattle.rules.specs.Steps.{Effect}
+use Rattle.memory.specs.Needed.{Ready, Holds}
+use Rattle.acting.specs.declared.Outcome.{Outcome}
+use Rattle.acting.specs.declared.Outcome.the-variants.{Done}
 
 -- the areas hold a state in order, and no row from 3 to 10 refuses the step
 pub record Acting (c w r m : List ℕ) (kind p object value : ℕ) : Type 0 where
@@ -27,3 +30,8 @@ pub record Locking (c w r m : List ℕ) (kind p object value : ℕ) : Type 0 whe
 pub record Meeting (c w r m : List ℕ) (kind p object value : ℕ) : Type 0 where
   pub acting : Acting c w r m kind p object value
   pub first : 5 ≤ kind
+
+-- the outcome is that of an accepted step with the effect e, and the areas hold the state that e leaves
+pub record DoneAs (e : Effect) (o : Outcome) (c w r m : List ℕ) : Type 0 where
+  pub outcome : o ≡ Done (e .value) (e .count)
+  pub areas : Holds c w r m (e .after)

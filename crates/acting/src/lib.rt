@@ -3,8 +3,7 @@
 ghost use Rattle.rules.specs.State.{mainframe};
 ghost use Rattle.rules.specs.Refusals.{stepOf, actionOf, effect};
 ghost use Rattle.memory.specs.Areas.{stateIn};
-ghost use Rattle.acting.specs.Outcomes.{DoneAs};
-ghost use Rattle.acting.specs.Needed.{Acting, Accessing, Locking, Meeting};
+ghost use Rattle.acting.specs.Needed.{DoneAs, Acting, Accessing, Locking, Meeting};
 use clock::ProcessorId;
 
 // What a step answers: its value and count where it was done, else its refusal.

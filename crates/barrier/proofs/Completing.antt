@@ -1,32 +1,28 @@
 -- What completes a round of the barrier, with a collection if one is wanted: one law for each way of the code, and `complete-laws`. Assumes nothing.
 use Prim.Native.Nat.{ℕ}
 use mathlib.Core.Path.{_≡_, sym, ap, _∙_}
-use mathlib.Core.Bool.{true, false, not}
+use mathlib.Core.Bool.{Bool, true, false, not}
 use mathlib.Core.List.{List}
-use lib.ListN.{getD}
 use lib.Dec.{eqb}
-use borrow.Author.Tests.{ne-eqb}
+use borrow.Author.Tests.{not-true, not-false}
 use borrow.Author.Needs.{needs}
 use Rattle.rules.specs.State.{mainframe, State}
 use Rattle.rules.specs.Steps.{roundDone, Fetches, collected, wantsCollection}
 use Rattle.memory.specs.Areas.{stateIn}
 use Rattle.memory.specs.Needed.{Lent, Ready}
+use Rattle.memory.specs.Marks.{wishMark}
 use Rattle.memory.proofs.MarkLaws.{wanted-read}
 use Rattle.collecting.specs.Effects.{CountedAs}
 use Rattle.barrier.specs.Needed.{RoundComplete, RoundThere}
 use Rattle.barrier.specs.Effects.{RoundDone, completed}
 
-completed-plain : (s : State) → s .marks .wanted ≡ 0 → completed s ≡ record { after = roundDone s; count = 0 }
+completed-plain : (s : State) → wantsCollection s ≡ false → completed s ≡ record { after = roundDone s; count = 0 }
 unfolding completed
-completed-plain s e =
-    let none-wanted : wantsCollection s ≡ false = unfold wantsCollection in ap (λ (x : ℕ). not (eqb x 0)) e in
-    rw none-wanted
+completed-plain s e = rw e
 
-completed-collects : (s : State) → (s .marks .wanted ≡ 0 → ⊥) → completed s ≡ collected mainframe (roundDone s)
+completed-collects : (s : State) → wantsCollection s ≡ true → completed s ≡ collected mainframe (roundDone s)
 unfolding completed
-completed-collects s h =
-    let wish : wantsCollection s ≡ true = unfold wantsCollection in ap not (ne-eqb (s .marks .wanted) 0 h) in
-    rw wish
+completed-collects s e = rw e
 
 -- the clocks and marks of the round
 pub round-there : (c w r m : List ℕ) → RoundComplete c w r m → RoundThere c m
@@ -36,39 +32,39 @@ module _ (c w r m c₁ m₁ : List ℕ) (h : RoundComplete c w r m) (d : RoundDo
   lent-after : Lent c₁ w r m₁
   lent-after = record { clocks = d .clocks; words = h .lent .words; records = h .lent .records; marks = d .marks }
 
-  wish-is : getD m₁ 4 0 ≡ stateIn mainframe c w r m .marks .wanted
-  unfolding roundDone
-  wish-is = sym (wanted-read c₁ w r m₁) ∙ ap (λ (s : State). s .marks .wanted) (d .is w r)
-
-  module _ (none-wanted : getD m₁ 4 0 ≡ 0) where
-    plain : completed (stateIn mainframe c w r m) ≡ record { after = roundDone (stateIn mainframe c w r m); count = 0 }
-    plain = completed-plain (stateIn mainframe c w r m) (sym wish-is ∙ none-wanted)
-
-    -- nothing is collected
-    pub plain-done : CountedAs (completed (stateIn mainframe c w r m)) 0 c₁ w r m₁
-    plain-done =
-        record {
-          applied = ap (λ (f : Fetches). f .count) (sym plain);
-          areas = record { lent = lent-after; is = d .is w r ∙ ap (λ (f : Fetches). f .after) (sym plain) };
-        }
-
   -- the state is in order again
   pub round-ready : Ready c₁ w r m₁
   round-ready = record { lent = lent-after; in-order = rw (d .is w r) (h .in-order) }
 
-  module _ (wish : getD m₁ 4 0 ≡ 0 → ⊥) where
-    with-collection : collected mainframe (stateIn mainframe c₁ w r m₁) ≡ completed (stateIn mainframe c w r m)
-    with-collection =
-        ap (λ (s : State). collected mainframe s) (d .is w r)
-        ∙ sym (completed-collects (stateIn mainframe c w r m) (λ e. wish (wish-is ∙ e)))
+  module _ (b : Bool) (is : b ≡ not (eqb (wishMark m₁) 0)) where
+    wish-is : b ≡ wantsCollection (stateIn mainframe c w r m)
+    unfolding wantsCollection roundDone
+    wish-is = is ∙ ap (λ (x : ℕ). not (eqb x 0)) (sym (wanted-read c₁ w r m₁) ∙ ap (λ (s : State). s .marks .wanted) (d .is w r))
+
+    plain : b ≡ false → completed (stateIn mainframe c w r m) ≡ record { after = roundDone (stateIn mainframe c w r m); count = 0 }
+    plain e = completed-plain (stateIn mainframe c w r m) (sym wish-is ∙ e)
+
+    with-collection : b ≡ true → collected mainframe (stateIn mainframe c₁ w r m₁) ≡ completed (stateIn mainframe c w r m)
+    with-collection e =
+        ap (λ (s : State). collected mainframe s) (d .is w r) ∙ sym (completed-collects (stateIn mainframe c w r m) (sym wish-is ∙ e))
+
+    -- nothing is collected
+    pub plain-done : not b ≡ true → CountedAs (completed (stateIn mainframe c w r m)) 0 c₁ w r m₁
+    plain-done e =
+        let none-wanted = plain (not-true b e) in
+        record {
+          applied = ap (λ (f : Fetches). f .count) (sym none-wanted);
+          areas = record { lent = lent-after; is = d .is w r ∙ ap (λ (f : Fetches). f .after) (sym none-wanted) };
+        }
 
     -- garbage is collected
-    pub collecting-done : (x : ℕ) (c₂ w₂ m₂ : List ℕ) → CountedAs (collected mainframe (stateIn mainframe c₁ w r m₁)) x c₂ w₂ r m₂
+    pub collecting-done : (x : ℕ) (c₂ w₂ m₂ : List ℕ) → not b ≡ false → CountedAs (collected mainframe (stateIn mainframe c₁ w r m₁)) x c₂ w₂ r m₂
         → CountedAs (completed (stateIn mainframe c w r m)) x c₂ w₂ r m₂
-    collecting-done x c₂ w₂ m₂ e =
+    collecting-done x c₂ w₂ m₂ t e =
+        let wish = with-collection (not-false b t) in
         record {
-          applied = e .applied ∙ ap (λ (f : Fetches). f .count) with-collection;
-          areas = record { lent = e .areas .lent; is = e .areas .is ∙ ap (λ (f : Fetches). f .after) with-collection };
+          applied = e .applied ∙ ap (λ (f : Fetches). f .count) wish;
+          areas = record { lent = e .areas .lent; is = e .areas .is ∙ ap (λ (f : Fetches). f .after) wish };
         }
 
 pub ruleset complete-laws = (round-there, plain-done, round-ready, collecting-done, needs)

@@ -8,6 +8,8 @@ use mathlib.Core.List.{List}
 use lib.ListN.{length}
 use lib.Seq.{sets, length-sets}
 use borrow.Author.Needs.{needs}
+use Rattle.limits.specs.Limits.{processorLimit}
+use Rattle.limits.specs.Sizes.{clockArea, clockWidth}
 use Rattle.clock.specs.Clocks.{joined}
 use Rattle.rules.specs.State.{mainframe, Processor, Barrier, Clocks}
 use Rattle.rules.specs.Steps.{learned, allLearned}
@@ -21,8 +23,8 @@ use Rattle.barrier.specs.Effects.{HoldsClocks}
 
 -- the first p of n processors have learned
 pub record AllLearning (c₀ c : List ℕ) (n p : ℕ) : Type 0 where
-  pub long : length c ≡ 4744
-  pub few : n ≤ 8
+  pub long : length c ≡ clockArea
+  pub few : n ≤ processorLimit
   pub upto : p ≤ n
   pub clocks : clocksIn mainframe c ≡ allLearned (clocksIn mainframe c₀) p
 
@@ -37,15 +39,15 @@ all-learning-rows c₀ c n p a h = record { clocks = a .long; to-there = omega (
 
 -- one more has learned
 pub all-learning-more : (c₀ c c′ : List ℕ) (n p : ℕ) → AllLearning c₀ c n p → p < n
-    → c′ ≡ sets c (8 * (p + 1)) (joined (rowOf 8 c (p + 1)) (rowOf 8 c 0)) → AllLearning c₀ c′ n (p + 1)
+    → c′ ≡ sets c (clockWidth * (p + 1)) (joined (rowOf clockWidth c (p + 1)) (rowOf clockWidth c 0)) → AllLearning c₀ c′ n (p + 1)
 unfolding allLearned clockRow Within mainframe
 all-learning-more c₀ c c′ n p a h e =
-    let v : List ℕ = joined (rowOf 8 c (p + 1)) (rowOf 8 c 0) in
+    let v : List ℕ = joined (rowOf clockWidth c (p + 1)) (rowOf clockWidth c 0) in
     let one : clocksIn mainframe c′ ≡ learned (clocksIn mainframe c) (Processor (p + 1)) Barrier =
     ap (λ (k : List ℕ). clocksIn mainframe k) e
     ∙ learned-clock c (Processor (p + 1)) Barrier (a .long) (omega arith, omega (arith, a .few)) tt in
     record {
-      long = ap length e ∙ length-sets c (8 * (p + 1)) v ∙ a .long;
+      long = ap length e ∙ length-sets c (clockWidth * (p + 1)) v ∙ a .long;
       few = a .few;
       upto = omega arith;
       clocks = one ∙ rw (add-one p) (ap (λ (k : Clocks). learned k (Processor (suc p)) Barrier) (a .clocks));

@@ -5,13 +5,14 @@ use mathlib.Core.Path.{_≡_}
 use mathlib.Core.Bool.{Bool, cond}
 use mathlib.Core.List.{List}
 use lib.ListN.{length}
+use Rattle.limits.specs.Sizes.{clockArea, markArea}
 use Rattle.rules.specs.State.{mainframe, Clocks, State}
 use Rattle.rules.specs.Steps.{allArrived, roundDone, Fetches, collected, wantsCollection, want}
 use Rattle.memory.specs.Areas.{clocksIn, stateIn}
 
 -- the area of the clocks has its size and holds the clocks k
 pub record HoldsClocks (c : List ℕ) (k : Clocks) : Type 0 where
-  pub long : length c ≡ 4744
+  pub long : length c ≡ clockArea
   pub clocks : clocksIn mainframe c ≡ k
 
 -- b says whether all processors have arrived
@@ -20,8 +21,8 @@ pub record ArrivedAll (m : List ℕ) (b : Bool) : Type 0 where
 
 -- a round was completed
 pub record RoundDone (c m c′ m′ : List ℕ) : Type 0 where
-  pub clocks : length c′ ≡ 4744
-  pub marks : length m′ ≡ 93
+  pub clocks : length c′ ≡ clockArea
+  pub marks : length m′ ≡ markArea
   pub is : (w r : List ℕ) → stateIn mainframe c′ w r m′ ≡ roundDone (stateIn mainframe c w r m)
 
 -- "When the last card arrives": the round is completed, and garbage is collected if that is wanted
@@ -30,5 +31,5 @@ completed s = cond (wantsCollection s) (collected mainframe (roundDone s)) (reco
 
 -- the wish was set
 pub record Wanted (m m′ : List ℕ) : Type 0 where
-  pub marks : length m′ ≡ 93
+  pub marks : length m′ ≡ markArea
   pub is : (c w r : List ℕ) → stateIn mainframe c w r m′ ≡ want (stateIn mainframe c w r m)

@@ -1,11 +1,10 @@
 // Arriving at the barrier, which may complete a round, and wanting a collection, on lent memory that holds a state in order.
 // The contracts say in the words of the rules (specs/Steps.antt of the crate rules) what state the areas hold afterwards.
 ghost use mathlib.Core.Path.{_≡_};
-ghost use mathlib.Core.Bool.{not, _&&_};
+ghost use mathlib.Core.Bool.{_&&_};
 ghost use Prim.Native.Nat.{_<_};
-ghost use lib.ListN.{length, replicate};
-ghost use lib.Seq.{sets};
-ghost use lib.Dec.{eqb};
+ghost use lib.ListN.{length};
+ghost use Rattle.limits.specs.Sizes.{markArea};
 ghost use Rattle.rules.specs.State.{mainframe};
 ghost use Rattle.rules.specs.Steps.{atBarrier, allLearned, arrive};
 ghost use Rattle.memory.specs.Areas.{clocksIn, stateIn};
@@ -16,7 +15,12 @@ ghost use Rattle.barrier.specs.Effects.{HoldsClocks, ArrivedAll, RoundDo
 use clock::Clock;
 use clock::ProcessorId;
 use locking::learn;
-use memory::clear;
+use memory::marks::clear_arrived;
+use memory::marks::has_arrived;
+use memory::marks::is_wanted;
+use memory::marks::mark_arrived;
+use memory::marks::processor_count;
+use memory::marks::put_wanted;
 use memory::put_clock;
 
 // Arrive: closes the interval; the barrier's clock joins the processor's; the processor is marked. When the last processor arrives the
@@ -40,13 +44,13 @@ pub fn arrive(
 
 // Want collection: sets the wish; setting it again changes nothing.
 pub fn want(marks: &mut [u8])
-    requires { ⌜ length (now marks) ≡ 93 ⌝ }
+    requires { ⌜ length (now marks) ≡ markArea ⌝ }
     ensures { λ _. ⌜ Wanted (now (marks .entry)) (now (marks .exit)) ⌝ }
 {
-    if marks[4] != 0 {
+    if is_wanted(marks) {
         return;
     }
-    marks[4] = 1;
+    put_wanted(marks, 1);
 }
 
 // Closes the interval; the barrier's clock joins the processor's; the processor is marked.
@@ -62,7 +66,7 @@ pub fn at_barrier(
 {
     closing::close(p, clocks, words, records, marks);
     learn(clocks, 0, p.0);
-    marks[4 + p.0] = 1;
+    mark_arrived(marks, p);
 }
 
 // Whether all processors have arrived. Every mark is looked at: where the first one missing stands nobody can foresee.
@@ -70,21 +74,21 @@ pub fn all_arrived(marks: &[u8]) -> bool
     requires { ⌜ MarksThere (now marks) ⌝ }
     ensures { λ r. ⌜ ArrivedAll (now (marks .entry)) r ⌝ }
 {
-    let n = wide(marks[0]);
+    let n = processor_count(marks);
     let mut all = true;
     let mut k: usize = 0;
     while k < n {
-        all = still(all, marks[5 + k]);
+        all = still(all, has_arrived(marks, ProcessorId(k + 1)));
         k = k + 1;
     }
     all
 }
 
 // Whether all before have arrived, and this one has.
-fn still(before: bool, mark: u8) -> bool
-    ensures { λ r. ⌜ r ≡ (before && not (eqb mark 0)) ⌝ }
+fn still(before: bool, arrived: bool) -> bool
+    ensures { λ r. ⌜ r ≡ (before && arrived) ⌝ }
 {
-    if mark == 0 { false } else { before }
+    if arrived { before } else { false }
 }
 
 // Completes a round, and collects garbage if that is wanted. Yields how many records were applied.
@@ -93,7 +97,7 @@ fn complete_round(clocks: &mut [u8], words: &mut [u32], records: &[u8], marks: &
     ensures { λ r. ⌜ CountedAs (completed (stateIn mainframe (now (clocks .entry)) (now (words .entry)) (now (records .entry)) (now (marks .entry)))) r (now (clocks .exit)) (now (words .exit)) (now (records .entry)) (now (marks .exit)) ⌝ }
 {
     round_done(clocks, marks);
-    if marks[4] == 0 {
+    if !is_wanted(marks) {
         return 0;
     }
     collecting::collect(clocks, words, records, marks)
@@ -104,7 +108,7 @@ pub fn round_done(clocks: &mut [u8], marks: &mut [u8])
     requires { ⌜ RoundThere (now clocks) (now marks) ⌝ }
     ensures { λ _. ⌜ RoundDone (now (clocks .entry)) (now (marks .entry)) (now (clocks .exit)) (now (marks .exit)) ⌝ }
 {
-    all_learned(clocks, wide(marks[0]));
+    all_learned(clocks, processor_count(marks));
     put_clock(clocks, 0, Clock::ZEROS);
     clear_arrived(marks);
 }
@@ -119,19 +123,4 @@ fn all_learned(clocks: &mut [u8], n: usize)
         learn(clocks, k + 1, 0);
         k = k + 1;
     }
-}
-
-// The arrived marks of all eight processors become 0.
-fn clear_arrived(marks: &mut [u8])
-    requires { ⌜ length (now marks) ≡ 93 ⌝ }
-    ensures { λ _. ⌜ now (marks .exit) ≡ sets (now (marks .entry)) 5 (replicate 8 0) ⌝ }
-{
-    clear(&mut marks[5..13]);
-}
-
-// A byte as a number.
-fn wide(x: u8) -> usize
-    ensures { λ r. ⌜ (r ≡ x) × (r < 256) ⌝ }
-{
-    x as usize
 }

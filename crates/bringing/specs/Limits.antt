@@ -3,6 +3,7 @@ use Prim.Native.Nat.{ℕ}
 use mathlib.Core.Bool.{Bool, cond, _||_}
 use mathlib.Core.List.{List, [], _∷_}
 use lib.Dec.{leb, eqb}
+use Rattle.limits.specs.Sizes.{keyLimit}
 use Rattle.clock.specs.Clocks.{entryOf}
 use Rattle.rules.specs.Tables.{select}
 use Rattle.ranking.specs.Ranks.{processorOf, intervalOf}
@@ -21,5 +22,5 @@ numbersFrom limit l = select (λ x. leb limit x) l
 
 -- the first number that fails a test, or one above all numbers of records
 unfoldable pub firstFailing : (ℕ → Bool) → List ℕ → ℕ
-firstFailing test [] = 134217728
+firstFailing test [] = keyLimit
 firstFailing test (x ∷ l) = cond (test x) (firstFailing test l) x

@@ -5,6 +5,7 @@ ghost use mathlib.Core.Path.{_≡_};
 ghost use mathlib.Core.Bool.{cond};
 ghost use Prim.Native.Nat.{_<_, _≤_};
 ghost use lib.ListN.{length};
+ghost use Rattle.limits.specs.Limits.{processorLimit, recordLimit};
 ghost use Rattle.ranking.specs.Ranks.{newsBetween, newsTo};
 ghost use Rattle.ranking.specs.Needed.{Named};
 ghost use Rattle.bringing.specs.Limits.{knownTo, isDone};
@@ -13,9 +14,17 @@ use clock::Clock;
 use clock::PageId;
 use clock::ProcessorId;
 use fetching::lay_due;
+use limits::CLOCK_WIDTH;
+use limits::INTERVAL_BASE;
+use limits::KEY_LIMIT;
+use limits::PROCESSOR_BASE;
+use limits::PROCESSOR_STEP;
+use limits::RECORD_LIMIT;
+use limits::SLOT_BASE;
 use memory::applied_row;
 use memory::clock_at;
 use memory::put_clock;
+use memory::wide;
 
 // What a fetch answers: how many records were applied, and the limit for the next one.
 pub struct Fetched {
@@ -97,7 +106,7 @@ fn lay_listed(
     let mut taken: u32 = 0;
     loop {
         let k = first + taken as usize;
-        if 128 <= k {
+        if RECORD_LIMIT <= k {
             break taken;
         }
         lay_due(records, wide(slots[k]), words, p, g);
@@ -106,10 +115,10 @@ fn lay_listed(
 }
 
 // Room for a slot for each record that can stand.
-fn none_listed() -> [u8; 128]
-    ensures { λ r. ⌜ length r ≡ 128 ⌝ }
+fn none_listed() -> [u8; RECORD_LIMIT]
+    ensures { λ r. ⌜ length r ≡ recordLimit ⌝ }
 {
-    [0; 128]
+    [0; RECORD_LIMIT]
 }
 
 // Lists the slots of the records of the first n numbers that are news to processor p. Its own entries are made 255 first: none of its own
@@ -123,7 +132,7 @@ fn list_ranked(
     known: Clock,
     slots: &mut [u8],
 ) -> Listed
-    requires { ⌜ (1 ≤ p .0) × (p .0 ≤ 8) ⌝ }
+    requires { ⌜ (1 ≤ p .0) × (p .0 ≤ processorLimit) ⌝ }
     requires { ⌜ RowListable (now ranks) n (now slots) ⌝ }
     ensures { λ r. ⌜ RowListed (newsTo (applied .entries) (known .entries) (p .0)) (isDone (known .entries) (p .0)) (now (ranks .entry)) n limit (now (slots .exit)) (r .first) (r .limit) ⌝ }
 {
@@ -141,15 +150,15 @@ fn pick(
     ranks: &[u32],
     n: usize,
     limit: u32,
-    from: &[u8; 8],
-    to: &[u8; 8],
+    from: &[u8; CLOCK_WIDTH],
+    to: &[u8; CLOCK_WIDTH],
     slots: &mut [u8],
 ) -> Listed
     requires { ⌜ RowListable (now ranks) n (now slots) ⌝ }
     ensures { λ r. ⌜ RowListed (newsBetween (now (from .entry)) (now (to .entry))) (knownTo (now (to .entry))) (now (ranks .entry)) n limit (now (slots .exit)) (r .first) (r .limit) ⌝ }
 {
-    let mut first: usize = 128;
-    let mut next: u32 = 134217728;
+    let mut first: usize = RECORD_LIMIT;
+    let mut next: u32 = KEY_LIMIT;
     let mut i = n;
     while 0 < i {
         let x = ranks[i - 1];
@@ -157,7 +166,7 @@ fn pick(
             return Listed { first, limit: next };
         }
         let judged = judge(x, from, to);
-        slots[first - 1] = (x % 128) as u8;
+        slots[first - 1] = (x % SLOT_BASE) as u8;
         first = first - judged.news;
         next = lower(judged.known, next, x);
         i = i - 1;
@@ -166,12 +175,12 @@ fn pick(
 }
 
 // Whether the interval of a number is above its processor's entry in `from` and not above that in `to`, and whether it is not above the latter.
-fn judge(x: u32, from: &[u8; 8], to: &[u8; 8]) -> Judged
+fn judge(x: u32, from: &[u8; CLOCK_WIDTH], to: &[u8; CLOCK_WIDTH]) -> Judged
     requires { ⌜ Named x ⌝ }
     ensures { λ r. ⌜ Judges (now (from .entry)) (now (to .entry)) x (r .news) (r .known) ⌝ }
 {
-    let q = (x / 8192 % 16 - 1) as usize;
-    let interval = x / 128 % 64;
+    let q = (x / PROCESSOR_STEP % PROCESSOR_BASE - 1) as usize;
+    let interval = x / SLOT_BASE % INTERVAL_BASE;
     let known = interval <= wide32(to[q]);
     let news = flag(wide32(from[q]) < interval) * flag(known);
     Judged { news, known }
@@ -189,12 +198,6 @@ fn flag(x: bool) -> usize
     ensures { λ r. ⌜ r ≡ cond x 1 0 ⌝ }
 {
     if x { 1 } else { 0 }
-}
-
-fn wide(x: u8) -> usize
-    ensures { λ r. ⌜ (r ≡ x) × (r < 256) ⌝ }
-{
-    x as usize
 }
 
 fn wide32(x: u8) -> u32

@@ -4,13 +4,16 @@ use native.Mathlib.Omega.{arith}
 use mathlib.Core.Path.{_≡_, sym, _∙_}
 use mathlib.Core.Bool.{Bool, true, false, not, _&&_}
 use mathlib.Core.List.{List}
-use lib.ListN.{getD}
 use lib.Dec.{leb}
 use borrow.Author.Tests.{leb-true, not-true, not-false, le-leb, lt-leb}
 use borrow.Author.Needs.{needs}
+use Rattle.limits.specs.Limits.{lockLimit, pageLimit, processorLimit, recordLimit}
+use Rattle.limits.specs.Sizes.{firstLockRow}
 use Rattle.rules.specs.Tables.{every}
 use Rattle.rules.proofs.Everywhere.{and-left, and-right}
 use Rattle.memory.specs.Needed.{Lent}
+use Rattle.memory.specs.Marks.{lockCount, pageCount, processorCount}
+use Rattle.memory.specs.Areas.{standingCount}
 use Rattle.marktests.specs.Tests.{marksHoldWith}
 use Rattle.marktests.specs.Needed.{CountsFit, MarksThere}
 use Rattle.marktests.proofs.Passing.{and-fails, and-goes-on}
@@ -29,40 +32,40 @@ module _ (processors pages locks standing : ℕ) where
 
   module _ (a : processors ≡ 0 → ⊥) where
     -- too many
-    pub many-processors : 8 < processors → false ≡ countsHold processors pages locks standing
+    pub many-processors : processorLimit < processors → false ≡ countsHold processors pages locks standing
     unfolding countsHold
-    many-processors h = rw (le-leb 1 processors (omega arith), lt-leb processors 8 h)
+    many-processors h = rw (le-leb 1 processors (omega arith), lt-leb processors processorLimit h)
 
-    module _ (b : processors ≤ 8) where
+    module _ (b : processors ≤ processorLimit) where
       -- no page
       pub no-page : pages ≡ 0 → false ≡ countsHold processors pages locks standing
       unfolding countsHold
-      no-page e = rw (le-leb 1 processors (omega arith), le-leb processors 8 b, e)
+      no-page e = rw (le-leb 1 processors (omega arith), le-leb processors processorLimit b, e)
 
       module _ (d : pages ≡ 0 → ⊥) where
         -- too many
-        pub many-pages : 8 < pages → false ≡ countsHold processors pages locks standing
+        pub many-pages : pageLimit < pages → false ≡ countsHold processors pages locks standing
         unfolding countsHold
-        many-pages h = rw (le-leb 1 processors (omega arith), le-leb processors 8 b, le-leb 1 pages (omega arith), lt-leb pages 8 h)
+        many-pages h = rw (le-leb 1 processors (omega arith), le-leb processors processorLimit b, le-leb 1 pages (omega arith), lt-leb pages pageLimit h)
 
-        module _ (f : pages ≤ 8) where
+        module _ (f : pages ≤ pageLimit) where
           -- no lock
           pub no-lock : locks ≡ 0 → false ≡ countsHold processors pages locks standing
           unfolding countsHold
-          no-lock e = rw (le-leb 1 processors (omega arith), le-leb processors 8 b, le-leb 1 pages (omega arith), le-leb pages 8 f, e)
+          no-lock e = rw (le-leb 1 processors (omega arith), le-leb processors processorLimit b, le-leb 1 pages (omega arith), le-leb pages pageLimit f, e)
 
           module _ (k : locks ≡ 0 → ⊥) where
             -- too many
-            pub many-locks : 16 < locks → false ≡ countsHold processors pages locks standing
+            pub many-locks : lockLimit < locks → false ≡ countsHold processors pages locks standing
             unfolding countsHold
             many-locks h =
-                rw (le-leb 1 processors (omega arith), le-leb processors 8 b, le-leb 1 pages (omega arith), le-leb pages 8 f, le-leb 1 locks (omega arith), lt-leb locks 16 h)
+                rw (le-leb 1 processors (omega arith), le-leb processors processorLimit b, le-leb 1 pages (omega arith), le-leb pages pageLimit f, le-leb 1 locks (omega arith), lt-leb locks lockLimit h)
 
             -- otherwise the slots of the records decide
-            pub slots-decide : locks ≤ 16 → leb standing 128 ≡ countsHold processors pages locks standing
+            pub slots-decide : locks ≤ lockLimit → leb standing recordLimit ≡ countsHold processors pages locks standing
             unfolding countsHold
             slots-decide h =
-                rw (le-leb 1 processors (omega arith), le-leb processors 8 b, le-leb 1 pages (omega arith), le-leb pages 8 f, le-leb 1 locks (omega arith), le-leb locks 16 h)
+                rw (le-leb 1 processors (omega arith), le-leb processors processorLimit b, le-leb 1 pages (omega arith), le-leb pages pageLimit f, le-leb 1 locks (omega arith), le-leb locks lockLimit h)
 
 -- ---- what each area's test asks
 
@@ -84,11 +87,11 @@ module _ (c w r m : List ℕ) (processors pages locks standing : ℕ) (p : Areas
 pub own-fit-clocks : (own c : List ℕ) (processors pages locks : ℕ) (t : Bool) → t ≡ clocksHoldWith own c processors pages locks → not t ≡ false → OwnFit own
 unfolding clocksHoldWith
 own-fit-clocks own c processors pages locks t e k =
-    record { fit = and-left (every 8 (ownFits own)) (rowsHold own c 0 9 (processors + 1) && (rowsHold own c 9 16 locks && (every 8 (appliedHold c processors pages) && every 8 (intervalsHold own c)))) (sym e ∙ not-false t k) }
+    record { fit = and-left (every processorLimit (ownFits own)) (rowsHold own c 0 firstLockRow (processors + 1) && (rowsHold own c firstLockRow lockLimit locks && (every processorLimit (appliedHold c processors pages) && every processorLimit (intervalsHold own c)))) (sym e ∙ not-false t k) }
 
 -- the tests of the areas, one after the other
 pub areas-is : (own c w r m : List ℕ) (processors pages locks standing : ℕ) (t : Bool)
-    → t ≡ (clocksHoldWith own c processors pages locks && (every 8 (copiesHold w processors pages) && (marksHoldWith own m processors pages locks standing && recordsHoldWith own r processors pages standing)))
+    → t ≡ (clocksHoldWith own c processors pages locks && (every processorLimit (copiesHold w processors pages) && (marksHoldWith own m processors pages locks standing && recordsHoldWith own r processors pages standing)))
     → t ≡ areasHoldWith own c w r m processors pages locks standing
 unfolding areasHoldWith
 areas-is own c w r m processors pages locks standing t e = e
@@ -98,35 +101,35 @@ areas-is own c w r m processors pages locks standing t e = e
 -- what the test of the counts says
 pub record CountsIn (processors pages locks standing : ℕ) : Type 0 where
   pub some-processor : 1 ≤ processors
-  pub processors-fit : processors ≤ 8
+  pub processors-fit : processors ≤ processorLimit
   pub some-page : 1 ≤ pages
-  pub pages-fit : pages ≤ 8
+  pub pages-fit : pages ≤ pageLimit
   pub some-lock : 1 ≤ locks
-  pub locks-fit : locks ≤ 16
-  pub standing-fit : standing ≤ 128
+  pub locks-fit : locks ≤ lockLimit
+  pub standing-fit : standing ≤ recordLimit
 
 -- each count is in its range
 pub counts-in : (processors pages locks standing : ℕ) → countsHold processors pages locks standing ≡ true → CountsIn processors pages locks standing
 unfolding countsHold
 counts-in processors pages locks standing e =
-    let last : Bool = leb locks 16 && leb standing 128 in
+    let last : Bool = leb locks lockLimit && leb standing recordLimit in
     let from-locks : Bool = leb 1 locks && last in
-    let to-pages : Bool = leb pages 8 && from-locks in
+    let to-pages : Bool = leb pages pageLimit && from-locks in
     let from-pages : Bool = leb 1 pages && to-pages in
-    let to-processors : Bool = leb processors 8 && from-pages in
+    let to-processors : Bool = leb processors processorLimit && from-pages in
     let a = and-right (leb 1 processors) to-processors e in
-    let b = and-right (leb processors 8) from-pages a in
+    let b = and-right (leb processors processorLimit) from-pages a in
     let d = and-right (leb 1 pages) to-pages b in
-    let f = and-right (leb pages 8) from-locks d in
+    let f = and-right (leb pages pageLimit) from-locks d in
     let g = and-right (leb 1 locks) last f in
     record {
       some-processor = leb-true _ _ (and-left (leb 1 processors) to-processors e);
-      processors-fit = leb-true _ _ (and-left (leb processors 8) from-pages a);
+      processors-fit = leb-true _ _ (and-left (leb processors processorLimit) from-pages a);
       some-page = leb-true _ _ (and-left (leb 1 pages) to-pages b);
-      pages-fit = leb-true _ _ (and-left (leb pages 8) from-locks d);
+      pages-fit = leb-true _ _ (and-left (leb pages pageLimit) from-locks d);
       some-lock = leb-true _ _ (and-left (leb 1 locks) last f);
-      locks-fit = leb-true _ _ (and-left (leb locks 16) (leb standing 128) g);
-      standing-fit = leb-true _ _ (and-right (leb locks 16) (leb standing 128) g);
+      locks-fit = leb-true _ _ (and-left (leb locks lockLimit) (leb standing recordLimit) g);
+      standing-fit = leb-true _ _ (and-right (leb locks lockLimit) (leb standing recordLimit) g);
     }
 
 -- counts in range fit their tables
@@ -142,8 +145,8 @@ areas-there c w r m processors pages locks standing t p e k =
     record { lent = p; counts = counts-fit processors pages locks standing (sym e ∙ not-false t k) }
 
 module _ (c w r m : List ℕ) (processors pages locks standing : ℕ) (t : Bool)
-    (a : (processors ≡ getD m 0 0) × (processors < 256)) (b : (pages ≡ getD m 1 0) × (pages < 256)) (d : (locks ≡ getD m 2 0) × (locks < 256))
-    (f : (standing ≡ getD m 3 0) × (standing < 256)) (e : t ≡ countsHold processors pages locks standing) where
+    (a : (processors ≡ processorCount m) × (processors < 256)) (b : (pages ≡ pageCount m) × (pages < 256)) (d : (locks ≡ lockCount m) × (locks < 256))
+    (f : (standing ≡ standingCount m) × (standing < 65536)) (e : t ≡ countsHold processors pages locks standing) where
   -- a count out of range decides
   pub counts-broken : not t ≡ true → false ≡ areasHold c w r m
   unfolding areasHold

@@ -9,6 +9,8 @@ use mathlib.Core.List.{List}
 use lib.ListN.{getD}
 use lib.Dec.{leb, eqb}
 use borrow.Author.Tests.{ltb-false, leb-true, leb-false, le-leb, eq-eqb}
+use Rattle.limits.specs.Limits.{intervalLimit, pageLimit, processorLimit}
+use Rattle.limits.specs.Sizes.{clockWidth}
 use Rattle.clock.specs.Clocks.{entryOf}
 use Rattle.rules.specs.InOrder.{present, everyProcessor, everyHolder, presentHolder, allZero, laterIntervalsZero, entriesKnown, appliedKnown}
 use Rattle.rules.specs.Refusals.{fits}
@@ -17,27 +19,28 @@ use Rattle.rules.proofs.Everywhere.{and-both, or-when, every-processor-holds, e
 use Rattle.rules.proofs.Facts.{Within, Sized}
 use Rattle.rules.proofs.Tables.{every-at}
 use Rattle.memory.specs.Areas.{clockRow}
+use Rattle.memory.specs.Marks.{lockCount, pageCount, processorCount}
 use Rattle.recordtests.specs.Tests.{ownFits}
 use Rattle.checking.specs.Tests.{ownEntries}
 use Rattle.checking.proofs.StateReads.{entry-read, own-read, present-read}
 use Rattle.checking.proofs.ClocksWhen.{held, ClocksPass, row-known, applied-below, own-absent, later-zero, absent-zero}
 
-module _ (c w r m : List ℕ) (size : Sized mainframe (held c w r m)) (z : ClocksPass c (getD m 0 0) (getD m 1 0) (getD m 2 0)) where
+module _ (c w r m : List ℕ) (size : Sized mainframe (held c w r m)) (z : ClocksPass c (processorCount m) (pageCount m) (lockCount m)) where
   -- an entry past the eighth is 0, and nobody's is
-  past : (h : Holder) (q : ℕ) → Within mainframe h → (q < 8 → ⊥) → entryOf (clockOf (held c w r m .clocks) h) (suc q) ≡ 0
+  past : (h : Holder) (q : ℕ) → Within mainframe h → (q < processorLimit → ⊥) → entryOf (clockOf (held c w r m .clocks) h) (suc q) ≡ 0
   unfolding mainframe
   past h q t n = entry-past (clockOf (held c w r m .clocks) h) (suc q) (λ a k. n (omega (arith, size .clocks h t)))
 
   -- a clock whose row is zeros
-  clock-zero : (h : Holder) → Within mainframe h → ((q : ℕ) → q < 8 → getD c (8 * clockRow mainframe h + q) 0 ≡ 0) → allZero (clockOf (held c w r m .clocks) h) ≡ true
+  clock-zero : (h : Holder) → Within mainframe h → ((q : ℕ) → q < processorLimit → getD c (clockWidth * clockRow mainframe h + q) 0 ≡ 0) → allZero (clockOf (held c w r m .clocks) h) ≡ true
   unfolding entryOf
   clock-zero h t f = entries-all-zero (clockOf (held c w r m .clocks) h) each
     where
       each : (q : ℕ) → entryOf (clockOf (held c w r m .clocks) h) q ≡ 0
       each zero = refl
-      each (suc q) = go (decLt q 8)
+      each (suc q) = go (decLt q processorLimit)
         where
-          go : Dec (q < 8) → entryOf (clockOf (held c w r m .clocks) h) (suc q) ≡ 0
+          go : Dec (q < processorLimit) → entryOf (clockOf (held c w r m .clocks) h) (suc q) ≡ 0
           go (yes b) = entry-read c w r m h q t b ∙ f q b
           go (no n) = past h q t n
 
@@ -53,10 +56,10 @@ module _ (c w r m : List ℕ) (size : Sized mainframe (held c w r m)) (z : Clock
       every-holder-holds mainframe _
       (λ h t. every-processor-holds mainframe _ (λ q k l. or-when (present (held c w r m) q) _ (λ a. eq-eqb _ _ (none h q t k l a))))
     where
-      none : (h : Holder) (q : ℕ) → Within mainframe h → 1 ≤ q → q ≤ 8 → present (held c w r m) q ≡ false → entryOf (clockOf (held c w r m .clocks) h) q ≡ 0
+      none : (h : Holder) (q : ℕ) → Within mainframe h → 1 ≤ q → q ≤ processorLimit → present (held c w r m) q ≡ false → entryOf (clockOf (held c w r m .clocks) h) q ≡ 0
       none h zero t k l a = absurd (omega arith)
       none h (suc q) t k l a =
-          omega (arith, entry-read c w r m h q t l, row-known c w r m z h q t l, own-absent c w r m z q (ltb-false q (getD m 0 0) (sym (present-read c w r m q) ∙ a)) l)
+          omega (arith, entry-read c w r m h q t l, row-known c w r m z h q t l, own-absent c w r m z q (ltb-false q (processorCount m) (sym (present-read c w r m q) ∙ a)) l)
 
   -- the clocks of intervals not made are zeros
   pub later-intervals-when : laterIntervalsZero mainframe (held c w r m) ≡ true
@@ -65,7 +68,7 @@ module _ (c w r m : List ℕ) (size : Sized mainframe (held c w r m)) (z : Clock
       every-interval-holds mainframe (λ (p i : ℕ). leb i (own (held c w r m) p) || allZero (clockOf (held c w r m .clocks) (Interval p i)))
       (λ p i k l a b. or-when (leb i (own (held c w r m) p)) _ (λ e. later p i k l a b (leb-false i (own (held c w r m) p) e)))
     where
-      later : (p i : ℕ) → 1 ≤ p → p ≤ 8 → 1 ≤ i → i ≤ 63 → own (held c w r m) p < i → allZero (clockOf (held c w r m .clocks) (Interval p i)) ≡ true
+      later : (p i : ℕ) → 1 ≤ p → p ≤ processorLimit → 1 ≤ i → i ≤ intervalLimit → own (held c w r m) p < i → allZero (clockOf (held c w r m .clocks) (Interval p i)) ≡ true
       later zero i k l a b e = absurd (omega arith)
       later (suc p) zero k l a b e = absurd (omega arith)
       later (suc p) (suc i) k l a b e =
@@ -77,18 +80,18 @@ module _ (c w r m : List ℕ) (size : Sized mainframe (held c w r m)) (z : Clock
   entries-known-when =
       and-both
       (everyHolder mainframe (λ (h : Holder). everyProcessor mainframe (λ (q : ℕ). leb (entryOf (clockOf (held c w r m .clocks) h) q) (own (held c w r m) q))))
-      (everyProcessor mainframe (λ (p : ℕ). leb (own (held c w r m) p) 63))
+      (everyProcessor mainframe (λ (p : ℕ). leb (own (held c w r m) p) intervalLimit))
       (every-holder-holds mainframe _ (λ h t. every-processor-holds mainframe _ (λ q k l. le-leb _ _ (below h q t k l))))
       (every-processor-holds mainframe _ (λ p k l. le-leb _ _ (fits p k l)))
     where
-      below : (h : Holder) (q : ℕ) → Within mainframe h → 1 ≤ q → q ≤ 8 → entryOf (clockOf (held c w r m .clocks) h) q ≤ own (held c w r m) q
+      below : (h : Holder) (q : ℕ) → Within mainframe h → 1 ≤ q → q ≤ processorLimit → entryOf (clockOf (held c w r m .clocks) h) q ≤ own (held c w r m) q
       below h zero t k l = absurd (omega arith)
       below h (suc q) t k l = omega (arith, entry-read c w r m h q t l, row-known c w r m z h q t l, own-read c w r m q l)
 
-      fits : (p : ℕ) → 1 ≤ p → p ≤ 8 → own (held c w r m) p ≤ 63
+      fits : (p : ℕ) → 1 ≤ p → p ≤ processorLimit → own (held c w r m) p ≤ intervalLimit
       fits zero k l = absurd (omega arith)
       fits (suc p) k l =
-          let most : getD (ownEntries c) p 0 ≤ 63 = leb-true _ _ (every-at 8 (ownFits (ownEntries c)) p (z .own-fit) l) in
+          let most : getD (ownEntries c) p 0 ≤ intervalLimit = leb-true _ _ (every-at processorLimit (ownFits (ownEntries c)) p (z .own-fit) l) in
           omega (arith, own-read c w r m p l)
 
   -- no applied clock exceeds its processor's
@@ -98,12 +101,12 @@ module _ (c w r m : List ℕ) (size : Sized mainframe (held c w r m)) (z : Clock
       every-page-holds mainframe _
       (λ p g k l n. entries-covered (clockOf (held c w r m .clocks) (Processor p)) (clockOf (held c w r m .clocks) (Applied p g)) (λ q. below p g q k l n))
     where
-      below : (p g q : ℕ) → 1 ≤ p → p ≤ 8 → g < 8 → entryOf (clockOf (held c w r m .clocks) (Applied p g)) q ≤ entryOf (clockOf (held c w r m .clocks) (Processor p)) q
+      below : (p g q : ℕ) → 1 ≤ p → p ≤ processorLimit → g < pageLimit → entryOf (clockOf (held c w r m .clocks) (Applied p g)) q ≤ entryOf (clockOf (held c w r m .clocks) (Processor p)) q
       below zero g q k l n = absurd (omega arith)
       below (suc p) g zero k l n = omega arith
-      below (suc p) g (suc q) k l n = go (decLt q 8)
+      below (suc p) g (suc q) k l n = go (decLt q processorLimit)
         where
-          go : Dec (q < 8) → entryOf (clockOf (held c w r m .clocks) (Applied (suc p) g)) (suc q) ≤ entryOf (clockOf (held c w r m .clocks) (Processor (suc p))) (suc q)
+          go : Dec (q < processorLimit) → entryOf (clockOf (held c w r m .clocks) (Applied (suc p) g)) (suc q) ≤ entryOf (clockOf (held c w r m .clocks) (Processor (suc p))) (suc q)
           go (yes b) =
               omega (arith, entry-read c w r m (Applied (suc p) g) q (k, l, n) b, entry-read c w r m (Processor (suc p)) q (k, l) b, applied-below c w r m z p g q l n b)
           go (no b) = omega (arith, past (Applied (suc p) g) q (k, l, n) b)

@@ -8,6 +8,8 @@ use mathlib.Core.List.{List}
 use lib.ListN.{getD, take, drop}
 use lib.Dec.{leb, ltb, eqb}
 use borrow.Author.Tests.{ltb-false, leb-true, eqb-true, not-true, not-false, lt-ltb, le-ltb, le-leb, eq-eqb}
+use Rattle.limits.specs.Limits.{firstArrived, intervalLimit, lockLimit, pageLimit, pageWidth, processorLimit, recordLimit}
+use Rattle.limits.specs.Sizes.{diffLimit, firstDirty, firstHolder, slotWidth}
 use Rattle.diff.specs.Reading.{readRefusal}
 use Rattle.rules.specs.InOrder.{present, slotSize}
 use Rattle.rules.specs.Refusals.{fits}
@@ -16,7 +18,8 @@ use Rattle.rules.specs.Tables.{every, any, total}
 use Rattle.rules.proofs.Everywhere.{and-left, and-right, and-both}
 use Rattle.rules.proofs.Facts.{RecordSound, InOrder}
 use Rattle.rules.proofs.Tables.{every-holds, any-holds}
-use Rattle.memory.specs.Areas.{recordsIn, stateIn}
+use Rattle.memory.specs.Areas.{recordsIn, stateIn, standingCount}
+use Rattle.memory.specs.Marks.{lockCount, pageCount, processorCount, slotInterval, slotLength, slotPage, slotProcessor}
 use Rattle.marktests.specs.Tests.{zeroAt, pagesOf, mayBeDirty, dirtyHold, holderWithin, holdersHold, arrivedHold, dirtyOf, roomHolds, marksHoldWith}
 use Rattle.recordtests.specs.Tests.{noticeHolds, diffHolds, recordHolds, differ, unlike, recordsHoldWith}
 use Rattle.checking.specs.Tests.{ownEntries, countsHold, areasHoldWith, areasHold}
@@ -28,100 +31,100 @@ module _ (c w r m : List ℕ) (o : InOrder mainframe (stateIn mainframe c w r m)
   -- ---- marks
 
   -- the mark of a clean page is 0
-  clean-mark : (k g : ℕ) → k < 8 → g < 8 → dirtyAt (stateIn mainframe c w r m .pages) (suc k) g ≡ false → getD m (29 + 8 * k + g) 0 ≡ 0
+  clean-mark : (k g : ℕ) → k < processorLimit → g < pageLimit → dirtyAt (stateIn mainframe c w r m .pages) (suc k) g ≡ false → getD m (firstDirty + pageLimit * k + g) 0 ≡ 0
   unfolding zeroAt
-  clean-mark k g a b e = eqb-true _ _ (not-false (zeroAt m (29 + 8 * k) g) (sym (dirty-mark-read c w r m k g a b) ∙ e))
+  clean-mark k g a b e = eqb-true _ _ (not-false (zeroAt m (firstDirty + pageLimit * k) g) (sym (dirty-mark-read c w r m k g a b) ∙ e))
 
-  dirty-say : every 8 (dirtyHold (ownEntries c) m (getD m 0 0) (getD m 1 0)) ≡ true
+  dirty-say : every processorLimit (dirtyHold (ownEntries c) m (processorCount m) (pageCount m)) ≡ true
   unfolding dirtyHold mayBeDirty mainframe
-  dirty-say = every-holds 8 (dirtyHold (ownEntries c) m (getD m 0 0) (getD m 1 0)) each
+  dirty-say = every-holds processorLimit (dirtyHold (ownEntries c) m (processorCount m) (pageCount m)) each
     where
-      not-with-63 : (k g : ℕ) → k < 8 → 63 ≤ getD (ownEntries c) k 0 → (b : Bool) → dirtyAt (stateIn mainframe c w r m .pages) (suc k) g ≡ b → b ≡ false
+      not-with-63 : (k g : ℕ) → k < processorLimit → intervalLimit ≤ getD (ownEntries c) k 0 → (b : Bool) → dirtyAt (stateIn mainframe c w r m .pages) (suc k) g ≡ b → b ≡ false
       not-with-63 k g a h true e = absurd (omega (arith, o .dirty-has-interval (suc k) g e, own-read c w r m k a))
       not-with-63 k g a h false e = refl
 
-      clean : (k g : ℕ) → k < 8 → g < 8 → (b : Bool) → ltb (getD (ownEntries c) k 0) 63 ≡ b → cond b (pagesOf (getD m 0 0) (getD m 1 0) k) 0 ≤ g
+      clean : (k g : ℕ) → k < processorLimit → g < pageLimit → (b : Bool) → ltb (getD (ownEntries c) k 0) intervalLimit ≡ b → cond b (pagesOf (processorCount m) (pageCount m) k) 0 ≤ g
           → dirtyAt (stateIn mainframe c w r m .pages) (suc k) g ≡ false
       clean k g a n true e h = o .absent-clean (suc k) g (page-present-read c w r m k g ∙ le-ltb g _ h)
-      clean k g a n false e h = not-with-63 k g a (ltb-false (getD (ownEntries c) k 0) 63 e) (dirtyAt (stateIn mainframe c w r m .pages) (suc k) g) refl
+      clean k g a n false e h = not-with-63 k g a (ltb-false (getD (ownEntries c) k 0) intervalLimit e) (dirtyAt (stateIn mainframe c w r m .pages) (suc k) g) refl
 
-      each : (k : ℕ) → k < 8 → dirtyHold (ownEntries c) m (getD m 0 0) (getD m 1 0) k ≡ true
+      each : (k : ℕ) → k < processorLimit → dirtyHold (ownEntries c) m (processorCount m) (pageCount m) k ≡ true
       each k a =
-          marks-zero-when m (29 + 8 * k) 8 (mayBeDirty (ownEntries c) (getD m 0 0) (getD m 1 0) k)
-          (λ g h n. clean-mark k g a n (clean k g a n (ltb (getD (ownEntries c) k 0) 63) refl h))
+          marks-zero-when m (firstDirty + pageLimit * k) pageLimit (mayBeDirty (ownEntries c) (processorCount m) (pageCount m) k)
+          (λ g h n. clean-mark k g a n (clean k g a n (ltb (getD (ownEntries c) k 0) intervalLimit) refl h))
 
-  holders-say : holdersHold m (getD m 0 0) (getD m 2 0) ≡ true
+  holders-say : holdersHold m (processorCount m) (lockCount m) ≡ true
   unfolding holdersHold holderWithin present stateIn mainframe
   holders-say =
-      and-both (every (getD m 2 0) (holderWithin m (getD m 0 0))) (every (16 - getD m 2 0) (zeroAt m (13 + getD m 2 0)))
-      (every-holds (getD m 2 0) (holderWithin m (getD m 0 0)) (λ l h. le-leb _ _ (within l (omega (arith, o .locks-fit)) (o .holder-present l))))
-      (marks-zero-when m 13 16 (getD m 2 0) (λ l h n. sym (holder-mark-read c w r m l n) ∙ o .absent-not-held l (lock-present-read c w r m l ∙ le-ltb l (getD m 2 0) h)))
+      and-both (every (lockCount m) (holderWithin m (processorCount m))) (every (lockLimit - lockCount m) (zeroAt m (firstHolder + lockCount m)))
+      (every-holds (lockCount m) (holderWithin m (processorCount m)) (λ l h. le-leb _ _ (within l (omega (arith, o .locks-fit)) (o .holder-present l))))
+      (marks-zero-when m firstHolder lockLimit (lockCount m) (λ l h n. sym (holder-mark-read c w r m l n) ∙ o .absent-not-held l (lock-present-read c w r m l ∙ le-ltb l (lockCount m) h)))
     where
-      within : (l : ℕ) → l < 16 → (holder (stateIn mainframe c w r m) l ≡ 0) ⊎ (present (stateIn mainframe c w r m) (holder (stateIn mainframe c w r m) l) ≡ true)
-          → getD m (13 + l) 0 ≤ getD m 0 0
+      within : (l : ℕ) → l < lockLimit → (holder (stateIn mainframe c w r m) l ≡ 0) ⊎ (present (stateIn mainframe c w r m) (holder (stateIn mainframe c w r m) l) ≡ true)
+          → getD m (firstHolder + l) 0 ≤ processorCount m
       within l n (inl e) = omega (arith, e, holder-mark-read c w r m l n)
       within l n (inr e) =
-          let there : holder (stateIn mainframe c w r m) l ≤ getD m 0 0 = leb-true _ _ (and-right (leb 1 (holder (stateIn mainframe c w r m) l)) (leb (holder (stateIn mainframe c w r m) l) (getD m 0 0)) e) in
+          let there : holder (stateIn mainframe c w r m) l ≤ processorCount m = leb-true _ _ (and-right (leb 1 (holder (stateIn mainframe c w r m) l)) (leb (holder (stateIn mainframe c w r m) l) (processorCount m)) e) in
           omega (arith, holder-mark-read c w r m l n)
 
-  arrived-say : arrivedHold m (getD m 0 0) ≡ true
+  arrived-say : arrivedHold m (processorCount m) ≡ true
   unfolding arrivedHold zeroAt stateIn mainframe
   arrived-say =
-      and-both (every (8 - getD m 0 0) (zeroAt m (5 + getD m 0 0))) (any (getD m 0 0) (zeroAt m 5))
-      (marks-zero-when m 5 8 (getD m 0 0)
-      (λ k h n. eqb-true _ _ (not-false (zeroAt m 5 k) (sym (arrived-mark-read c w r m k n) ∙ o .absent-not-arrived (suc k) (omega arith) (present-read c w r m k ∙ le-ltb k (getD m 0 0) h)))))
-      (any-holds (getD m 0 0) (zeroAt m 5) (o .someone-missing .at) (o .someone-missing .below)
+      and-both (every (processorLimit - processorCount m) (zeroAt m (firstArrived + processorCount m))) (any (processorCount m) (zeroAt m firstArrived))
+      (marks-zero-when m firstArrived processorLimit (processorCount m)
+      (λ k h n. eqb-true _ _ (not-false (zeroAt m firstArrived k) (sym (arrived-mark-read c w r m k n) ∙ o .absent-not-arrived (suc k) (omega arith) (present-read c w r m k ∙ le-ltb k (processorCount m) h)))))
+      (any-holds (processorCount m) (zeroAt m firstArrived) (o .someone-missing .at) (o .someone-missing .below)
       (missing (o .someone-missing .at) (omega (arith, o .someone-missing .below, o .processors-fit)) (o .someone-missing .passes)))
     where
-      missing : (k : ℕ) → k < 8 → not (hasArrived (stateIn mainframe c w r m) (suc k)) ≡ true → zeroAt m 5 k ≡ true
-      missing k n e = not-false (zeroAt m 5 k) (sym (arrived-mark-read c w r m k n) ∙ not-true (hasArrived (stateIn mainframe c w r m) (suc k)) e)
+      missing : (k : ℕ) → k < processorLimit → not (hasArrived (stateIn mainframe c w r m) (suc k)) ≡ true → zeroAt m firstArrived k ≡ true
+      missing k n e = not-false (zeroAt m firstArrived k) (sym (arrived-mark-read c w r m k n) ∙ not-true (hasArrived (stateIn mainframe c w r m) (suc k)) e)
 
-  room-say : roomHolds m (getD m 0 0) (getD m 1 0) (getD m 3 0) ≡ true
+  room-say : roomHolds m (processorCount m) (pageCount m) (standingCount m) ≡ true
   unfolding roomHolds stateIn recordsIn mainframe
-  room-say = le-leb (getD m 3 0 + total (getD m 0 0) (dirtyOf m (getD m 1 0))) 128 (omega (arith, o .room, dirty-pages-read c w r m (o .processors-fit) (o .pages-fit)))
+  room-say = le-leb (standingCount m + total (processorCount m) (dirtyOf m (pageCount m))) recordLimit (omega (arith, o .room, dirty-pages-read c w r m (o .processors-fit) (o .pages-fit)))
 
-  marks-say : marksHoldWith (ownEntries c) m (getD m 0 0) (getD m 1 0) (getD m 2 0) (getD m 3 0) ≡ true
+  marks-say : marksHoldWith (ownEntries c) m (processorCount m) (pageCount m) (lockCount m) (standingCount m) ≡ true
   unfolding marksHoldWith
   marks-say = rw (dirty-say, holders-say, arrived-say, room-say)
 
   -- ---- records
 
-  few : getD m 3 0 ≤ 128
+  few : standingCount m ≤ recordLimit
   unfolding stateIn recordsIn mainframe
   few = o .sized .few-standing
 
-  notice-say : (i : ℕ) → i < 128 → RecordSound mainframe (stateIn mainframe c w r m) i
-      → noticeHolds (ownEntries c) (getD m 0 0) (getD m 1 0) (getD r (135 * i) 0) (getD r (135 * i + 1) 0) (getD r (135 * i + 2) 0) ≡ true
+  notice-say : (i : ℕ) → i < recordLimit → RecordSound mainframe (stateIn mainframe c w r m) i
+      → noticeHolds (ownEntries c) (processorCount m) (pageCount m) (slotProcessor r i) (slotInterval r i) (slotPage r i) ≡ true
   unfolding noticeHolds present stateIn mainframe
   notice-say i b z =
-      let there : present (stateIn mainframe c w r m) (getD r (135 * i) 0) ≡ true = rw (record-processor c w r m i b) at (z .processor) in
-      let from : 1 ≤ getD r (135 * i) 0 = leb-true _ _ (and-left (leb 1 (getD r (135 * i) 0)) (leb (getD r (135 * i) 0) (getD m 0 0)) there) in
-      let to : getD r (135 * i) 0 ≤ getD m 0 0 = leb-true _ _ (and-right (leb 1 (getD r (135 * i) 0)) (leb (getD r (135 * i) 0) (getD m 0 0)) there) in
-      let made : getD r (135 * i + 1) 0 ≤ own (stateIn mainframe c w r m) (getD r (135 * i) 0) = rw (record-interval c w r m i b, record-processor c w r m i b) at (z .made-interval) in
-      rw (le-leb _ _ from, le-leb _ _ to, lt-ltb (getD r (135 * i + 2) 0) (getD m 1 0) (omega (arith, z .page, record-page c w r m i b)), le-leb 1 (getD r (135 * i + 1) 0) (omega (arith, z .some-interval, record-interval c w r m i b)))
-      (le-leb (getD r (135 * i + 1) 0) (getD (ownEntries c) (getD r (135 * i) 0 - 1) 0) (omega (arith, made, own-of-read c w r m (getD r (135 * i) 0) from (omega (arith, to, o .processors-fit)))))
+      let there : present (stateIn mainframe c w r m) (slotProcessor r i) ≡ true = rw (record-processor c w r m i b) at (z .processor) in
+      let from : 1 ≤ slotProcessor r i = leb-true _ _ (and-left (leb 1 (slotProcessor r i)) (leb (slotProcessor r i) (processorCount m)) there) in
+      let to : slotProcessor r i ≤ processorCount m = leb-true _ _ (and-right (leb 1 (slotProcessor r i)) (leb (slotProcessor r i) (processorCount m)) there) in
+      let made : slotInterval r i ≤ own (stateIn mainframe c w r m) (slotProcessor r i) = rw (record-interval c w r m i b, record-processor c w r m i b) at (z .made-interval) in
+      rw (le-leb _ _ from, le-leb _ _ to, lt-ltb (slotPage r i) (pageCount m) (omega (arith, z .page, record-page c w r m i b)), le-leb 1 (slotInterval r i) (omega (arith, z .some-interval, record-interval c w r m i b)))
+      (le-leb (slotInterval r i) (getD (ownEntries c) (slotProcessor r i - 1) 0) (omega (arith, made, own-of-read c w r m (slotProcessor r i) from (omega (arith, to, o .processors-fit)))))
 
-  diff-say : (i : ℕ) → i < 128 → RecordSound mainframe (stateIn mainframe c w r m) i → diffHolds r (135 * i) ≡ true
+  diff-say : (i : ℕ) → i < recordLimit → RecordSound mainframe (stateIn mainframe c w r m) i → diffHolds r i ≡ true
   unfolding diffHolds slotSize mainframe
   diff-say i b z =
-      let fits : getD r (135 * i + 3) 0 ≤ 131 = omega (arith, z .fits, record-length c w r m i b) in
-      and-both (leb (getD r (135 * i + 3) 0) 131) (eqb (readRefusal 32 (take (getD r (135 * i + 3) 0) (drop (135 * i + 4) r))) 0)
+      let fits : slotLength r i ≤ diffLimit = omega (arith, z .fits, record-length c w r m i b) in
+      and-both (leb (slotLength r i) diffLimit) (eqb (readRefusal pageWidth (take (slotLength r i) (drop (slotWidth * i + 4) r))) 0)
       (le-leb _ _ fits)
-      (eq-eqb _ _ (ap (λ (d : List ℕ). readRefusal 32 d) (sym (record-diff c w r m i b fits)) ∙ z .legal))
+      (eq-eqb _ _ (ap (λ (d : List ℕ). readRefusal pageWidth d) (sym (record-diff c w r m i b fits)) ∙ z .legal))
 
-  records-say : recordsHoldWith (ownEntries c) r (getD m 0 0) (getD m 1 0) (getD m 3 0) ≡ true
+  records-say : recordsHoldWith (ownEntries c) r (processorCount m) (pageCount m) (standingCount m) ≡ true
   unfolding recordsHoldWith recordHolds unlike stateIn recordsIn
   records-say =
-      and-both (every (getD m 3 0) (recordHolds (ownEntries c) r (getD m 0 0) (getD m 1 0))) (every (getD m 3 0) (unlike r))
-      (every-holds (getD m 3 0) (recordHolds (ownEntries c) r (getD m 0 0) (getD m 1 0))
-      (λ i h. let b : i < 128 = omega (arith, few) in and-both _ _ (notice-say i b (o .record-sound i h)) (diff-say i b (o .record-sound i h))))
-      (every-holds (getD m 3 0) (unlike r)
+      and-both (every (standingCount m) (recordHolds (ownEntries c) r (processorCount m) (pageCount m))) (every (standingCount m) (unlike r))
+      (every-holds (standingCount m) (recordHolds (ownEntries c) r (processorCount m) (pageCount m))
+      (λ i h. let b : i < recordLimit = omega (arith, few) in and-both _ _ (notice-say i b (o .record-sound i h)) (diff-say i b (o .record-sound i h))))
+      (every-holds (standingCount m) (unlike r)
       (λ i h. every-holds i (differ r i)
       (λ j l. sym (same-notice-read c w r m i j (omega (arith, few)) (omega (arith, few))) ∙ ap not (o .distinct i j h l))))
 
   -- ---- all
 
-  counts-say : countsHold (getD m 0 0) (getD m 1 0) (getD m 2 0) (getD m 3 0) ≡ true
+  counts-say : countsHold (processorCount m) (pageCount m) (lockCount m) (standingCount m) ≡ true
   unfolding countsHold stateIn mainframe
   counts-say =
       rw (le-leb _ _ (o .some-processor), le-leb _ _ (o .processors-fit), le-leb _ _ (o .some-page), le-leb _ _ (o .pages-fit), le-leb _ _ (o .some-lock), le-leb _ _ (o .locks-fit)) (le-leb _ _ few)

@@ -3,9 +3,9 @@ use Prim.Native.Nat.{ℕ}
 use mathlib.Core.Path.{_≡_, sym, ap, _∙_}
 use mathlib.Core.Bool.{Bool, true, _&&_}
 use mathlib.Core.List.{List}
-use lib.ListN.{getD}
 use lib.Dec.{leb}
 use borrow.Author.Tests.{le-leb}
+use Rattle.limits.specs.Limits.{lockLimit, pageLimit, processorLimit}
 use Rattle.rules.specs.InOrder.{inRange, countsInRange, absentZero, inOrder}
 use Rattle.rules.specs.State.{mainframe, standing}
 use Rattle.rules.specs.Tables.{every}
@@ -14,8 +14,9 @@ use Rattle.rules.proofs.Everywhere.{and-left, and-right, and-both, Given, conjo
 use Rattle.rules.proofs.Facts.{Sized}
 use Rattle.rules.proofs.InOrderSays.{in-order-says}
 use Rattle.rules.proofs.InOrderWhen.{sized-when}
-use Rattle.memory.specs.Areas.{stateIn}
+use Rattle.memory.specs.Areas.{stateIn, standingCount}
 use Rattle.memory.specs.Needed.{Lent}
+use Rattle.memory.specs.Marks.{lockCount, pageCount, processorCount}
 use Rattle.memory.proofs.Encoding.{lent-sized, lent-right}
 use Rattle.marktests.specs.Tests.{dirtyHold, holdersHold, arrivedHold, roomHolds, marksHoldWith}
 use Rattle.recordtests.specs.Tests.{recordsHoldWith}
@@ -32,8 +33,8 @@ use Rattle.checking.proofs.RecordConditions.{records-sound-when}
 -- the tests on the four areas pass
 record AreasPass (c w r m : List ℕ) (processors pages locks standing : ℕ) : Type 0 where
   pub clocks : ClocksPass c processors pages locks
-  pub copies : every 8 (copiesHold w processors pages) ≡ true
-  pub dirty : every 8 (dirtyHold (ownEntries c) m processors pages) ≡ true
+  pub copies : every processorLimit (copiesHold w processors pages) ≡ true
+  pub dirty : every processorLimit (dirtyHold (ownEntries c) m processors pages) ≡ true
   pub holders : holdersHold m processors locks ≡ true
   pub arrived : arrivedHold m processors ≡ true
   pub room : roomHolds m processors pages standing ≡ true
@@ -44,8 +45,8 @@ areas-pass : (c w r m : List ℕ) (processors pages locks standing : ℕ) → ar
 unfolding areasHoldWith marksHoldWith
 areas-pass c w r m processors pages locks standing e =
     let clocks : Bool = clocksHoldWith (ownEntries c) c processors pages locks in
-    let copies : Bool = every 8 (copiesHold w processors pages) in
-    let dirty : Bool = every 8 (dirtyHold (ownEntries c) m processors pages) in
+    let copies : Bool = every processorLimit (copiesHold w processors pages) in
+    let dirty : Bool = every processorLimit (dirtyHold (ownEntries c) m processors pages) in
     let holders : Bool = holdersHold m processors locks in
     let arrived : Bool = arrivedHold m processors in
     let room : Bool = roomHolds m processors pages standing in
@@ -68,19 +69,19 @@ areas-pass c w r m processors pages locks standing e =
 
 module _ (c w r m : List ℕ) (lent : Lent c w r m) where
   -- counts that pass are in range
-  counts-when : countsHold (getD m 0 0) (getD m 1 0) (getD m 2 0) (getD m 3 0) ≡ true → countsInRange mainframe (held c w r m .counts) ≡ true
+  counts-when : countsHold (processorCount m) (pageCount m) (lockCount m) (standingCount m) ≡ true → countsInRange mainframe (held c w r m .counts) ≡ true
   unfolding countsTests Given inRange stateIn mainframe
   counts-when e =
-      let z = counts-in (getD m 0 0) (getD m 1 0) (getD m 2 0) (getD m 3 0) e in
+      let z = counts-in (processorCount m) (pageCount m) (lockCount m) (standingCount m) e in
       counts-tests mainframe (held c w r m .counts)
       ∙ conjoined-holds (countsTests mainframe (held c w r m .counts))
-      (and-both (leb 1 (getD m 0 0)) (leb (getD m 0 0) 8) (le-leb _ _ (z .some-processor)) (le-leb _ _ (z .processors-fit)))
-      (and-both (leb 1 (getD m 1 0)) (leb (getD m 1 0) 8) (le-leb _ _ (z .some-page)) (le-leb _ _ (z .pages-fit)))
-      (and-both (leb 1 (getD m 2 0)) (leb (getD m 2 0) 16) (le-leb _ _ (z .some-lock)) (le-leb _ _ (z .locks-fit)))
+      (and-both (leb 1 (processorCount m)) (leb (processorCount m) processorLimit) (le-leb _ _ (z .some-processor)) (le-leb _ _ (z .processors-fit)))
+      (and-both (leb 1 (pageCount m)) (leb (pageCount m) pageLimit) (le-leb _ _ (z .some-page)) (le-leb _ _ (z .pages-fit)))
+      (and-both (leb 1 (lockCount m)) (leb (lockCount m) lockLimit) (le-leb _ _ (z .some-lock)) (le-leb _ _ (z .locks-fit)))
 
   -- what is absent is 0
   absent-when : Sized mainframe (held c w r m)
-      → AreasPass c w r m (getD m 0 0) (getD m 1 0) (getD m 2 0) (getD m 3 0) → absentZero mainframe (held c w r m) ≡ true
+      → AreasPass c w r m (processorCount m) (pageCount m) (lockCount m) (standingCount m) → absentZero mainframe (held c w r m) ≡ true
   unfolding absentTests Given mainframe
   absent-when size z =
       absent-tests mainframe (held c w r m)
@@ -95,16 +96,16 @@ module _ (c w r m : List ℕ) (lent : Lent c w r m) where
   areas-when : areasHold c w r m ≡ true → inOrder mainframe (held c w r m) ≡ true
   unfolding areasHold orderTests Given
   areas-when e =
-      go (and-left counts (areasHoldWith (ownEntries c) c w r m (getD m 0 0) (getD m 1 0) (getD m 2 0) (getD m 3 0)) e)
-      (areas-pass c w r m (getD m 0 0) (getD m 1 0) (getD m 2 0) (getD m 3 0) (and-right counts _ e))
+      go (and-left counts (areasHoldWith (ownEntries c) c w r m (processorCount m) (pageCount m) (lockCount m) (standingCount m)) e)
+      (areas-pass c w r m (processorCount m) (pageCount m) (lockCount m) (standingCount m) (and-right counts _ e))
     where
       counts : Bool
-      counts = countsHold (getD m 0 0) (getD m 1 0) (getD m 2 0) (getD m 3 0)
+      counts = countsHold (processorCount m) (pageCount m) (lockCount m) (standingCount m)
 
-      go : countsHold (getD m 0 0) (getD m 1 0) (getD m 2 0) (getD m 3 0) ≡ true → AreasPass c w r m (getD m 0 0) (getD m 1 0) (getD m 2 0) (getD m 3 0)
+      go : countsHold (processorCount m) (pageCount m) (lockCount m) (standingCount m) ≡ true → AreasPass c w r m (processorCount m) (pageCount m) (lockCount m) (standingCount m)
           → inOrder mainframe (held c w r m) ≡ true
       go k z =
-          let fit = counts-fit (getD m 0 0) (getD m 1 0) (getD m 2 0) (getD m 3 0) k in
+          let fit = counts-fit (processorCount m) (pageCount m) (lockCount m) (standingCount m) k in
           let size = lent-sized c w r m lent (fit .standing-fit) in
           order-tests mainframe (held c w r m)
           ∙ conjoined-holds (orderTests mainframe (held c w r m))

@@ -8,6 +8,8 @@ use mathlib.Core.List.{List}
 use lib.ListN.{getD, List·getD-eq-default}
 use lib.Dec.{ltb, eqb}
 use borrow.Author.Tests.{ltb-false, leb-true, eqb-false, not-false, lt-ltb, le-ltb, le-leb, eq-eqb}
+use Rattle.limits.specs.Limits.{firstArrived, intervalLimit, lockLimit, pageLimit, pageWidth, processorLimit, recordLimit}
+use Rattle.limits.specs.Sizes.{firstDirty, firstHolder}
 use Rattle.clock.specs.Clocks.{zeros}
 use Rattle.rules.specs.InOrder.{present, everyProcessor, everyPage, presentHolder, allZero, dirtyPages, roomKept, dirtyHaveInterval, holdersPresent, someoneMissing}
 use Rattle.rules.specs.State.{mainframe, Lock, Applied, copyOf, dirtyAt, own, holder, hasArrived}
@@ -15,7 +17,8 @@ use Rattle.rules.specs.Tables.{every, any, total}
 use Rattle.rules.proofs.Everywhere.{and-left, and-right, and-both, or-when, every-processor-holds, every-page-holds, all-zero-holds}
 use Rattle.rules.proofs.Facts.{Sized}
 use Rattle.rules.proofs.Tables.{every-at, every-holds, Passes, any-at, any-holds}
-use Rattle.memory.specs.Areas.{recordsIn, stateIn}
+use Rattle.memory.specs.Areas.{recordsIn, stateIn, standingCount}
+use Rattle.memory.specs.Marks.{lockCount, pageCount, processorCount}
 use Rattle.marktests.specs.Tests.{zeroAt, pagesOf, mayBeDirty, dirtyHold, holderWithin, holdersHold, arrivedHold, dirtyOf, roomHolds}
 use Rattle.checking.specs.Tests.{ownEntries, copiesHold}
 use Rattle.checking.proofs.PlaceFacts.{copies-zero-at, marks-zero-at}
@@ -26,20 +29,20 @@ module _ (c w r m : List ℕ) (size : Sized mainframe (held c w r m)) where
   -- ---- copies
 
   -- words of absent pages are 0
-  pub absent-copies : every 8 (copiesHold w (getD m 0 0) (getD m 1 0)) ≡ true
+  pub absent-copies : every processorLimit (copiesHold w (processorCount m) (pageCount m)) ≡ true
       → everyPage mainframe (λ (p g : ℕ). presentHolder (held c w r m) (Applied p g) || allZero (copyOf (held c w r m .pages) p g)) ≡ true
   unfolding mainframe copiesHold
   absent-copies e = every-page-holds mainframe _ (λ p g k l n. or-when (presentHolder (held c w r m) (Applied p g)) _ (λ a. all-zero-holds _ (λ i. zeros p g i k l n a)))
     where
-      zeros : (p g i : ℕ) → 1 ≤ p → p ≤ 8 → g < 8 → presentHolder (held c w r m) (Applied p g) ≡ false → getD (copyOf (held c w r m .pages) p g) i 0 ≡ 0
+      zeros : (p g i : ℕ) → 1 ≤ p → p ≤ processorLimit → g < pageLimit → presentHolder (held c w r m) (Applied p g) ≡ false → getD (copyOf (held c w r m .pages) p g) i 0 ≡ 0
       zeros zero g i k l n a = absurd (omega arith)
-      zeros (suc p) g i k l n a = go (decLt i 32)
+      zeros (suc p) g i k l n a = go (decLt i pageWidth)
         where
-          go : Dec (i < 32) → getD (copyOf (held c w r m .pages) (suc p) g) i 0 ≡ 0
+          go : Dec (i < pageWidth) → getD (copyOf (held c w r m .pages) (suc p) g) i 0 ≡ 0
           go (yes b) =
               word-read c w r m p g i l n b
-              ∙ copies-zero-at w p (pagesOf (getD m 0 0) (getD m 1 0) p) g i (every-at 8 (copiesHold w (getD m 0 0) (getD m 1 0)) p e l)
-              (ltb-false g (pagesOf (getD m 0 0) (getD m 1 0) p) (sym (page-present-read c w r m p g) ∙ a)) n b
+              ∙ copies-zero-at w p (pagesOf (processorCount m) (pageCount m) p) g i (every-at processorLimit (copiesHold w (processorCount m) (pageCount m)) p e l)
+              (ltb-false g (pagesOf (processorCount m) (pageCount m) p) (sym (page-present-read c w r m p g) ∙ a)) n b
           go (no b) = List·getD-eq-default (copyOf (held c w r m .pages) (suc p) g) 0 (omega (arith, size .copy (suc p) g k l n))
 
 -- ---- dirty marks
@@ -47,35 +50,35 @@ module _ (c w r m : List ℕ) (size : Sized mainframe (held c w r m)) where
 -- no absent page may be dirty
 may-be-dirty-few : (own : List ℕ) (processors pages k : ℕ) → mayBeDirty own processors pages k ≤ pagesOf processors pages k
 unfolding mayBeDirty
-may-be-dirty-few own processors pages k = go (ltb (getD own k 0) 63)
+may-be-dirty-few own processors pages k = go (ltb (getD own k 0) intervalLimit)
   where
     go : (b : Bool) → cond b (pagesOf processors pages k) 0 ≤ pagesOf processors pages k
     go true = omega arith
     go false = omega arith
 
 -- nor a page of a processor with own entry 63
-may-be-dirty-none : (own : List ℕ) (processors pages k : ℕ) → 63 ≤ getD own k 0 → mayBeDirty own processors pages k ≡ 0
+may-be-dirty-none : (own : List ℕ) (processors pages k : ℕ) → intervalLimit ≤ getD own k 0 → mayBeDirty own processors pages k ≡ 0
 unfolding mayBeDirty
-may-be-dirty-none own processors pages k h = rw (le-ltb (getD own k 0) 63 h)
+may-be-dirty-none own processors pages k h = rw (le-ltb (getD own k 0) intervalLimit h)
 
-module _ (c w r m : List ℕ) (e : every 8 (dirtyHold (ownEntries c) m (getD m 0 0) (getD m 1 0)) ≡ true) where
-  clean : (k g : ℕ) → k < 8 → g < 8 → mayBeDirty (ownEntries c) (getD m 0 0) (getD m 1 0) k ≤ g → dirtyAt (held c w r m .pages) (suc k) g ≡ false
+module _ (c w r m : List ℕ) (e : every processorLimit (dirtyHold (ownEntries c) m (processorCount m) (pageCount m)) ≡ true) where
+  clean : (k g : ℕ) → k < processorLimit → g < pageLimit → mayBeDirty (ownEntries c) (processorCount m) (pageCount m) k ≤ g → dirtyAt (held c w r m .pages) (suc k) g ≡ false
   unfolding dirtyHold zeroAt
   clean k g a n h =
       dirty-mark-read c w r m k g a n
-      ∙ ap not (eq-eqb (getD m (29 + 8 * k + g) 0) 0
-      (marks-zero-at m (29 + 8 * k) 8 (mayBeDirty (ownEntries c) (getD m 0 0) (getD m 1 0) k) g (every-at 8 (dirtyHold (ownEntries c) m (getD m 0 0) (getD m 1 0)) k e a) h n))
+      ∙ ap not (eq-eqb (getD m (firstDirty + pageLimit * k + g) 0) 0
+      (marks-zero-at m (firstDirty + pageLimit * k) pageLimit (mayBeDirty (ownEntries c) (processorCount m) (pageCount m) k) g (every-at processorLimit (dirtyHold (ownEntries c) m (processorCount m) (pageCount m)) k e a) h n))
 
   -- absent pages are clean
   pub absent-clean : everyPage mainframe (λ (p g : ℕ). presentHolder (held c w r m) (Applied p g) || not (dirtyAt (held c w r m .pages) p g)) ≡ true
   unfolding mainframe
   absent-clean = every-page-holds mainframe _ (λ p g k l n. or-when (presentHolder (held c w r m) (Applied p g)) _ (λ a. ap not (absent p g k l n a)))
     where
-      absent : (p g : ℕ) → 1 ≤ p → p ≤ 8 → g < 8 → presentHolder (held c w r m) (Applied p g) ≡ false → dirtyAt (held c w r m .pages) p g ≡ false
+      absent : (p g : ℕ) → 1 ≤ p → p ≤ processorLimit → g < pageLimit → presentHolder (held c w r m) (Applied p g) ≡ false → dirtyAt (held c w r m .pages) p g ≡ false
       absent zero g k l n a = absurd (omega arith)
       absent (suc p) g k l n a =
           clean p g l n
-          (omega (arith, ltb-false g (pagesOf (getD m 0 0) (getD m 1 0) p) (sym (page-present-read c w r m p g) ∙ a), may-be-dirty-few (ownEntries c) (getD m 0 0) (getD m 1 0) p))
+          (omega (arith, ltb-false g (pagesOf (processorCount m) (pageCount m) p) (sym (page-present-read c w r m p g) ∙ a), may-be-dirty-few (ownEntries c) (processorCount m) (pageCount m) p))
 
   -- a processor with a dirty page has an interval left
   pub dirty-have-interval-when : dirtyHaveInterval mainframe (held c w r m) ≡ true
@@ -84,77 +87,77 @@ module _ (c w r m : List ℕ) (e : every 8 (dirtyHold (ownEntries c) m (getD m 0
       every-page-holds mainframe _
       (λ p g k l n. or-when (not (dirtyAt (held c w r m .pages) p g)) _ (λ a. interval p g k l n (not-false (dirtyAt (held c w r m .pages) p g) a)))
     where
-      interval : (p g : ℕ) → 1 ≤ p → p ≤ 8 → g < 8 → dirtyAt (held c w r m .pages) p g ≡ true → ltb (own (held c w r m) p) 63 ≡ true
+      interval : (p g : ℕ) → 1 ≤ p → p ≤ processorLimit → g < pageLimit → dirtyAt (held c w r m .pages) p g ≡ true → ltb (own (held c w r m) p) intervalLimit ≡ true
       interval zero g k l n d = absurd (omega arith)
-      interval (suc p) g k l n d = go (decLt (own (held c w r m) (suc p)) 63)
+      interval (suc p) g k l n d = go (decLt (own (held c w r m) (suc p)) intervalLimit)
         where
-          go : Dec (own (held c w r m) (suc p) < 63) → ltb (own (held c w r m) (suc p)) 63 ≡ true
+          go : Dec (own (held c w r m) (suc p) < intervalLimit) → ltb (own (held c w r m) (suc p)) intervalLimit ≡ true
           go (yes b) = lt-ltb _ _ b
           go (no b) =
-              let full : 63 ≤ getD (ownEntries c) p 0 = omega (arith, own-read c w r m p l) in
-              absurd (false≢true (sym (clean p g l n (omega (arith, may-be-dirty-none (ownEntries c) (getD m 0 0) (getD m 1 0) p full))) ∙ d))
+              let full : intervalLimit ≤ getD (ownEntries c) p 0 = omega (arith, own-read c w r m p l) in
+              absurd (false≢true (sym (clean p g l n (omega (arith, may-be-dirty-none (ownEntries c) (processorCount m) (pageCount m) p full))) ∙ d))
 
 -- ---- holders
 
-module _ (c w r m : List ℕ) (e : holdersHold m (getD m 0 0) (getD m 2 0) ≡ true) where
-  free : (l : ℕ) → l < 16 → getD m 2 0 ≤ l → holder (held c w r m) l ≡ 0
+module _ (c w r m : List ℕ) (e : holdersHold m (processorCount m) (lockCount m) ≡ true) where
+  free : (l : ℕ) → l < lockLimit → lockCount m ≤ l → holder (held c w r m) l ≡ 0
   unfolding holdersHold
-  free l n h = holder-mark-read c w r m l n ∙ marks-zero-at m 13 16 (getD m 2 0) l (and-right (every (getD m 2 0) (holderWithin m (getD m 0 0))) _ e) h n
+  free l n h = holder-mark-read c w r m l n ∙ marks-zero-at m firstHolder lockLimit (lockCount m) l (and-right (every (lockCount m) (holderWithin m (processorCount m))) _ e) h n
 
-  below : (l : ℕ) → l < 16 → holder (held c w r m) l ≤ getD m 0 0
+  below : (l : ℕ) → l < lockLimit → holder (held c w r m) l ≤ processorCount m
   unfolding holdersHold holderWithin
-  below l n = go (decLt l (getD m 2 0))
+  below l n = go (decLt l (lockCount m))
     where
-      go : Dec (l < getD m 2 0) → holder (held c w r m) l ≤ getD m 0 0
+      go : Dec (l < lockCount m) → holder (held c w r m) l ≤ processorCount m
       go (yes h) =
-          let most : getD m (13 + l) 0 ≤ getD m 0 0 = leb-true _ _ (every-at (getD m 2 0) (holderWithin m (getD m 0 0)) l (and-left _ (every (16 - getD m 2 0) (zeroAt m (13 + getD m 2 0))) e) h) in
+          let most : getD m (firstHolder + l) 0 ≤ processorCount m = leb-true _ _ (every-at (lockCount m) (holderWithin m (processorCount m)) l (and-left _ (every (lockLimit - lockCount m) (zeroAt m (firstHolder + lockCount m))) e) h) in
           omega (arith, holder-mark-read c w r m l n)
       go (no h) = omega (arith, free l n (omega arith))
 
   -- absent locks are not held
-  pub absent-not-held : every 16 (λ (l : ℕ). presentHolder (held c w r m) (Lock l) || eqb (holder (held c w r m) l) 0) ≡ true
+  pub absent-not-held : every lockLimit (λ (l : ℕ). presentHolder (held c w r m) (Lock l) || eqb (holder (held c w r m) l) 0) ≡ true
   absent-not-held =
-      every-holds 16 _
-      (λ l n. or-when (presentHolder (held c w r m) (Lock l)) _ (λ a. eq-eqb _ _ (free l n (ltb-false l (getD m 2 0) (sym (lock-present-read c w r m l) ∙ a)))))
+      every-holds lockLimit _
+      (λ l n. or-when (presentHolder (held c w r m) (Lock l)) _ (λ a. eq-eqb _ _ (free l n (ltb-false l (lockCount m) (sym (lock-present-read c w r m l) ∙ a)))))
 
   -- holders are present processors or 0
   pub holders-present-when : holdersPresent mainframe (held c w r m) ≡ true
   unfolding holdersPresent mainframe present stateIn
-  holders-present-when = every-holds 16 _ (λ l n. or-when (eqb (holder (held c w r m) l) 0) _ (λ a. there l n (eqb-false (holder (held c w r m) l) 0 a)))
+  holders-present-when = every-holds lockLimit _ (λ l n. or-when (eqb (holder (held c w r m) l) 0) _ (λ a. there l n (eqb-false (holder (held c w r m) l) 0 a)))
     where
-      there : (l : ℕ) → l < 16 → (holder (held c w r m) l ≡ 0 → ⊥) → present (held c w r m) (holder (held c w r m) l) ≡ true
+      there : (l : ℕ) → l < lockLimit → (holder (held c w r m) l ≡ 0 → ⊥) → present (held c w r m) (holder (held c w r m) l) ≡ true
       there l n h = and-both _ _ (le-leb 1 (holder (held c w r m) l) (omega arith)) (le-leb _ _ (below l n))
 
 -- ---- arrived marks
 
-module _ (c w r m : List ℕ) (e : arrivedHold m (getD m 0 0) ≡ true) where
+module _ (c w r m : List ℕ) (e : arrivedHold m (processorCount m) ≡ true) where
   -- absent processors have not arrived
   pub absent-not-arrived : everyProcessor mainframe (λ (p : ℕ). present (held c w r m) p || not (hasArrived (held c w r m) p)) ≡ true
   unfolding mainframe arrivedHold zeroAt
   absent-not-arrived = every-processor-holds mainframe _ (λ p k l. or-when (present (held c w r m) p) _ (λ a. ap not (absent p k l a)))
     where
-      absent : (p : ℕ) → 1 ≤ p → p ≤ 8 → present (held c w r m) p ≡ false → hasArrived (held c w r m) p ≡ false
+      absent : (p : ℕ) → 1 ≤ p → p ≤ processorLimit → present (held c w r m) p ≡ false → hasArrived (held c w r m) p ≡ false
       absent zero k l a = absurd (omega arith)
       absent (suc p) k l a =
           arrived-mark-read c w r m p l
-          ∙ ap not (eq-eqb (getD m (5 + p) 0) 0
-          (marks-zero-at m 5 8 (getD m 0 0) p (and-left _ (any (getD m 0 0) (zeroAt m 5)) e) (ltb-false p (getD m 0 0) (sym (present-read c w r m p) ∙ a)) l))
+          ∙ ap not (eq-eqb (getD m (firstArrived + p) 0) 0
+          (marks-zero-at m firstArrived processorLimit (processorCount m) p (and-left _ (any (processorCount m) (zeroAt m firstArrived)) e) (ltb-false p (processorCount m) (sym (present-read c w r m p) ∙ a)) l))
 
   -- not all processors have arrived
-  pub someone-missing-when : getD m 0 0 ≤ 8 → someoneMissing (held c w r m) ≡ true
+  pub someone-missing-when : processorCount m ≤ processorLimit → someoneMissing (held c w r m) ≡ true
   unfolding someoneMissing arrivedHold stateIn
-  someone-missing-when fit = go (any-at (getD m 0 0) (zeroAt m 5) (and-right (every (8 - getD m 0 0) (zeroAt m (5 + getD m 0 0))) _ e))
+  someone-missing-when fit = go (any-at (processorCount m) (zeroAt m firstArrived) (and-right (every (processorLimit - processorCount m) (zeroAt m (firstArrived + processorCount m))) _ e))
     where
-      go : Passes (getD m 0 0) (zeroAt m 5) → any (getD m 0 0) (λ (k : ℕ). not (hasArrived (held c w r m) (suc k))) ≡ true
+      go : Passes (processorCount m) (zeroAt m firstArrived) → any (processorCount m) (λ (k : ℕ). not (hasArrived (held c w r m) (suc k))) ≡ true
       go x =
-          any-holds (getD m 0 0) (λ (k : ℕ). not (hasArrived (held c w r m) (suc k))) (x .at) (x .below)
+          any-holds (processorCount m) (λ (k : ℕ). not (hasArrived (held c w r m) (suc k))) (x .at) (x .below)
           (ap not (arrived-mark-read c w r m (x .at) (omega (arith, x .below)) ∙ ap not (x .passes)))
 
 -- ---- room
 
 -- records plus dirty pages are at most 128
-pub room-kept-when : (c w r m : List ℕ) → getD m 0 0 ≤ 8 → getD m 1 0 ≤ 8 → roomHolds m (getD m 0 0) (getD m 1 0) (getD m 3 0) ≡ true → roomKept mainframe (held c w r m) ≡ true
+pub room-kept-when : (c w r m : List ℕ) → processorCount m ≤ processorLimit → pageCount m ≤ pageLimit → roomHolds m (processorCount m) (pageCount m) (standingCount m) ≡ true → roomKept mainframe (held c w r m) ≡ true
 unfolding roomKept roomHolds stateIn recordsIn mainframe
 room-kept-when c w r m a b e =
-    let most : getD m 3 0 + total (getD m 0 0) (dirtyOf m (getD m 1 0)) ≤ 128 = leb-true _ _ e in
-    le-leb (getD m 3 0 + dirtyPages (held c w r m)) 128 (omega (arith, dirty-pages-read c w r m a b))
+    let most : standingCount m + total (processorCount m) (dirtyOf m (pageCount m)) ≤ recordLimit = leb-true _ _ e in
+    le-leb (standingCount m + dirtyPages (held c w r m)) recordLimit (omega (arith, dirty-pages-read c w r m a b))

@@ -1,5 +1,5 @@
 -- The tests on the places of the areas as facts about each row and each place, both ways. Assumes nothing.
-use Prim.Native.Nat.{ℕ, zero, suc, _+_, _-_, _*_, _/_, _%_, _≤_, _<_}
+use Prim.Native.Nat.{ℕ, suc, _+_, _-_, _*_, _/_, _%_, _≤_, _<_}
 use native.Mathlib.Omega.{arith}
 use native.Mathlib.Decide.{decLt}
 use mathlib.Core.Path.{_≡_, refl, sym, ap, _∙_}
@@ -7,10 +7,13 @@ use mathlib.Core.Bool.{Bool, true, false}
 use mathlib.Core.List.{List}
 use lib.ListN.{getD}
 use borrow.Author.Tests.{leb-true, eqb-true, le-leb, eq-eqb}
+use Rattle.limits.specs.Limits.{pageLimit, pageWidth, processorLimit}
+use Rattle.limits.specs.Sizes.{clockWidth, ownStep}
 use Rattle.clock.specs.Clocks.{zeros}
 use Rattle.rules.specs.Tables.{every}
 use Rattle.rules.proofs.Everywhere.{and-left, and-right, and-both}
 use Rattle.rules.proofs.Tables.{every-at, every-holds}
+use Rattle.memory.proofs.RowLaws.{get-tabulate}
 use Rattle.marktests.specs.Tests.{zeroAt}
 use Rattle.checking.specs.Tests.{entryWithin, rowWithin, rowsHold, ownEntries}
 
@@ -29,64 +32,64 @@ zeros-hold l at n f = every-holds n (zeroAt l at) (λ i h. eq-eqb _ _ (f i h))
 -- ---- rows of clocks
 
 -- a row that is there does not exceed the other clock
-pub rows-within-at : (most c : List ℕ) (first n there i q : ℕ) → rowsHold most c first n there ≡ true → i < there → q < 8
-    → getD c (8 * (first + i) + q) 0 ≤ getD most q 0
+pub rows-within-at : (most c : List ℕ) (first n there i q : ℕ) → rowsHold most c first n there ≡ true → i < there → q < processorLimit
+    → getD c (clockWidth * (first + i) + q) 0 ≤ getD most q 0
 unfolding rowsHold rowWithin entryWithin
 rows-within-at most c first n there i q e h b =
-    leb-true _ _ (every-at 8 (entryWithin most c (8 * (first + i))) q (every-at there (rowWithin most c first) i (and-left _ (every (8 * (n - there)) (zeroAt c (8 * (first + there)))) e) h) b)
+    leb-true _ _ (every-at processorLimit (entryWithin most c (clockWidth * (first + i))) q (every-at there (rowWithin most c first) i (and-left _ (every (clockWidth * (n - there)) (zeroAt c (clockWidth * (first + there)))) e) h) b)
 
 -- an absent row is zeros
-pub rows-zero-at : (most c : List ℕ) (first n there i q : ℕ) → rowsHold most c first n there ≡ true → there ≤ i → i < n → q < 8
-    → getD c (8 * (first + i) + q) 0 ≡ 0
+pub rows-zero-at : (most c : List ℕ) (first n there i q : ℕ) → rowsHold most c first n there ≡ true → there ≤ i → i < n → q < processorLimit
+    → getD c (clockWidth * (first + i) + q) 0 ≡ 0
 unfolding rowsHold
 rows-zero-at most c first n there i q e h k b =
-    let place : 8 * (first + i) + q ≡ 8 * (first + there) + (8 * (i - there) + q) = omega arith in
+    let place : clockWidth * (first + i) + q ≡ clockWidth * (first + there) + (clockWidth * (i - there) + q) = omega arith in
     ap (λ (j : ℕ). getD c j 0) place
-    ∙ zero-at c (8 * (first + there)) (8 * (n - there)) (8 * (i - there) + q) (and-right (every there (rowWithin most c first)) _ e) (omega arith)
+    ∙ zero-at c (clockWidth * (first + there)) (clockWidth * (n - there)) (clockWidth * (i - there) + q) (and-right (every there (rowWithin most c first)) _ e) (omega arith)
 
 -- so no row exceeds the other clock
-pub rows-known : (most c : List ℕ) (first n there i q : ℕ) → rowsHold most c first n there ≡ true → i < n → q < 8
-    → getD c (8 * (first + i) + q) 0 ≤ getD most q 0
+pub rows-known : (most c : List ℕ) (first n there i q : ℕ) → rowsHold most c first n there ≡ true → i < n → q < processorLimit
+    → getD c (clockWidth * (first + i) + q) 0 ≤ getD most q 0
 rows-known most c first n there i q e k b = go (decLt i there)
   where
-    go : Dec (i < there) → getD c (8 * (first + i) + q) 0 ≤ getD most q 0
+    go : Dec (i < there) → getD c (clockWidth * (first + i) + q) 0 ≤ getD most q 0
     go (yes h) = rows-within-at most c first n there i q e h b
     go (no h) = omega (arith, rows-zero-at most c first n there i q e (omega arith) k b)
 
 -- rows of which both holds
 pub rows-hold-when : (most c : List ℕ) (first n there : ℕ)
-    → ((i q : ℕ) → i < there → q < 8 → getD c (8 * (first + i) + q) 0 ≤ getD most q 0)
-    → ((i q : ℕ) → there ≤ i → i < n → q < 8 → getD c (8 * (first + i) + q) 0 ≡ 0)
+    → ((i q : ℕ) → i < there → q < processorLimit → getD c (clockWidth * (first + i) + q) 0 ≤ getD most q 0)
+    → ((i q : ℕ) → there ≤ i → i < n → q < processorLimit → getD c (clockWidth * (first + i) + q) 0 ≡ 0)
     → rowsHold most c first n there ≡ true
 unfolding rowsHold rowWithin entryWithin
 rows-hold-when most c first n there within zeros =
-    and-both (every there (rowWithin most c first)) (every (8 * (n - there)) (zeroAt c (8 * (first + there))))
-    (every-holds there (rowWithin most c first) (λ i h. every-holds 8 (entryWithin most c (8 * (first + i))) (λ q b. le-leb _ _ (within i q h b))))
-    (zeros-hold c (8 * (first + there)) (8 * (n - there)) at)
+    and-both (every there (rowWithin most c first)) (every (clockWidth * (n - there)) (zeroAt c (clockWidth * (first + there))))
+    (every-holds there (rowWithin most c first) (λ i h. every-holds processorLimit (entryWithin most c (clockWidth * (first + i))) (λ q b. le-leb _ _ (within i q h b))))
+    (zeros-hold c (clockWidth * (first + there)) (clockWidth * (n - there)) at)
   where
-    at : (j : ℕ) → j < 8 * (n - there) → getD c (8 * (first + there) + j) 0 ≡ 0
+    at : (j : ℕ) → j < clockWidth * (n - there) → getD c (clockWidth * (first + there) + j) 0 ≡ 0
     at j h =
-        let place : 8 * (first + there) + j ≡ 8 * (first + (there + j / 8)) + j % 8 = omega arith in
-        ap (λ (k : ℕ). getD c k 0) place ∙ zeros (there + j / 8) (j % 8) (omega arith) (omega arith) (omega arith)
+        let place : clockWidth * (first + there) + j ≡ clockWidth * (first + (there + j / clockWidth)) + j % clockWidth = omega arith in
+        ap (λ (k : ℕ). getD c k 0) place ∙ zeros (there + j / clockWidth) (j % clockWidth) (omega arith) (omega arith) (omega arith)
 
 -- ---- pages of words
 
 -- the words of absent pages are 0
-pub copies-zero-at : (w : List ℕ) (k there g o : ℕ) → every (32 * (8 - there)) (zeroAt w (32 * (8 * k + there))) ≡ true → there ≤ g → g < 8 → o < 32
-    → getD w (32 * (8 * k + g) + o) 0 ≡ 0
+pub copies-zero-at : (w : List ℕ) (k there g o : ℕ) → every (pageWidth * (pageLimit - there)) (zeroAt w (pageWidth * (pageLimit * k + there))) ≡ true → there ≤ g → g < pageLimit → o < pageWidth
+    → getD w (pageWidth * (pageLimit * k + g) + o) 0 ≡ 0
 copies-zero-at w k there g o e h b d =
-    let place : 32 * (8 * k + g) + o ≡ 32 * (8 * k + there) + (32 * (g - there) + o) = omega arith in
-    ap (λ (j : ℕ). getD w j 0) place ∙ zero-at w (32 * (8 * k + there)) (32 * (8 - there)) (32 * (g - there) + o) e (omega arith)
+    let place : pageWidth * (pageLimit * k + g) + o ≡ pageWidth * (pageLimit * k + there) + (pageWidth * (g - there) + o) = omega arith in
+    ap (λ (j : ℕ). getD w j 0) place ∙ zero-at w (pageWidth * (pageLimit * k + there)) (pageWidth * (pageLimit - there)) (pageWidth * (g - there) + o) e (omega arith)
 
 -- and where they are, the test passes
-pub copies-zero-when : (w : List ℕ) (k there : ℕ) → ((g o : ℕ) → there ≤ g → g < 8 → o < 32 → getD w (32 * (8 * k + g) + o) 0 ≡ 0)
-    → every (32 * (8 - there)) (zeroAt w (32 * (8 * k + there))) ≡ true
-copies-zero-when w k there zeros = zeros-hold w (32 * (8 * k + there)) (32 * (8 - there)) at
+pub copies-zero-when : (w : List ℕ) (k there : ℕ) → ((g o : ℕ) → there ≤ g → g < pageLimit → o < pageWidth → getD w (pageWidth * (pageLimit * k + g) + o) 0 ≡ 0)
+    → every (pageWidth * (pageLimit - there)) (zeroAt w (pageWidth * (pageLimit * k + there))) ≡ true
+copies-zero-when w k there zeros = zeros-hold w (pageWidth * (pageLimit * k + there)) (pageWidth * (pageLimit - there)) at
   where
-    at : (j : ℕ) → j < 32 * (8 - there) → getD w (32 * (8 * k + there) + j) 0 ≡ 0
+    at : (j : ℕ) → j < pageWidth * (pageLimit - there) → getD w (pageWidth * (pageLimit * k + there) + j) 0 ≡ 0
     at j h =
-        let place : 32 * (8 * k + there) + j ≡ 32 * (8 * k + (there + j / 32)) + j % 32 = omega arith in
-        ap (λ (i : ℕ). getD w i 0) place ∙ zeros (there + j / 32) (j % 32) (omega arith) (omega arith) (omega arith)
+        let place : pageWidth * (pageLimit * k + there) + j ≡ pageWidth * (pageLimit * k + (there + j / pageWidth)) + j % pageWidth = omega arith in
+        ap (λ (i : ℕ). getD w i 0) place ∙ zeros (there + j / pageWidth) (j % pageWidth) (omega arith) (omega arith) (omega arith)
 
 -- ---- marks
 
@@ -108,17 +111,11 @@ marks-zero-when m at n there zeros = zeros-hold m (at + there) (n - there) each
 -- ---- the own entries
 
 -- where a processor's own entry stands
-pub own-entry : (c : List ℕ) (k : ℕ) → k < 8 → getD (ownEntries c) k 0 ≡ getD c (8 * suc k + k) 0
+pub own-entry : (c : List ℕ) (k : ℕ) → k < processorLimit → getD (ownEntries c) k 0 ≡ getD c (clockWidth * suc k + k) 0
 unfolding ownEntries
-own-entry c zero h = refl
-own-entry c (suc zero) h = refl
-own-entry c (suc (suc zero)) h = refl
-own-entry c (suc (suc (suc zero))) h = refl
-own-entry c (suc (suc (suc (suc zero)))) h = refl
-own-entry c (suc (suc (suc (suc (suc zero))))) h = refl
-own-entry c (suc (suc (suc (suc (suc (suc zero)))))) h = refl
-own-entry c (suc (suc (suc (suc (suc (suc (suc zero))))))) h = refl
-own-entry c (suc (suc (suc (suc (suc (suc (suc (suc k)))))))) h = absurd (omega arith)
+own-entry c k h =
+    get-tabulate processorLimit (λ j. getD c (clockWidth + ownStep * j) 0) k 0 h
+    ∙ ap (λ (i : ℕ). getD c i 0) (omega arith)
 
 -- ---- two truth values
 

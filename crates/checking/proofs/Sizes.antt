@@ -6,6 +6,7 @@ use mathlib.Core.Bool.{Bool, true, false, _&&_}
 use mathlib.Core.List.{List}
 use lib.ListN.{length}
 use borrow.Author.Needs.{needs}
+use Rattle.limits.specs.Sizes.{clockArea, markArea, recordArea, wordArea}
 use Rattle.rules.specs.InOrder.{inOrder}
 use Rattle.rules.specs.State.{mainframe}
 use Rattle.memory.specs.Areas.{stateIn, sizesRight}
@@ -25,26 +26,26 @@ wrong-size c w r m h = go (sizesRight mainframe c w r m) refl
 
 module _ (c w r m : List ℕ) where
   -- clocks of another size
-  pub clocks-of-other-size : (length c ≡ 4744 → ⊥) → false ≡ areasInOrder c w r m
+  pub clocks-of-other-size : (length c ≡ clockArea → ⊥) → false ≡ areasInOrder c w r m
   clocks-of-other-size h = wrong-size c w r m (λ p. h (p .clocks))
 
   -- words
-  pub words-of-other-size : (length w ≡ 4096 → ⊥) → false ≡ areasInOrder c w r m
+  pub words-of-other-size : (length w ≡ wordArea → ⊥) → false ≡ areasInOrder c w r m
   words-of-other-size h = wrong-size c w r m (λ p. h (p .words))
 
-  pub records-of-other-size : (length r ≡ 17280 → ⊥) → false ≡ areasInOrder c w r m
+  pub records-of-other-size : (length r ≡ recordArea → ⊥) → false ≡ areasInOrder c w r m
   records-of-other-size h = wrong-size c w r m (λ p. h (p .records))
 
   -- marks
-  pub marks-of-other-size : (length m ≡ 93 → ⊥) → false ≡ areasInOrder c w r m
+  pub marks-of-other-size : (length m ≡ markArea → ⊥) → false ≡ areasInOrder c w r m
   marks-of-other-size h = wrong-size c w r m (λ p. h (p .marks))
 
   -- all four of the fixed sizes
-  pub fixed-sizes : length c ≡ 4744 → length w ≡ 4096 → length r ≡ 17280 → length m ≡ 93 → Lent c w r m
+  pub fixed-sizes : length c ≡ clockArea → length w ≡ wordArea → length r ≡ recordArea → length m ≡ markArea → Lent c w r m
   fixed-sizes a b d e = record { clocks = a; words = b; records = d; marks = e }
 
   -- there the tests on places decide
-  pub places-decide : (t : Bool) → length c ≡ 4744 → length w ≡ 4096 → length r ≡ 17280 → length m ≡ 93 → t ≡ areasHold c w r m → t ≡ areasInOrder c w r m
+  pub places-decide : (t : Bool) → length c ≡ clockArea → length w ≡ wordArea → length r ≡ recordArea → length m ≡ markArea → t ≡ areasHold c w r m → t ≡ areasInOrder c w r m
   places-decide t a b d e h = h ∙ areas-hold-in-order c w r m (fixed-sizes a b d e)
 
 pub ruleset order-checked = (clocks-of-other-size, words-of-other-size, records-of-other-size, marks-of-other-size, fixed-sizes, places-decide, needs)

@@ -3,39 +3,41 @@ use Prim.Native.Nat.{ℕ, _+_, _*_, _≤_, _<_}
 use mathlib.Core.Path.{_≡_}
 use mathlib.Core.List.{List}
 use lib.ListN.{length}
+use Rattle.limits.specs.Limits.{lockLimit, pageLimit, processorLimit}
+use Rattle.limits.specs.Sizes.{clockArea, clockWidth, wordArea}
 use Rattle.memory.specs.Needed.{Lent}
 use Rattle.marktests.specs.Needed.{CountsFit}
 use Rattle.recordtests.specs.Needed.{OwnFit}
 
 -- n rows of clocks from a row on lie within the area, and the first `there` of them are among them
 pub record RowsThere (c : List ℕ) (first n there : ℕ) : Type 0 where
-  pub within : 8 * (first + n) ≤ length c
+  pub within : clockWidth * (first + n) ≤ length c
   pub among : there ≤ n
 
 -- the area of the clocks, and counts that fit
 pub record ClocksThere (c : List ℕ) (processors pages locks : ℕ) : Type 0 where
-  pub clocks : length c ≡ 4744
-  pub processors-fit : processors ≤ 8
-  pub pages-fit : pages ≤ 8
-  pub locks-fit : locks ≤ 16
+  pub clocks : length c ≡ clockArea
+  pub processors-fit : processors ≤ processorLimit
+  pub pages-fit : pages ≤ pageLimit
+  pub locks-fit : locks ≤ lockLimit
 
 -- the area of the clocks and one processor of eight
 pub record ClocksOne (c : List ℕ) (pages k : ℕ) : Type 0 where
-  pub clocks : length c ≡ 4744
-  pub pages-fit : pages ≤ 8
-  pub processor : k < 8
+  pub clocks : length c ≡ clockArea
+  pub pages-fit : pages ≤ pageLimit
+  pub processor : k < processorLimit
 
 -- the area of the clocks, the own entries and one processor of eight
 pub record IntervalsOne (own c : List ℕ) (k : ℕ) : Type 0 where
-  pub clocks : length c ≡ 4744
+  pub clocks : length c ≡ clockArea
   pub own-fit : OwnFit own
-  pub processor : k < 8
+  pub processor : k < processorLimit
 
 -- the area of the words and one processor of eight
 pub record WordsOne (w : List ℕ) (pages k : ℕ) : Type 0 where
-  pub words : length w ≡ 4096
-  pub pages-fit : pages ≤ 8
-  pub processor : k < 8
+  pub words : length w ≡ wordArea
+  pub pages-fit : pages ≤ pageLimit
+  pub processor : k < processorLimit
 
 -- the four areas, and counts that fit
 pub record AreasThere (c w r m : List ℕ) (processors pages locks standing : ℕ) : Type 0 where

@@ -3,11 +3,15 @@
 -- Assumes nothing.
 use Prim.Native.Nat.{ℕ, _+_, _-_, _*_}
 use mathlib.Core.Bool.{Bool, _&&_}
-use mathlib.Core.List.{List, [], _∷_}
+use mathlib.Core.List.{List}
 use lib.ListN.{getD}
 use lib.Dec.{leb}
+use Rattle.limits.specs.Limits.{intervalLimit, lockLimit, pageLimit, pageWidth, processorLimit, recordLimit}
+use Rattle.limits.specs.Sizes.{clockWidth, firstAppliedRow, firstIntervalRow, firstLockRow, ownStep}
 use Rattle.rules.specs.Tables.{every}
-use Rattle.memory.specs.Layout.{rowOf}
+use Rattle.memory.specs.Layout.{rowOf, tabulate}
+use Rattle.memory.specs.Marks.{lockCount, pageCount, processorCount}
+use Rattle.memory.specs.Areas.{standingCount}
 use Rattle.marktests.specs.Tests.{zeroAt, pagesOf, marksHoldWith}
 use Rattle.recordtests.specs.Tests.{ownFits, recordsHoldWith}
 
@@ -19,56 +23,56 @@ entryWithin most c at i = leb (getD c (at + i) 0) (getD most i 0)
 
 -- no entry of the i-th row from a row on exceeds that of another clock
 unfoldable pub rowWithin : List ℕ → List ℕ → ℕ → ℕ → Bool
-rowWithin most c first i = every 8 (entryWithin most c (8 * (first + i)))
+rowWithin most c first i = every processorLimit (entryWithin most c (clockWidth * (first + i)))
 
 -- of n rows the first `there` do not exceed another clock, and the others are zeros
 unfoldable pub rowsHold : List ℕ → List ℕ → ℕ → ℕ → ℕ → Bool
-rowsHold most c first n there = every there (rowWithin most c first) && every (8 * (n - there)) (zeroAt c (8 * (first + there)))
+rowsHold most c first n there = every there (rowWithin most c first) && every (clockWidth * (n - there)) (zeroAt c (clockWidth * (first + there)))
 
--- the own entries of the eight processors
+-- the own entries of the processors
 unfoldable pub ownEntries : List ℕ → List ℕ
-ownEntries c = getD c 8 0 ∷ getD c 17 0 ∷ getD c 26 0 ∷ getD c 35 0 ∷ getD c 44 0 ∷ getD c 53 0 ∷ getD c 62 0 ∷ getD c 71 0 ∷ []
+ownEntries c = tabulate processorLimit (λ k. getD c (clockWidth + ownStep * k) 0)
 
 -- the clocks applied to the pages of one processor do not exceed its clock, and those of absent pages are zeros
 unfoldable pub appliedHold : List ℕ → ℕ → ℕ → ℕ → Bool
-appliedHold c processors pages k = rowsHold (rowOf 8 c (k + 1)) c (25 + 8 * k) 8 (pagesOf processors pages k)
+appliedHold c processors pages k = rowsHold (rowOf clockWidth c (k + 1)) c (firstAppliedRow + pageLimit * k) pageLimit (pagesOf processors pages k)
 
 -- the clocks of the intervals of one processor do not exceed the own entries, and those of intervals not made are zeros
 unfoldable pub intervalsHold : List ℕ → List ℕ → ℕ → Bool
-intervalsHold own c k = rowsHold own c (89 + 63 * k) 63 (getD own k 0)
+intervalsHold own c k = rowsHold own c (firstIntervalRow + intervalLimit * k) intervalLimit (getD own k 0)
 
 -- all clocks: the barrier's and the processors', the locks', the applied ones, the intervals'
 unfoldable pub clocksHoldWith : List ℕ → List ℕ → ℕ → ℕ → ℕ → Bool
 clocksHoldWith own c processors pages locks =
-    every 8 (ownFits own)
-    && (rowsHold own c 0 9 (processors + 1)
-    && (rowsHold own c 9 16 locks
-    && (every 8 (appliedHold c processors pages)
-    && every 8 (intervalsHold own c))))
+    every processorLimit (ownFits own)
+    && (rowsHold own c 0 firstLockRow (processors + 1)
+    && (rowsHold own c firstLockRow lockLimit locks
+    && (every processorLimit (appliedHold c processors pages)
+    && every processorLimit (intervalsHold own c))))
 
 -- ---- words: the copies of absent pages are zeros
 
 -- of one processor
 unfoldable pub copiesHold : List ℕ → ℕ → ℕ → ℕ → Bool
-copiesHold w processors pages k = every (32 * (8 - pagesOf processors pages k)) (zeroAt w (32 * (8 * k + pagesOf processors pages k)))
+copiesHold w processors pages k = every (pageWidth * (pageLimit - pagesOf processors pages k)) (zeroAt w (pageWidth * (pageLimit * k + pagesOf processors pages k)))
 
 -- ---- all four areas
 
 -- counts in range; no more records than there are slots
 unfoldable pub countsHold : ℕ → ℕ → ℕ → ℕ → Bool
 countsHold processors pages locks standing =
-    leb 1 processors && (leb processors 8 && (leb 1 pages && (leb pages 8 && (leb 1 locks && (leb locks 16 && leb standing 128)))))
+    leb 1 processors && (leb processors processorLimit && (leb 1 pages && (leb pages pageLimit && (leb 1 locks && (leb locks lockLimit && leb standing recordLimit)))))
 
 -- the areas, with the own entries and the counts read from them
 unfoldable pub areasHoldWith : List ℕ → List ℕ → List ℕ → List ℕ → List ℕ → ℕ → ℕ → ℕ → ℕ → Bool
 areasHoldWith own c w r m processors pages locks standing =
     clocksHoldWith own c processors pages locks
-    && (every 8 (copiesHold w processors pages)
+    && (every processorLimit (copiesHold w processors pages)
     && (marksHoldWith own m processors pages locks standing
     && recordsHoldWith own r processors pages standing))
 
 -- all conditions but the sizes
 unfoldable pub areasHold : List ℕ → List ℕ → List ℕ → List ℕ → Bool
 areasHold c w r m =
-    countsHold (getD m 0 0) (getD m 1 0) (getD m 2 0) (getD m 3 0)
-    && areasHoldWith (ownEntries c) c w r m (getD m 0 0) (getD m 1 0) (getD m 2 0) (getD m 3 0)
+    countsHold (processorCount m) (pageCount m) (lockCount m) (standingCount m)
+    && areasHoldWith (ownEntries c) c w r m (processorCount m) (pageCount m) (lockCount m) (standingCount m)

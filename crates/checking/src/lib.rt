@@ -4,6 +4,8 @@
 ghost use mathlib.Core.Path.{_≡_};
 ghost use Prim.Native.Nat.{_*_, _<_, _≤_};
 ghost use lib.ListN.{length};
+ghost use Rattle.limits.specs.Limits.{pageLimit, processorLimit};
+ghost use Rattle.limits.specs.Sizes.{clockArea, clockWidth, wordArea};
 ghost use Rattle.rules.specs.Tables.{every};
 ghost use Rattle.memory.specs.Needed.{Lent};
 ghost use Rattle.marktests.specs.Tests.{zeroAt};
@@ -13,39 +15,60 @@ ghost use Rattle.recordtests.specs.Needed.{OwnFit};
 ghost use Rattle.checking.specs.Areas.{areasInOrder};
 ghost use Rattle.checking.specs.Tests.{entryWithin, rowWithin, rowsHold, ownEntries, appliedHold, intervalsHold, clocksHoldWith, copiesHold, countsHold, areasHoldWith, areasHold};
 ghost use Rattle.checking.specs.Needed.{RowsThere, ClocksThere, ClocksOne, IntervalsOne, WordsOne, AreasThere};
+use limits::CLOCK_AREA;
+use limits::CLOCK_WIDTH;
+use limits::FIRST_APPLIED_ROW;
+use limits::FIRST_INTERVAL_ROW;
+use limits::FIRST_LOCK_ROW;
+use limits::INTERVAL_LIMIT;
+use limits::LAST_INTERVAL;
+use limits::LOCK_LIMIT;
+use limits::MARK_AREA;
+use limits::OWN_STEP;
+use limits::PAGE_LIMIT;
+use limits::PAGE_WIDTH;
+use limits::PROCESSOR_LIMIT;
+use limits::RECORD_AREA;
+use limits::RECORD_LIMIT;
+use limits::WORD_AREA;
 use marktests::marks_hold;
 use marktests::pages_of;
 use marktests::zeros_at;
 use memory::clock_at;
+use memory::marks::lock_count;
+use memory::marks::page_count;
+use memory::marks::processor_count;
+use memory::marks::standing_count;
+use memory::wide;
 use recordtests::records_hold;
 
 // Whether lent memory is in order: its areas have the fixed sizes, and the state that they hold is in order.
 pub fn in_order(clocks: &[u8], words: &[u32], records: &[u8], marks: &[u8]) -> bool
     ensures { λ r. ⌜ r ≡ areasInOrder (now (clocks .entry)) (now (words .entry)) (now (records .entry)) (now (marks .entry)) ⌝ }
 {
-    if clocks.len() != 4744 {
+    if clocks.len() != CLOCK_AREA {
         return false;
     }
-    if words.len() != 4096 {
+    if words.len() != WORD_AREA {
         return false;
     }
-    if records.len() != 17280 {
+    if records.len() != RECORD_AREA {
         return false;
     }
-    if marks.len() != 93 {
+    if marks.len() != MARK_AREA {
         return false;
     }
     areas_hold(clocks, words, records, marks)
 }
 
 // Whether no entry of the row of clocks at a place exceeds that of another clock. It looks at all eight, which is faster than to stop early.
-fn row_within(clocks: &[u8], most: [u8; 8], at: usize) -> bool
-    requires { ⌜ PlacesThere (now clocks) at 8 ⌝ }
-    ensures { λ r. ⌜ r ≡ every 8 (entryWithin most (now (clocks .entry)) at) ⌝ }
+fn row_within(clocks: &[u8], most: [u8; CLOCK_WIDTH], at: usize) -> bool
+    requires { ⌜ PlacesThere (now clocks) at clockWidth ⌝ }
+    ensures { λ r. ⌜ r ≡ every processorLimit (entryWithin most (now (clocks .entry)) at) ⌝ }
 {
     let mut all = true;
     let mut i: usize = 0;
-    while i < 8 {
+    while i < CLOCK_WIDTH {
         if most[i] < clocks[at + i] {
             all = false;
             i = i + 1;
@@ -57,13 +80,13 @@ fn row_within(clocks: &[u8], most: [u8; 8], at: usize) -> bool
 }
 
 // Whether no entry of n rows of clocks from a row on exceeds that of another clock.
-fn rows_within(clocks: &[u8], most: [u8; 8], first: usize, n: usize) -> bool
-    requires { ⌜ PlacesThere (now clocks) (8 * first) (8 * n) ⌝ }
+fn rows_within(clocks: &[u8], most: [u8; CLOCK_WIDTH], first: usize, n: usize) -> bool
+    requires { ⌜ PlacesThere (now clocks) (clockWidth * first) (clockWidth * n) ⌝ }
     ensures { λ r. ⌜ r ≡ every n (rowWithin most (now (clocks .entry)) first) ⌝ }
 {
     let mut i: usize = 0;
     while i < n {
-        if !row_within(clocks, most, 8 * (first + i)) {
+        if !row_within(clocks, most, CLOCK_WIDTH * (first + i)) {
             return false;
         }
         i = i + 1;
@@ -72,40 +95,41 @@ fn rows_within(clocks: &[u8], most: [u8; 8], first: usize, n: usize) -> bool
 }
 
 // Whether of n rows of clocks from a row on the first `there` do not exceed another clock, and the others are zeros.
-fn rows_hold(clocks: &[u8], most: [u8; 8], first: usize, n: usize, there: usize) -> bool
+fn rows_hold(clocks: &[u8], most: [u8; CLOCK_WIDTH], first: usize, n: usize, there: usize) -> bool
     requires { ⌜ RowsThere (now clocks) first n there ⌝ }
     ensures { λ r. ⌜ r ≡ rowsHold most (now (clocks .entry)) first n there ⌝ }
 {
     if !rows_within(clocks, most, first, there) {
         return false;
     }
-    zeros_at(clocks, 8 * (first + there), 8 * (n - there))
+    zeros_at(
+        clocks,
+        CLOCK_WIDTH * (first + there),
+        CLOCK_WIDTH * (n - there),
+    )
 }
 
-// The own entries of the eight processors.
-fn own_entries(clocks: &[u8]) -> [u8; 8]
-    requires { ⌜ length (now clocks) ≡ 4744 ⌝ }
+// The own entries of the processors: each a row and a place behind the one before.
+fn own_entries(clocks: &[u8]) -> [u8; CLOCK_WIDTH]
+    requires { ⌜ length (now clocks) ≡ clockArea ⌝ }
     ensures { λ r. ⌜ r ≡ ownEntries (now (clocks .entry)) ⌝ }
 {
-    [
-        clocks[8],
-        clocks[17],
-        clocks[26],
-        clocks[35],
-        clocks[44],
-        clocks[53],
-        clocks[62],
-        clocks[71],
-    ]
+    let mut own = [0; CLOCK_WIDTH];
+    let mut k: usize = 0;
+    while k < PROCESSOR_LIMIT {
+        own[k] = clocks[CLOCK_WIDTH + OWN_STEP * k];
+        k = k + 1;
+    }
+    own
 }
 
 // Whether each own entry is at most 63.
-fn own_fit(own: [u8; 8]) -> bool
-    ensures { λ r. ⌜ r ≡ every 8 (ownFits own) ⌝ }
+fn own_fit(own: [u8; CLOCK_WIDTH]) -> bool
+    ensures { λ r. ⌜ r ≡ every processorLimit (ownFits own) ⌝ }
 {
     let mut k: usize = 0;
-    while k < 8 {
-        if 63 < own[k] {
+    while k < PROCESSOR_LIMIT {
+        if LAST_INTERVAL < own[k] {
             return false;
         }
         k = k + 1;
@@ -121,16 +145,22 @@ fn applied_of(clocks: &[u8], processors: usize, pages: usize, k: usize) -> bool
     let there = pages_of(processors, pages, k);
     let clock = clock_at(clocks, k + 1);
     let most = clock.entries;
-    rows_hold(clocks, most, 25 + 8 * k, 8, there)
+    rows_hold(
+        clocks,
+        most,
+        FIRST_APPLIED_ROW + PAGE_LIMIT * k,
+        PAGE_LIMIT,
+        there,
+    )
 }
 
 // Whether the clocks applied to the pages of every processor are.
 fn applied_hold(clocks: &[u8], processors: usize, pages: usize) -> bool
-    requires { ⌜ (length (now clocks) ≡ 4744) × (pages ≤ 8) ⌝ }
-    ensures { λ r. ⌜ r ≡ every 8 (appliedHold (now (clocks .entry)) processors pages) ⌝ }
+    requires { ⌜ (length (now clocks) ≡ clockArea) × (pages ≤ pageLimit) ⌝ }
+    ensures { λ r. ⌜ r ≡ every processorLimit (appliedHold (now (clocks .entry)) processors pages) ⌝ }
 {
     let mut k: usize = 0;
-    while k < 8 {
+    while k < PROCESSOR_LIMIT {
         if !applied_of(clocks, processors, pages, k) {
             return false;
         }
@@ -140,20 +170,26 @@ fn applied_hold(clocks: &[u8], processors: usize, pages: usize) -> bool
 }
 
 // Whether the clocks of the intervals of one processor are in order.
-fn intervals_of(clocks: &[u8], own: [u8; 8], k: usize) -> bool
+fn intervals_of(clocks: &[u8], own: [u8; CLOCK_WIDTH], k: usize) -> bool
     requires { ⌜ IntervalsOne own (now clocks) k ⌝ }
     ensures { λ r. ⌜ r ≡ intervalsHold own (now (clocks .entry)) k ⌝ }
 {
-    rows_hold(clocks, own, 89 + 63 * k, 63, wide(own[k]))
+    rows_hold(
+        clocks,
+        own,
+        FIRST_INTERVAL_ROW + INTERVAL_LIMIT * k,
+        INTERVAL_LIMIT,
+        wide(own[k]),
+    )
 }
 
 // Whether the clocks of the intervals of every processor are.
-fn intervals_hold(clocks: &[u8], own: [u8; 8]) -> bool
-    requires { ⌜ (length (now clocks) ≡ 4744) × OwnFit own ⌝ }
-    ensures { λ r. ⌜ r ≡ every 8 (intervalsHold own (now (clocks .entry))) ⌝ }
+fn intervals_hold(clocks: &[u8], own: [u8; CLOCK_WIDTH]) -> bool
+    requires { ⌜ (length (now clocks) ≡ clockArea) × OwnFit own ⌝ }
+    ensures { λ r. ⌜ r ≡ every processorLimit (intervalsHold own (now (clocks .entry))) ⌝ }
 {
     let mut k: usize = 0;
-    while k < 8 {
+    while k < PROCESSOR_LIMIT {
         if !intervals_of(clocks, own, k) {
             return false;
         }
@@ -163,17 +199,23 @@ fn intervals_hold(clocks: &[u8], own: [u8; 8]) -> bool
 }
 
 // Whether all clocks are in order.
-fn clocks_hold(clocks: &[u8], own: [u8; 8], processors: usize, pages: usize, locks: usize) -> bool
+fn clocks_hold(
+    clocks: &[u8],
+    own: [u8; CLOCK_WIDTH],
+    processors: usize,
+    pages: usize,
+    locks: usize,
+) -> bool
     requires { ⌜ ClocksThere (now clocks) processors pages locks ⌝ }
     ensures { λ r. ⌜ r ≡ clocksHoldWith own (now (clocks .entry)) processors pages locks ⌝ }
 {
     if !own_fit(own) {
         return false;
     }
-    if !rows_hold(clocks, own, 0, 9, processors + 1) {
+    if !rows_hold(clocks, own, 0, FIRST_LOCK_ROW, processors + 1) {
         return false;
     }
-    if !rows_hold(clocks, own, 9, 16, locks) {
+    if !rows_hold(clocks, own, FIRST_LOCK_ROW, LOCK_LIMIT, locks) {
         return false;
     }
     if !applied_hold(clocks, processors, pages) {
@@ -206,16 +248,20 @@ fn copies_of(words: &[u32], processors: usize, pages: usize, k: usize) -> bool
     ensures { λ r. ⌜ r ≡ copiesHold (now (words .entry)) processors pages k ⌝ }
 {
     let there = pages_of(processors, pages, k);
-    words_zero(words, 32 * (8 * k + there), 32 * (8 - there))
+    words_zero(
+        words,
+        PAGE_WIDTH * (PAGE_LIMIT * k + there),
+        PAGE_WIDTH * (PAGE_LIMIT - there),
+    )
 }
 
 // Whether the copies of all absent pages are.
 fn copies_hold(words: &[u32], processors: usize, pages: usize) -> bool
-    requires { ⌜ (length (now words) ≡ 4096) × (pages ≤ 8) ⌝ }
-    ensures { λ r. ⌜ r ≡ every 8 (copiesHold (now (words .entry)) processors pages) ⌝ }
+    requires { ⌜ (length (now words) ≡ wordArea) × (pages ≤ pageLimit) ⌝ }
+    ensures { λ r. ⌜ r ≡ every processorLimit (copiesHold (now (words .entry)) processors pages) ⌝ }
 {
     let mut k: usize = 0;
-    while k < 8 {
+    while k < PROCESSOR_LIMIT {
         if !copies_of(words, processors, pages, k) {
             return false;
         }
@@ -231,22 +277,22 @@ fn counts_hold(processors: usize, pages: usize, locks: usize, standing: usize) -
     if processors == 0 {
         return false;
     }
-    if 8 < processors {
+    if PROCESSOR_LIMIT < processors {
         return false;
     }
     if pages == 0 {
         return false;
     }
-    if 8 < pages {
+    if PAGE_LIMIT < pages {
         return false;
     }
     if locks == 0 {
         return false;
     }
-    if 16 < locks {
+    if LOCK_LIMIT < locks {
         return false;
     }
-    standing <= 128
+    standing <= RECORD_LIMIT
 }
 
 // Whether all four areas are in order, with the own entries and the counts that they hold.
@@ -255,7 +301,7 @@ fn all_hold(
     words: &[u32],
     records: &[u8],
     marks: &[u8],
-    own: [u8; 8],
+    own: [u8; CLOCK_WIDTH],
     processors: usize,
     pages: usize,
     locks: usize,
@@ -281,10 +327,10 @@ fn areas_hold(clocks: &[u8], words: &[u32], records: &[u8], marks: &[u8]) -> boo
     requires { ⌜ Lent (now clocks) (now words) (now records) (now marks) ⌝ }
     ensures { λ r. ⌜ r ≡ areasHold (now (clocks .entry)) (now (words .entry)) (now (records .entry)) (now (marks .entry)) ⌝ }
 {
-    let processors = wide(marks[0]);
-    let pages = wide(marks[1]);
-    let locks = wide(marks[2]);
-    let standing = wide(marks[3]);
+    let processors = processor_count(marks);
+    let pages = page_count(marks);
+    let locks = lock_count(marks);
+    let standing = standing_count(marks);
     if !counts_hold(processors, pages, locks, standing) {
         return false;
     }
@@ -299,10 +345,4 @@ fn areas_hold(clocks: &[u8], words: &[u32], records: &[u8], marks: &[u8]) -> boo
         locks,
         standing,
     )
-}
-
-fn wide(x: u8) -> usize
-    ensures { λ r. ⌜ (r ≡ x) × (r < 256) ⌝ }
-{
-    x as usize
 }

@@ -12,6 +12,7 @@ use mir.Syntax.{w8, w32}
 use mir.Val.{Fits}
 use borrow.Author.Tests.{le-leb}
 use borrow.Author.Needs.{needs}
+use Rattle.limits.specs.Sizes.{clockWidth}
 use Rattle.clock.specs.Clocks.{joined, covered, entryOf, sumOf}
 use Rattle.clock.proofs.Laws.{joined-entry, length-joined, covered→Covers}
 
@@ -90,7 +91,7 @@ pub sum-bound : (total x i : ℕ) → total ≤ 255 * i → Fits w8 x → total 
 sum-bound total x i h f = omega arith
 
 -- the total of at most eight bytes fits
-pub sum-fits : (total x i : ℕ) → total ≤ 255 * i → i < 8 → Fits w8 x → Fits w32 (total + x)
+pub sum-fits : (total x i : ℕ) → total ≤ 255 * i → i < clockWidth → Fits w8 x → Fits w32 (total + x)
 sum-fits total x i h l f = omega arith
 
 -- all entries are added

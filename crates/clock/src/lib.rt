@@ -3,6 +3,8 @@
 ghost use mathlib.Core.Path.{_≡_};
 ghost use Prim.Native.Nat.{max};
 ghost use Rattle.clock.specs.Clocks.{joined, covered, entryOf, sumOf};
+use limits::CLOCK_WIDTH;
+use limits::PROCESSOR_LIMIT;
 
 // A processor, 1 to 8; 0 is nobody. Document 01 calls a processor a card.
 pub struct ProcessorId(pub usize);
@@ -15,12 +17,14 @@ pub struct PageId(pub usize);
 
 // How many intervals of each processor are known: the entry of processor p is at place p - 1.
 pub struct Clock {
-    pub entries: [u8; 8],
+    pub entries: [u8; CLOCK_WIDTH],
 }
 
 impl Clock {
     // The clock that knows no interval.
-    pub const ZEROS: Clock = Clock { entries: [0; 8] };
+    pub const ZEROS: Clock = Clock {
+        entries: [0; CLOCK_WIDTH],
+    };
 
     // The larger entry at each place.
     pub fn join(self, other: Clock) -> Clock
@@ -30,7 +34,7 @@ impl Clock {
         let b = other.entries;
         let mut out = a;
         let mut i: usize = 0;
-        while i < 8 {
+        while i < CLOCK_WIDTH {
             out[i] = larger(a[i], b[i]);
             i = i + 1;
         }
@@ -44,7 +48,7 @@ impl Clock {
         let a = self.entries;
         let b = other.entries;
         let mut i: usize = 0;
-        while i < 8 {
+        while i < CLOCK_WIDTH {
             if a[i] < b[i] {
                 return false;
             }
@@ -62,7 +66,7 @@ impl Clock {
         if p == 0 {
             return 0;
         }
-        if 8 < p {
+        if PROCESSOR_LIMIT < p {
             return 0;
         }
         entries[p - 1]
@@ -75,7 +79,7 @@ impl Clock {
         let entries = self.entries;
         let mut total: u32 = 0;
         let mut i: usize = 0;
-        while i < 8 {
+        while i < CLOCK_WIDTH {
             total = total + entries[i] as u32;
             i = i + 1;
         }

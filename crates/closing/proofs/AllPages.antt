@@ -6,18 +6,20 @@ use native.Mathlib.Decide.{ℕ-discrete}
 use mathlib.Core.Path.{_≡_, refl, sym, ap, _∙_}
 use mathlib.Core.Bool.{Bool, true, false, cond, _||_}
 use mathlib.Core.List.{List}
-use lib.ListN.{length, getD}
+use lib.ListN.{length}
 use borrow.Author.Tests.{le-leb}
 use borrow.Author.Needs.{needs}
+use Rattle.limits.specs.Limits.{intervalLimit, pageLimit, processorLimit, recordLimit}
 use Rattle.rules.specs.Close.{changed, anyChanged, newRecord, recorded}
 use Rattle.rules.specs.InOrder.{present}
-use Rattle.rules.specs.State.{mainframe, appended, State, clock, own}
+use Rattle.rules.specs.State.{mainframe, appended, State, withRecords, clock, own}
 use Rattle.rules.specs.Tables.{any}
 use Rattle.rules.proofs.Facts.{InOrder}
 use Rattle.rules.proofs.Space.{closing-finds-room}
-use Rattle.memory.specs.Areas.{recordsIn, stateIn}
+use Rattle.memory.specs.Areas.{recordsIn, stateIn, standingCount}
 use Rattle.memory.specs.Needed.{Holds}
-use Rattle.closing.specs.Parts.{withRecords, pageRecorded, allRecorded, PageChanged, AnyChanged}
+use Rattle.memory.specs.Marks.{pageCount}
+use Rattle.closing.specs.Parts.{pageRecorded, allRecorded, PageChanged, AnyChanged}
 use Rattle.closing.specs.Needed.{Closable, Recordable}
 
 -- ---- every closing finds room
@@ -43,7 +45,7 @@ module _ (s : State) (p : ℕ) where
       go (yes e) k = rw e (omega arith)
       go (no e) k = omega (arith, k (omega arith), standing-next n)
 
-  slot-left : InOrder mainframe s → 1 ≤ p → p ≤ s .counts .processors → (g : ℕ) → g < s .counts .pages → changed s p g ≡ true → recorded s p g .standing < 128
+  slot-left : InOrder mainframe s → 1 ≤ p → p ≤ s .counts .processors → (g : ℕ) → g < s .counts .pages → changed s p g ≡ true → recorded s p g .standing < recordLimit
   unfolding present mainframe
   slot-left f from to g h e =
       let here : present s p ≡ true = rw (le-leb 1 p from, le-leb p (s .counts .processors) to) in
@@ -54,7 +56,7 @@ module _ (s : State) (p : ℕ) where
 -- the areas hold the state with the records of the pages below g, and b says whether one of them changed
 pub record RecordingPages (c w r₀ m₀ r m : List ℕ) (p n g : ℕ) (b : Bool) : Type 0 where
   pub closable : Closable c w r₀ m₀ p
-  pub pages : n ≡ getD m₀ 1 0
+  pub pages : n ≡ pageCount m₀
   pub upto : g ≤ n
   pub holds : Holds c w r m (withRecords (stateIn mainframe c w r₀ m₀) (recorded (stateIn mainframe c w r₀ m₀) p g))
   pub found : b ≡ any g (changed (stateIn mainframe c w r₀ m₀) p)
@@ -64,17 +66,17 @@ pub page-count-place : (c w r m : List ℕ) (p : ℕ) → Closable c w r m p →
 page-count-place c w r m p h = omega (arith, h .lent .marks)
 
 -- before the first page
-pub recording-begins : (c w r m : List ℕ) (p n : ℕ) → Closable c w r m p → n ≡ getD m 1 0 → RecordingPages c w r m r m p n 0 false
-unfolding recorded withRecords any
+pub recording-begins : (c w r m : List ℕ) (p n : ℕ) → Closable c w r m p → n ≡ pageCount m → RecordingPages c w r m r m p n 0 false
+unfolding recorded any
 recording-begins c w r m p n h e = record { closable = h; pages = e; upto = omega arith; holds = record { lent = h .lent; is = refl }; found = refl }
 
 module _ (c w r₀ m₀ r m : List ℕ) (p n g : ℕ) (a : Bool) (now : RecordingPages c w r₀ m₀ r m p n g a) where
   same-changed : changed (stateIn mainframe c w r m) p g ≡ changed (stateIn mainframe c w r₀ m₀) p g
-  unfolding changed withRecords
+  unfolding changed
   same-changed = ap (λ (s : State). changed s p g) (now .holds .is)
 
-  standing-now : getD m 3 0 ≡ recorded (stateIn mainframe c w r₀ m₀) p g .standing
-  unfolding stateIn recordsIn withRecords
+  standing-now : standingCount m ≡ recorded (stateIn mainframe c w r₀ m₀) p g .standing
+  unfolding stateIn recordsIn
   standing-now = ap (λ (s : State). s .records .standing) (now .holds .is)
 
   -- the next page can be recorded
@@ -92,13 +94,13 @@ module _ (c w r₀ m₀ r m : List ℕ) (p n g : ℕ) (a : Bool) (now : Recordin
             omega (arith, standing-now, left);
       }
     where
-      few-processors : InOrder mainframe (stateIn mainframe c w r₀ m₀) → stateIn mainframe c w r₀ m₀ .counts .processors ≤ 8
+      few-processors : InOrder mainframe (stateIn mainframe c w r₀ m₀) → stateIn mainframe c w r₀ m₀ .counts .processors ≤ processorLimit
       few-processors f = unfold mainframe in f .processors-fit
 
-      few-pages : InOrder mainframe (stateIn mainframe c w r₀ m₀) → getD m₀ 1 0 ≤ 8
+      few-pages : InOrder mainframe (stateIn mainframe c w r₀ m₀) → pageCount m₀ ≤ pageLimit
       few-pages f = unfold mainframe stateIn in f .pages-fit
 
-      own-now : InOrder mainframe (stateIn mainframe c w r₀ m₀) → own (stateIn mainframe c w r m) p ≤ 63
+      own-now : InOrder mainframe (stateIn mainframe c w r₀ m₀) → own (stateIn mainframe c w r m) p ≤ intervalLimit
       own-now f = unfold mainframe own clock stateIn in f .own-fits p
 
       present-page : g < n → g < stateIn mainframe c w r₀ m₀ .counts .pages
@@ -106,7 +108,7 @@ module _ (c w r₀ m₀ r m : List ℕ) (p n g : ℕ) (a : Bool) (now : Recordin
 
   module _ (b : Bool) (said : PageChanged w m p g b) (r′ m′ : List ℕ) (after : Holds c w r′ m′ (pageRecorded (stateIn mainframe c w r m) p g)) where
     holds-after : Holds c w r′ m′ (withRecords (stateIn mainframe c w r₀ m₀) (recorded (stateIn mainframe c w r₀ m₀) p (g + 1)))
-    unfolding pageRecorded withRecords changed newRecord own clock recorded
+    unfolding pageRecorded changed newRecord own clock recorded
     holds-after = record { lent = after .lent; is = after .is ∙ ap (λ (s : State). pageRecorded s p g) (now .holds .is) ∙ rw (add-one g) }
 
     changed-is : b ≡ changed (stateIn mainframe c w r₀ m₀) p g

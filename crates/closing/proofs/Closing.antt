@@ -1,64 +1,37 @@
 -- The pages become clean, and the whole of closing. One law for each way of the code, and `close-laws`. Assumes nothing.
-use Prim.Native.Nat.{ℕ, _+_, _-_, _≤_, _<_}
+use Prim.Native.Nat.{ℕ, _-_, _≤_, _<_}
 use native.Mathlib.Omega.{arith}
 use mathlib.Core.Path.{_≡_, sym, ap, _∙_}
 use mathlib.Core.Bool.{Bool, true, false}
-use mathlib.Core.List.{List, _++_, append-assoc}
-use lib.ListN.{length, take, drop, length-drop, replicate, length-replicate}
-use lib.Seq.{length-take-le, drop-drop, sets, length-sets, sets-eq}
+use mathlib.Core.List.{List}
+use lib.ListN.{length, replicate}
+use lib.Seq.{sets, length-sets}
 use borrow.Author.Tests.{le-leb}
 use borrow.Author.Needs.{needs}
+use Rattle.limits.specs.Limits.{intervalLimit, pageLimit, processorLimit}
+use Rattle.limits.specs.Sizes.{markArea}
 use Rattle.rules.specs.Close.{anyChanged, ticked, cleaned, closed}
 use Rattle.rules.specs.InOrder.{present}
-use Rattle.rules.specs.State.{mainframe, State, clock, own}
+use Rattle.rules.specs.State.{mainframe, State, withClocks, withPages, clock, own}
 use Rattle.rules.proofs.Facts.{InOrder}
 use Rattle.rules.proofs.Space.{closing-finds-room}
 use Rattle.memory.specs.Areas.{dirtyPlace, stateIn}
-use Rattle.memory.specs.Needed.{OnPage, Holds}
+use Rattle.memory.specs.Needed.{MarksOf, Holds}
 use Rattle.memory.proofs.MarkLaws.{dirty-marks-cleared}
-use Rattle.closing.specs.Parts.{withClocks, withRecords, allRecorded, AnyChanged, Ticked}
-use Rattle.closing.specs.Needed.{Closable, Tickable, MarksOf}
-
--- ---- the dirty marks of a processor cleared
-
-module _ (m : List ℕ) (p : ℕ) (there : MarksOf m p) where
-  -- the first mark is there
-  pub clean-on-page : OnPage p 0
-  clean-on-page = record { from = there .from; to = there .to; page = omega arith }
-
-  -- the last mark is there
-  pub clean-end : (from : ℕ) → from ≡ dirtyPlace mainframe p 0 → from + 8 ≤ length m
-  unfolding dirtyPlace mainframe
-  clean-end from e = omega (arith, there .marks, there .from, there .to)
-
-  -- the part put back has the marks cleared
-  pub clean-marks : (from : ℕ) (part : List ℕ) → part ≡ replicate (length (take (from + 8 - from) (drop from m))) 0 → from ≡ dirtyPlace mainframe p 0
-      → take from m ++ (part ++ drop (from + 8 - from) (drop from m)) ≡ sets m (dirtyPlace mainframe p 0) (replicate 8 0)
-  clean-marks from part e at = rw (← at) (go 8 (clean-end from at) e)
-    where
-      go : (n : ℕ) → from + n ≤ length m → part ≡ replicate (length (take (from + n - from) (drop from m))) 0
-          → take from m ++ (part ++ drop (from + n - from) (drop from m)) ≡ sets m from (replicate n 0)
-      go n h e =
-          let k : from + n - from ≡ n = omega arith in
-          let long : length (take n (drop from m)) ≡ n = length-take-le n (drop from m) (omega (arith, length-drop from m)) in
-          let zeros : length (replicate {A = ℕ} n 0) ≡ n = length-replicate n 0 in
-          let is : part ≡ replicate n 0 = e ∙ rw (k, long) in
-          rw (k, is, drop-drop n from m)
-          (sym (append-assoc (take from m) (replicate n 0) (drop (from + n) m))
-          ∙ ap (λ (j : ℕ). take from m ++ replicate n 0 ++ drop (from + j) m) (sym zeros)
-          ∙ sym (sets-eq (replicate n 0) m from (omega (arith, zeros))))
+use Rattle.closing.specs.Parts.{allRecorded, AnyChanged, Ticked}
+use Rattle.closing.specs.Needed.{Closable, Tickable}
 
 -- ---- all of closing
 
 module _ (c w r m : List ℕ) (p : ℕ) (ready : Closable c w r m p) where
-  few-processors : InOrder mainframe (stateIn mainframe c w r m) → stateIn mainframe c w r m .counts .processors ≤ 8
+  few-processors : InOrder mainframe (stateIn mainframe c w r m) → stateIn mainframe c w r m .counts .processors ≤ processorLimit
   unfolding mainframe
   few-processors f = f .processors-fit
 
-  on-machine : p ≤ 8
+  on-machine : p ≤ processorLimit
   on-machine = omega (arith, ready .to, few-processors (ready .in-order))
 
-  own-left : anyChanged (stateIn mainframe c w r m) p ≡ true → own (stateIn mainframe c w r m) p < 63
+  own-left : anyChanged (stateIn mainframe c w r m) p ≡ true → own (stateIn mainframe c w r m) p < intervalLimit
   unfolding present mainframe
   own-left e =
       let here : present (stateIn mainframe c w r m) p ≡ true = rw (le-leb 1 p (ready .from), le-leb p (stateIn mainframe c w r m .counts .processors) (ready .to)) in
@@ -77,14 +50,13 @@ module _ (c w r m : List ℕ) (p : ℕ) (ready : Closable c w r m p) where
     pub close-marks : MarksOf m′ p
     close-marks = record { marks = recorded-all .lent .marks; from = ready .from; to = on-machine }
 
-    module _ (m″ : List ℕ) (cleared : m″ ≡ sets m′ (dirtyPlace mainframe p 0) (replicate 8 0)) where
-      marks-long : length m″ ≡ 93
-      marks-long = ap length cleared ∙ length-sets m′ (dirtyPlace mainframe p 0) (replicate 8 0) ∙ recorded-all .lent .marks
+    module _ (m″ : List ℕ) (cleared : m″ ≡ sets m′ (dirtyPlace mainframe p 0) (replicate pageLimit 0)) where
+      marks-long : length m″ ≡ markArea
+      marks-long = ap length cleared ∙ length-sets m′ (dirtyPlace mainframe p 0) (replicate pageLimit 0) ∙ recorded-all .lent .marks
 
       -- the state before the clock ticks
       abbrev clean : State → State
-      clean s =
-          record { counts = s .counts; clocks = s .clocks; pages = cleaned (s .pages) p; records = s .records; marks = s .marks }
+      clean s = withPages s (cleaned (s .pages) p)
 
       state-clean : stateIn mainframe c w r′ m″ ≡ clean (allRecorded (stateIn mainframe c w r m) p)
       state-clean =
@@ -95,7 +67,7 @@ module _ (c w r m : List ℕ) (p : ℕ) (ready : Closable c w r m p) where
       module _ (b : Bool) (said : AnyChanged (stateIn mainframe c w r m) p b) where
         -- records, clean pages and the clock of the interval are the closed state
         pub closed-changed : (c′ : List ℕ) → Ticked c c′ p → b ≡ true → Holds c′ w r′ m″ (closed (stateIn mainframe c w r m) p)
-        unfolding closed allRecorded withRecords withClocks ticked clock own
+        unfolding closed allRecorded ticked clock own
         closed-changed c′ t e =
             record {
               lent =
@@ -112,7 +84,7 @@ module _ (c w r m : List ℕ) (p : ℕ) (ready : Closable c w r m p) where
 
         -- without a changed page, records and clean pages are
         pub closed-unchanged : b ≡ false → Holds c w r′ m″ (closed (stateIn mainframe c w r m) p)
-        unfolding closed allRecorded withRecords
+        unfolding closed allRecorded
         closed-unchanged e =
             record {
               lent =
@@ -125,4 +97,4 @@ module _ (c w r m : List ℕ) (p : ℕ) (ready : Closable c w r m p) where
               is = state-clean ∙ rw (← said .is, e);
             }
 
-pub ruleset close-laws = (clean-on-page, clean-end, clean-marks, close-ticks, close-marks, closed-changed, closed-unchanged, needs)
+pub ruleset close-laws = (close-ticks, close-marks, closed-changed, closed-unchanged, needs)

@@ -11,17 +11,19 @@ use lib.Seq.{set-getD}
 use lib.Dec.{eqb}
 use borrow.Author.Tests.{eqb-true, not-false}
 use borrow.Author.Needs.{needs}
+use Rattle.limits.specs.Limits.{pageLimit}
+use Rattle.limits.specs.Sizes.{markArea}
 use Rattle.rules.specs.Close.{changed, anyChanged, ticked, recorded, cleaned, closed}
-use Rattle.rules.specs.State.{Limits, mainframe, dirtyAt, State}
+use Rattle.rules.specs.State.{Limits, mainframe, dirtyAt, State, withClocks, withPages, withRecords}
 use Rattle.rules.specs.Tables.{any}
 use Rattle.rules.proofs.Facts.{InOrder}
 use Rattle.rules.proofs.Tables.{any-holds, put-within}
 use Rattle.memory.specs.Areas.{dirtyPlace, pagesIn, stateIn}
 use Rattle.memory.proofs.PageLaws.{dirty-read}
-use Rattle.memory.specs.Needed.{Holds}
+use Rattle.memory.specs.Needed.{MarksOf, Holds}
+use Rattle.memory.proofs.MarkFunctions.{first-on-page, last-dirty-there}
 use Rattle.closing.specs.Parts.{AnyDirty}
-use Rattle.closing.specs.Needed.{Closable, MarksOf}
-use Rattle.closing.proofs.Closing.{clean-on-page, clean-end}
+use Rattle.closing.specs.Needed.{Closable}
 
 -- ---- the marks of a processor, one by one
 
@@ -33,34 +35,34 @@ any-same (suc n) t u h = ap₂ _||_ (any-same n t u (λ i k. h i (omega arith)))
 
 -- found: whether one of the first i marks is set
 pub record LookedAt (m : List ℕ) (from : ℕ) (found : Bool) (i : ℕ) : Type 0 where
-  pub marks : length m ≡ 93
-  pub room : from + 8 ≤ 93
-  pub upto : i ≤ 8
+  pub marks : length m ≡ markArea
+  pub room : from + pageLimit ≤ markArea
+  pub upto : i ≤ pageLimit
   pub same : found ≡ any i (λ k. not (eqb (getD m (from + k) 0) 0))
 
 -- before the first mark
 pub looked-begins : (m : List ℕ) (p from : ℕ) → MarksOf m p → from ≡ dirtyPlace mainframe p 0 → LookedAt m from false 0
 unfolding any
-looked-begins m p from h e = record { marks = h .marks; room = omega (arith, h .marks, clean-end m p h from e); upto = omega arith; same = refl }
+looked-begins m p from h e = record { marks = h .marks; room = omega (arith, h .marks, last-dirty-there m p h from e); upto = omega arith; same = refl }
 
 module _ (m : List ℕ) (from : ℕ) (found : Bool) (i : ℕ) (now : LookedAt m from found i) where
   -- the next mark is there
-  pub looked-place : i < 8 → from + i < length m
+  pub looked-place : i < pageLimit → from + i < length m
   looked-place more = omega (arith, now .marks, now .room)
 
   -- one more mark
-  pub looked-more : (b : Bool) → i < 8 → b ≡ (found || not (eqb (getD m (from + i) 0) 0)) → LookedAt m from b (i + 1)
+  pub looked-more : (b : Bool) → i < pageLimit → b ≡ (found || not (eqb (getD m (from + i) 0) 0)) → LookedAt m from b (i + 1)
   unfolding any
   looked-more b more e = record { marks = now .marks; room = now .room; upto = omega arith; same = e ∙ rw (add-one i, ← now .same) }
 
   -- all marks are seen
-  pub looked-ends : (p : ℕ) → MarksOf m p → from ≡ dirtyPlace mainframe p 0 → 8 ≤ i → AnyDirty m p found
+  pub looked-ends : (p : ℕ) → MarksOf m p → from ≡ dirtyPlace mainframe p 0 → pageLimit ≤ i → AnyDirty m p found
   unfolding dirtyAt stateIn dirtyPlace mainframe
   looked-ends p h e done =
-      let all : i ≡ 8 = omega (arith, now .upto) in
-      record { is = λ c w r. now .same ∙ ap (λ (k : ℕ). any k (λ g. not (eqb (getD m (from + g) 0) 0))) all ∙ any-same 8 _ _ (λ g k. at g k w) }
+      let all : i ≡ pageLimit = omega (arith, now .upto) in
+      record { is = λ c w r. now .same ∙ ap (λ (k : ℕ). any k (λ g. not (eqb (getD m (from + g) 0) 0))) all ∙ any-same pageLimit _ _ (λ g k. at g k w) }
     where
-      at : (g : ℕ) → g < 8 → (w : List ℕ) → not (eqb (getD m (from + g) 0) 0) ≡ dirtyAt (pagesIn mainframe w m) p g
+      at : (g : ℕ) → g < pageLimit → (w : List ℕ) → not (eqb (getD m (from + g) 0) 0) ≡ dirtyAt (pagesIn mainframe w m) p g
       at g k w =
           let place : from + g ≡ dirtyPlace mainframe p g = omega (arith, e) in
           ap (λ (x : ℕ). not (eqb x 0)) (ap (λ (x : ℕ). getD m x 0) place ∙ sym (dirty-read w m p g (h .from) (h .to) k))
@@ -113,13 +115,7 @@ module _ (s : State) (p : ℕ) where
         let present-clean : (g : ℕ) → g < s .counts .pages → dirtyAt (s .pages) p g ≡ false = λ g h. clean-at g (omega (arith, order .pages-fit)) in
         let unchanged = none-changed (s .counts .pages) present-clean in
         let unrecorded = none-recorded (s .counts .pages) present-clean in
-        λ i. record {
-          counts = s .counts;
-          clocks = cond (unchanged i) (ticked s p) (s .clocks);
-          pages = pages-kept i;
-          records = unrecorded i;
-          marks = s .marks;
-        }
+        λ i. withRecords (withClocks (withPages s (pages-kept i)) (cond (unchanged i) (ticked s p) (s .clocks))) (unrecorded i)
 
 -- ---- closing
 
@@ -137,4 +133,4 @@ module _ (c w r m : List ℕ) (p : ℕ) (ready : Closable c w r m p) where
   closed-already b said e =
       record { lent = ready .lent; is = sym (nothing-to-close (stateIn mainframe c w r m) p mainframe (ready .in-order) (ready .from) on-machine (sym (said .is c w r) ∙ e)) }
 
-pub ruleset dirty-laws = (clean-on-page, looked-begins, looked-place, looked-more, looked-ends, marks-there, closed-already, needs)
+pub ruleset dirty-laws = (first-on-page, looked-begins, looked-place, looked-more, looked-ends, marks-there, closed-already, needs)

@@ -11,14 +11,15 @@ use lib.Seq.{drop-cons}
 use lib.Dec.{eqb}
 use borrow.Author.Tests.{eq-eqb, ne-eqb}
 use borrow.Author.Needs.{needs}
+use Rattle.limits.specs.Limits.{pageWidth}
 use Rattle.writer.specs.Needed.{PagesWhole}
 use Rattle.rules.specs.Close.{differ}
 use Rattle.memory.specs.Layout.{rowOf}
 
 -- the part of 32 words is the row
-pub page-part : (w : List ℕ) (row : ℕ) → take (32 * row + 32 - 32 * row) (drop (32 * row) w) ≡ rowOf 32 w row
+pub page-part : (w : List ℕ) (row : ℕ) → take (pageWidth * row + pageWidth - pageWidth * row) (drop (pageWidth * row) w) ≡ rowOf pageWidth w row
 unfolding rowOf
-page-part w row = let e : 32 * row + 32 - 32 * row ≡ 32 = omega arith in rw e
+page-part w row = let e : pageWidth * row + pageWidth - pageWidth * row ≡ pageWidth = omega arith in rw e
 
 -- ---- whether any of the first i words differs, and then the others
 
@@ -40,9 +41,9 @@ module _ (before : Bool) (old new : ℕ) where
 
 -- found: whether one of the first i words differs
 pub record Differing (old new : List ℕ) (found : Bool) (i : ℕ) : Type 0 where
-  pub old-whole : length old ≡ 32
-  pub new-whole : length new ≡ 32
-  pub upto : i ≤ 32
+  pub old-whole : length old ≡ pageWidth
+  pub new-whole : length new ≡ pageWidth
+  pub upto : i ≤ pageWidth
   pub all : differ old new ≡ (found || differ (drop i old) (drop i new))
 
 -- before the first word
@@ -51,7 +52,7 @@ differing-begins old new p = record { old-whole = p .old-whole; new-whole = p .n
 
 module _ (old new : List ℕ) (found : Bool) (i : ℕ) where
   -- one more word
-  pub differing-more : (r : Bool) → Differing old new found i → i < 32 → r ≡ (found || not (eqb (getD old i 0) (getD new i 0))) → Differing old new r (i + 1)
+  pub differing-more : (r : Bool) → Differing old new found i → i < pageWidth → r ≡ (found || not (eqb (getD old i 0) (getD new i 0))) → Differing old new r (i + 1)
   unfolding differ
   differing-more r p more e =
       let ho : i < length old = omega (arith, p .old-whole) in
@@ -71,7 +72,7 @@ module _ (old new : List ℕ) (found : Bool) (i : ℕ) where
       go false b c = refl
 
   -- all words are seen
-  pub differing-ends : Differing old new found i → 32 ≤ i → found ≡ differ old new
+  pub differing-ends : Differing old new found i → pageWidth ≤ i → found ≡ differ old new
   unfolding differ
   differing-ends p done =
       let ho : length old ≤ i = omega (arith, p .old-whole) in

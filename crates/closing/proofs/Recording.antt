@@ -4,19 +4,22 @@ use native.Mathlib.Omega.{arith}
 use mathlib.Core.Path.{_≡_, sym, ap, _∙_}
 use mathlib.Core.Bool.{Bool, true, false, not, _&&_}
 use mathlib.Core.List.{List}
-use lib.ListN.{length, getD}
+use lib.ListN.{length}
 use lib.Dec.{eqb}
-use borrow.Author.Tests.{eq-eqb, ne-eqb}
+use borrow.Author.Tests.{not-true, not-false}
 use borrow.Author.Needs.{needs}
+use Rattle.limits.specs.Limits.{pageWidth}
+use Rattle.limits.specs.Sizes.{wordRowLimit}
 use Rattle.writer.specs.Needed.{PagesWhole}
 use Rattle.rules.specs.Close.{differ, changed}
 use Rattle.rules.specs.State.{mainframe, dirtyAt}
-use Rattle.memory.specs.Areas.{copyRow, twinRow, dirtyPlace, stateIn}
+use Rattle.memory.specs.Areas.{copyRow, twinRow, stateIn}
 use Rattle.memory.specs.Layout.{rowOf}
-use Rattle.memory.specs.Needed.{OnPage, Holds}
+use Rattle.memory.specs.Marks.{dirtyMark}
+use Rattle.memory.specs.Needed.{OnPage, PageMark, Holds}
 use Rattle.memory.proofs.PageLaws.{copy-read, twin-read, dirty-read}
 use Rattle.memory.proofs.RowLaws.{length-row}
-use Rattle.closing.specs.Parts.{withRecords, oneMore, pageRecorded, PageChanged}
+use Rattle.closing.specs.Parts.{oneMore, pageRecorded, PageChanged}
 use Rattle.closing.specs.Needed.{Recordable, Appendable, PageThere}
 use Rattle.closing.proofs.PageRecords.{words-row}
 
@@ -27,20 +30,20 @@ module _ (w m : List ℕ) (p g : ℕ) (there : PageThere w m p g) where
   pub changed-on-page : OnPage p g
   changed-on-page = record { from = there .from; to = there .to; page = there .page }
 
-  -- the mark lies within the area
-  pub changed-mark : (at : ℕ) → at < 93 → at < length m
-  changed-mark at h = omega (arith, there .marks)
+  -- its mark lies within the area
+  pub changed-mark : PageMark m p g
+  changed-mark = record { marks = there .marks; from = there .from; to = there .to; page = there .page }
 
   -- twin and copy are whole pages
-  pub changed-whole : (old new : List ℕ) (twin copy : ℕ) → old ≡ rowOf 32 w twin → new ≡ rowOf 32 w copy → twin < 128 → copy < 128 → PagesWhole old new
+  pub changed-whole : (old new : List ℕ) (twin copy : ℕ) → old ≡ rowOf pageWidth w twin → new ≡ rowOf pageWidth w copy → twin < wordRowLimit → copy < wordRowLimit → PagesWhole old new
   changed-whole old new twin copy eo en ht hc =
       record {
-        old-whole = ap length eo ∙ length-row 32 w twin (omega (arith, there .words));
-        new-whole = ap length en ∙ length-row 32 w copy (omega (arith, there .words));
+        old-whole = ap length eo ∙ length-row pageWidth w twin (omega (arith, there .words));
+        new-whole = ap length en ∙ length-row pageWidth w copy (omega (arith, there .words));
       }
 
   changed-reads : (c r : List ℕ) → changed (stateIn mainframe c w r m) p g
-      ≡ (not (eqb (getD m (dirtyPlace mainframe p g) 0) 0) && differ (rowOf 32 w (twinRow mainframe p g)) (rowOf 32 w (copyRow mainframe p g)))
+      ≡ (not (eqb (dirtyMark m p g) 0) && differ (rowOf pageWidth w (twinRow mainframe p g)) (rowOf pageWidth w (copyRow mainframe p g)))
   unfolding changed dirtyAt stateIn
   changed-reads c r =
       rw (
@@ -50,17 +53,13 @@ module _ (w m : List ℕ) (p g : ℕ) (there : PageThere w m p g) where
       )
 
   -- a page that is not dirty did not change
-  pub page-is-clean : (at : ℕ) → getD m at 0 ≡ 0 → at ≡ dirtyPlace mainframe p g → PageChanged w m p g false
-  page-is-clean at z e =
-      record { is = λ c r. sym (changed-reads c r ∙ rw (eq-eqb (getD m (dirtyPlace mainframe p g) 0) 0 (ap (λ (k : ℕ). getD m k 0) (sym e) ∙ z))) }
+  pub page-is-clean : (d : Bool) → d ≡ not (eqb (dirtyMark m p g) 0) → not d ≡ true → PageChanged w m p g false
+  page-is-clean d e z = record { is = λ c r. sym (changed-reads c r ∙ rw (← e, not-true d z)) }
 
   -- a dirty page changed if it differs from its twin
-  pub page-is-dirty : (b : Bool) (at twin copy : ℕ) (old new : List ℕ) → b ≡ differ old new → old ≡ rowOf 32 w twin → new ≡ rowOf 32 w copy
-      → twin ≡ twinRow mainframe p g → copy ≡ copyRow mainframe p g → (getD m at 0 ≡ 0 → ⊥) → at ≡ dirtyPlace mainframe p g → PageChanged w m p g b
-  page-is-dirty b at twin copy old new d eo en et ec z e =
-      let set-mark : not (eqb (getD m (dirtyPlace mainframe p g) 0) 0) ≡ true =
-      rw (ne-eqb (getD m (dirtyPlace mainframe p g) 0) 0 (λ k. z (ap (λ (j : ℕ). getD m j 0) e ∙ k))) in
-      record { is = λ c r. sym (changed-reads c r ∙ rw (set-mark, ← et, ← ec, ← eo, ← en, ← d)) }
+  pub page-is-dirty : (b d : Bool) (twin copy : ℕ) (old new : List ℕ) → b ≡ differ old new → old ≡ rowOf pageWidth w twin → new ≡ rowOf pageWidth w copy
+      → twin ≡ twinRow mainframe p g → copy ≡ copyRow mainframe p g → d ≡ not (eqb (dirtyMark m p g) 0) → not d ≡ false → PageChanged w m p g b
+  page-is-dirty b d twin copy old new same eo en et ec e z = record { is = λ c r. sym (changed-reads c r ∙ rw (← e, not-false d z, ← et, ← ec, ← eo, ← en, ← same)) }
 
 -- ---- the record of one page
 
@@ -89,7 +88,7 @@ module _ (c w r m : List ℕ) (p g : ℕ) (ready : Recordable c w r m p g) where
 
     -- a page that did not change is recorded by none
     pub page-left : b ≡ false → Holds c w r m (pageRecorded (stateIn mainframe c w r m) p g)
-    unfolding pageRecorded withRecords
+    unfolding pageRecorded
     page-left e = record { lent = ready .lent; is = rw (← said .is c r, e) }
 
 -- the answer where it changed

@@ -8,6 +8,8 @@ use lib.ListN.{length, take, drop, set, take-append-drop, length-drop, length-se
 use lib.Seq.{length-take-le, drop-append-le, set-comm, drop-drop, sets, length-sets, sets-eq}
 use borrow.Author.Tests.{le-ltb, eq-eqb}
 use borrow.Author.Needs.{needs}
+use Rattle.limits.specs.Limits.{pageWidth, slotHead}
+use Rattle.limits.specs.Sizes.{diffLimit, slotWidth}
 use Rattle.writer.specs.Answers.{writeRefusal, writeAnswer, outAfter}
 use Rattle.diff.specs.Format.{written}
 use Rattle.diff.proofs.Theorems.{at-most-131-bytes}
@@ -37,22 +39,22 @@ part-stored xs ys vs a k h l e =
 -- ---- the diff of two whole pages finds room
 
 module _ (old new out : List ℕ) (fits : DiffFits old new out) where
-  finds-room : writeRefusal 32 old new out ≡ 0
+  finds-room : writeRefusal pageWidth old new out ≡ 0
   unfolding writeRefusal
   finds-room =
       let few = at-most-131-bytes old new (fits .old-whole) (fits .new-whole) in
       rw (
-        eq-eqb (length old) 32 (fits .old-whole),
-        eq-eqb (length new) 32 (fits .new-whole),
+        eq-eqb (length old) pageWidth (fits .old-whole),
+        eq-eqb (length new) pageWidth (fits .new-whole),
         le-ltb (length out) (length (written old new)) (omega (arith, few, fits .room)),
       )
 
-  answered : writeAnswer 32 old new out ≡ Length (length (written old new))
+  answered : writeAnswer pageWidth old new out ≡ Length (length (written old new))
   unfolding writeAnswer
   answered = rw finds-room
 
   -- the diff is laid from the start on
-  pub diff-laid : (out′ : List ℕ) → out′ ≡ outAfter 32 old new out → out′ ≡ sets out 0 (written old new)
+  pub diff-laid : (out′ : List ℕ) → out′ ≡ outAfter pageWidth old new out → out′ ≡ sets out 0 (written old new)
   unfolding outAfter
   diff-laid out′ e = e ∙ rw finds-room
 
@@ -60,7 +62,7 @@ module _ (old new out : List ℕ) (fits : DiffFits old new out) where
   lengthIn (Length n) = n
   lengthIn (Refused n) = 300
 
-  module _ (a : Written) (is : a ≡ writeAnswer 32 old new out) where
+  module _ (a : Written) (is : a ≡ writeAnswer pageWidth old new out) where
     -- the length that is answered
     pub diff-length : (n : ℕ) → a ≡ Length n → n % 256 ≡ length (written old new)
     diff-length n e =
@@ -77,19 +79,19 @@ module _ (old new out : List ℕ) (fits : DiffFits old new out) where
 
 module _ (old new slot : List ℕ) (fits : SlotFits old new slot) where
   -- every diff has room behind the numbers
-  pub room-behind : DiffFits old new (take (135 - 4) (drop 4 slot))
+  pub room-behind : DiffFits old new (take (slotWidth - slotHead) (drop slotHead slot))
   room-behind =
       record {
         old-whole = fits .old-whole;
         new-whole = fits .new-whole;
-        room = omega (arith, length-take-le 131 (drop 4 slot) (omega (arith, length-drop 4 slot, fits .room)));
+        room = omega (arith, length-take-le diffLimit (drop slotHead slot) (omega (arith, length-drop slotHead slot, fits .room)));
       }
 
   -- the part put back has the diff behind the numbers
-  pub diff-behind : (part : List ℕ) → part ≡ sets (take (135 - 4) (drop 4 slot)) 0 (written old new)
-      → take 4 slot ++ (part ++ drop (135 - 4) (drop 4 slot)) ≡ sets slot 4 (written old new)
+  pub diff-behind : (part : List ℕ) → part ≡ sets (take (slotWidth - slotHead) (drop slotHead slot)) 0 (written old new)
+      → take slotHead slot ++ (part ++ drop (slotWidth - slotHead) (drop slotHead slot)) ≡ sets slot slotHead (written old new)
   diff-behind part e =
-      part-stored slot part (written old new) 4 131 (omega (arith, fits .room)) (at-most-131-bytes old new (fits .old-whole) (fits .new-whole)) e
+      part-stored slot part (written old new) slotHead diffLimit (omega (arith, fits .room)) (at-most-131-bytes old new (fits .old-whole) (fits .new-whole)) e
 
 -- ---- the numbers in front of it
 
@@ -105,19 +107,19 @@ module _ (p i g : ℕ) (old new slot : List ℕ) (fits : RecordFits p i g old ne
   slot-fits = record { old-whole = fits .old-whole; new-whole = fits .new-whole; room = fits .room }
 
   -- a place of the slot, after the diff was laid
-  pub slot-place : (out : List ℕ) (k : ℕ) → out ≡ sets slot 4 (written old new) → k < 135 → k < length out
-  slot-place out k e h = let l : length out ≡ length slot = ap length e ∙ length-sets slot 4 (written old new) in omega (arith, l, fits .room)
+  pub slot-place : (out : List ℕ) (k : ℕ) → out ≡ sets slot slotHead (written old new) → k < slotWidth → k < length out
+  slot-place out k e h = let l : length out ≡ length slot = ap length e ∙ length-sets slot slotHead (written old new) in omega (arith, l, fits .room)
 
   -- the same after two numbers
-  pub slot-place-2 : (out : List ℕ) (k a b : ℕ) → out ≡ sets slot 4 (written old new) → k < 135 → k < length (set (set out 0 a) 1 b)
+  pub slot-place-2 : (out : List ℕ) (k a b : ℕ) → out ≡ sets slot slotHead (written old new) → k < slotWidth → k < length (set (set out 0 a) 1 b)
   slot-place-2 out k a b e h = omega (arith, slot-place out k e h, length-set (set out 0 a) 1 b, length-set out 0 a)
 
   -- the same after three
-  pub slot-place-3 : (out : List ℕ) (k a b d : ℕ) → out ≡ sets slot 4 (written old new) → k < 135 → k < length (set (set (set out 0 a) 1 b) 2 d)
+  pub slot-place-3 : (out : List ℕ) (k a b d : ℕ) → out ≡ sets slot slotHead (written old new) → k < slotWidth → k < length (set (set (set out 0 a) 1 b) 2 d)
   slot-place-3 out k a b d e h = omega (arith, slot-place-2 out k a b e h, length-set (set (set out 0 a) 1 b) 2 d)
 
   -- numbers and diff together are the bytes of the record
-  pub slot-filled : (n : ℕ) (out : List ℕ) → n ≡ length (written old new) → out ≡ sets slot 4 (written old new)
+  pub slot-filled : (n : ℕ) (out : List ℕ) → n ≡ length (written old new) → out ≡ sets slot slotHead (written old new)
       → set (set (set (set out 0 (p % 256)) 1 (i % 256)) 2 (g % 256)) 3 n ≡ sets slot 0 (slotBytes (recordOf p i g old new))
   unfolding slotBytes recordOf
   slot-filled n out l e =
@@ -126,9 +128,9 @@ module _ (p i g : ℕ) (old new slot : List ℕ) (fits : RecordFits p i g old ne
       let interval : i % 256 ≡ i = omega (arith, fits .interval) in
       let page : g % 256 ≡ g = omega (arith, fits .page) in
       rw (e, processor, interval, page, l)
-      (ap (λ (x : List ℕ). set (set (set x 1 i) 2 g) 3 (length d)) (set-before d slot 4 0 p (omega arith))
-      ∙ ap (λ (x : List ℕ). set (set x 2 g) 3 (length d)) (set-before d (set slot 0 p) 4 1 i (omega arith))
-      ∙ ap (λ (x : List ℕ). set x 3 (length d)) (set-before d (set (set slot 0 p) 1 i) 4 2 g (omega arith))
-      ∙ set-before d (set (set (set slot 0 p) 1 i) 2 g) 4 3 (length d) (omega arith))
+      (ap (λ (x : List ℕ). set (set (set x 1 i) 2 g) 3 (length d)) (set-before d slot slotHead 0 p (omega arith))
+      ∙ ap (λ (x : List ℕ). set (set x 2 g) 3 (length d)) (set-before d (set slot 0 p) slotHead 1 i (omega arith))
+      ∙ ap (λ (x : List ℕ). set x 3 (length d)) (set-before d (set (set slot 0 p) 1 i) slotHead 2 g (omega arith))
+      ∙ set-before d (set (set (set slot 0 p) 1 i) 2 g) slotHead 3 (length d) (omega arith))
 
 pub ruleset slot-laws = (diff-laid, diff-length, never-refused, room-behind, diff-behind, slot-fits, slot-place, slot-place-2, slot-place-3, slot-filled, needs)

@@ -9,40 +9,42 @@ use lib.Seq.{sets, length-sets}
 use mir.Syntax.{w8}
 use mir.Val.{Fits}
 use borrow.Author.Needs.{needs}
+use Rattle.limits.specs.Limits.{intervalLimit, processorLimit}
+use Rattle.limits.specs.Sizes.{clockRowLimit, clockWidth}
 use Rattle.clock.specs.Clocks.{entryOf}
 use Rattle.rules.specs.Close.{raised, ticked}
-use Rattle.rules.specs.State.{mainframe, Processor, Interval, Clocks, withClock, clock, own}
+use Rattle.rules.specs.State.{mainframe, Processor, Interval, Clocks, withClock, withClocks, clock, own}
 use Rattle.rules.proofs.Facts.{Within}
 use Rattle.rules.proofs.Tables.{length-put-within, put-within}
 use Rattle.memory.specs.Areas.{intervalRow, clockRow, clocksIn, stateIn}
 use Rattle.memory.specs.Layout.{rowOf}
-use Rattle.memory.specs.Needed.{RowThere, MadeInterval, ClocksOf}
+use Rattle.memory.specs.Needed.{RowThere, MadeInterval, ClocksOf, OwnEntry}
+use Rattle.memory.proofs.Rows.{processor-within}
 use Rattle.memory.proofs.ClockLaws.{clock-read, clock-written}
 use Rattle.memory.proofs.RowLaws.{length-row}
-use Rattle.closing.specs.Parts.{withClocks, OwnEntry, Ticked}
+use Rattle.closing.specs.Parts.{Ticked}
 use Rattle.closing.specs.Needed.{Raisable, Tickable}
-use Rattle.closing.proofs.PageRecords.{processor-within}
 
 -- ---- a clock with one entry higher
 
 module _ (v : List ℕ) (p : ℕ) (ready : Raisable v p) where
   -- the entry has its place
-  pub raise-place : p - 1 < 8
+  pub raise-place : p - 1 < processorLimit
   raise-place = omega (arith, ready .from, ready .to)
 
   -- the entry, one higher, fits its byte
   pub raise-fits : Fits w8 (getD v (p - 1) 0 + 1)
   raise-fits = go p (ready .from) (ready .left)
     where
-      go : (p : ℕ) → 1 ≤ p → entryOf v p < 63 → Fits w8 (getD v (p - 1) 0 + 1)
+      go : (p : ℕ) → 1 ≤ p → entryOf v p < intervalLimit → Fits w8 (getD v (p - 1) 0 + 1)
       go zero h k = absurd (omega arith)
       go (suc q) h k = let e : suc q - 1 ≡ q = omega arith in rw e (unfold entryOf in omega (arith, k))
 
   -- the entry stored anew is the clock raised
-  pub raise-done : length v ≡ 8 → set v (p - 1) (getD v (p - 1) 0 + 1) ≡ raised v p
+  pub raise-done : length v ≡ clockWidth → set v (p - 1) (getD v (p - 1) 0 + 1) ≡ raised v p
   raise-done long = go p (ready .from) (ready .to)
     where
-      go : (p : ℕ) → 1 ≤ p → p ≤ 8 → set v (p - 1) (getD v (p - 1) 0 + 1) ≡ raised v p
+      go : (p : ℕ) → 1 ≤ p → p ≤ processorLimit → set v (p - 1) (getD v (p - 1) 0 + 1) ≡ raised v p
       go zero h k = absurd (omega arith)
       go (suc q) h k = let e : suc q - 1 ≡ q = omega arith in rw e (unfold raised in sym (put-within 0 v q (getD v q 0 + 1) (omega arith)))
 
@@ -59,29 +61,29 @@ module _ (c : List ℕ) (p : ℕ) (ready : Tickable c p) where
   tick-clocks = record { clocks = ready .clocks; from = ready .from; to = ready .to }
 
   -- it has a row
-  pub tick-row : RowThere 8 c p
+  pub tick-row : RowThere clockWidth c p
   tick-row = record { within = omega (arith, ready .clocks, ready .to) }
 
   -- so has the interval, also after the first store
-  pub tick-kept-row : (c₁ v : List ℕ) (row : ℕ) → c₁ ≡ sets c (8 * p) v → row < 593 → RowThere 8 c₁ row
-  tick-kept-row c₁ v row e h = record { within = omega (arith, ap length e ∙ length-sets c (8 * p) v, ready .clocks) }
+  pub tick-kept-row : (c₁ v : List ℕ) (row : ℕ) → c₁ ≡ sets c (clockWidth * p) v → row < clockRowLimit → RowThere clockWidth c₁ row
+  tick-kept-row c₁ v row e h = record { within = omega (arith, ap length e ∙ length-sets c (clockWidth * p) v, ready .clocks) }
 
   -- both stores keep the length
-  pub tick-same-length : (c₁ c₂ v u : List ℕ) (row : ℕ) → c₂ ≡ sets c₁ (8 * row) u → c₁ ≡ sets c (8 * p) v → length c₂ ≡ length c
-  tick-same-length c₁ c₂ v u row f e = ap length f ∙ length-sets c₁ (8 * row) u ∙ ap length e ∙ length-sets c (8 * p) v
+  pub tick-same-length : (c₁ c₂ v u : List ℕ) (row : ℕ) → c₂ ≡ sets c₁ (clockWidth * row) u → c₁ ≡ sets c (clockWidth * p) v → length c₂ ≡ length c
+  tick-same-length c₁ c₂ v u row f e = ap length f ∙ length-sets c₁ (clockWidth * row) u ∙ ap length e ∙ length-sets c (clockWidth * p) v
 
-  row-long : length (rowOf 8 c p) ≡ 8
-  row-long = length-row 8 c p (omega (arith, ready .clocks, ready .to))
+  row-long : length (rowOf clockWidth c p) ≡ clockWidth
+  row-long = length-row clockWidth c p (omega (arith, ready .clocks, ready .to))
 
-  raised-long : length (raised (rowOf 8 c p) p) ≡ 8
-  raised-long = length-raised (rowOf 8 c p) p (omega (arith, row-long, ready .to)) ∙ row-long
+  raised-long : length (raised (rowOf clockWidth c p) p) ≡ clockWidth
+  raised-long = length-raised (rowOf clockWidth c p) p (omega (arith, row-long, ready .to)) ∙ row-long
 
-  clock-is : (w r m : List ℕ) → clock (stateIn mainframe c w r m) p ≡ rowOf 8 c p
+  clock-is : (w r m : List ℕ) → clock (stateIn mainframe c w r m) p ≡ rowOf clockWidth c p
   unfolding clock stateIn clockRow
   clock-is w r m = clock-read c (Processor p) (processor-within p (ready .from) (ready .to))
 
   -- its own entry can rise
-  pub tick-raisable : (v : List ℕ) → v ≡ rowOf 8 c p → Raisable v p
+  pub tick-raisable : (v : List ℕ) → v ≡ rowOf clockWidth c p → Raisable v p
   tick-raisable v e =
       let is : entryOf v p ≡ own (stateIn mainframe c [] [] []) p = unfold own in ap (λ (l : List ℕ). entryOf l p) (e ∙ sym (clock-is [] [] [])) in
       record { from = ready .from; to = ready .to; left = omega (arith, is, ready .left [] [] []) }
@@ -95,28 +97,28 @@ module _ (c : List ℕ) (p : ℕ) (ready : Tickable c p) where
     unfolding Within mainframe
     interval-within = let i = tick-interval e refl in (i .from, i .to, i .first, i .last)
 
-    clocks-after : clocksIn mainframe (sets (sets c (8 * p) (raised (rowOf 8 c p) p)) (8 * intervalRow mainframe p (e + 1)) (raised (rowOf 8 c p) p))
-        ≡ withClock (withClock (clocksIn mainframe c) (Processor p) (raised (rowOf 8 c p) p)) (Interval p (e + 1)) (raised (rowOf 8 c p) p)
+    clocks-after : clocksIn mainframe (sets (sets c (clockWidth * p) (raised (rowOf clockWidth c p) p)) (clockWidth * intervalRow mainframe p (e + 1)) (raised (rowOf clockWidth c p) p))
+        ≡ withClock (withClock (clocksIn mainframe c) (Processor p) (raised (rowOf clockWidth c p) p)) (Interval p (e + 1)) (raised (rowOf clockWidth c p) p)
     unfolding clockRow
     clocks-after =
-        clock-written (sets c (8 * p) (raised (rowOf 8 c p) p)) (raised (rowOf 8 c p) p) (Interval p (e + 1)) (length-sets c (8 * p) (raised (rowOf 8 c p) p) ∙ ready .clocks) interval-within raised-long
-        ∙ ap (λ (k : Clocks). withClock k (Interval p (e + 1)) (raised (rowOf 8 c p) p))
-        (clock-written c (raised (rowOf 8 c p) p) (Processor p) (ready .clocks) (processor-within p (ready .from) (ready .to)) raised-long)
+        clock-written (sets c (clockWidth * p) (raised (rowOf clockWidth c p) p)) (raised (rowOf clockWidth c p) p) (Interval p (e + 1)) (length-sets c (clockWidth * p) (raised (rowOf clockWidth c p) p) ∙ ready .clocks) interval-within raised-long
+        ∙ ap (λ (k : Clocks). withClock k (Interval p (e + 1)) (raised (rowOf clockWidth c p) p))
+        (clock-written c (raised (rowOf clockWidth c p) p) (Processor p) (ready .clocks) (processor-within p (ready .from) (ready .to)) raised-long)
 
     rule-is : (w r m : List ℕ)
-        → withClock (withClock (clocksIn mainframe c) (Processor p) (raised (rowOf 8 c p) p)) (Interval p (e + 1)) (raised (rowOf 8 c p) p)
+        → withClock (withClock (clocksIn mainframe c) (Processor p) (raised (rowOf clockWidth c p) p)) (Interval p (e + 1)) (raised (rowOf clockWidth c p) p)
         ≡ ticked (stateIn mainframe c w r m) p
     unfolding ticked stateIn
     rule-is w r m =
-        let v : rowOf 8 c p ≡ clock (stateIn mainframe c w r m) p = sym (clock-is w r m) in
+        let v : rowOf clockWidth c p ≡ clock (stateIn mainframe c w r m) p = sym (clock-is w r m) in
         λ i. withClock (withClock (clocksIn mainframe c) (Processor p) (raised (v i) p)) (Interval p (entry .is w r m i + 1)) (raised (v i) p)
 
     -- both clocks stored anew are the clocks of the rule
-    pub tick-done : (c₁ c₂ v u : List ℕ) (x row : ℕ) → c₂ ≡ sets c₁ (8 * row) u → c₁ ≡ sets c (8 * p) u → u ≡ raised v p → v ≡ rowOf 8 c p
+    pub tick-done : (c₁ c₂ v u : List ℕ) (x row : ℕ) → c₂ ≡ sets c₁ (clockWidth * row) u → c₁ ≡ sets c (clockWidth * p) u → u ≡ raised v p → v ≡ rowOf clockWidth c p
         → row ≡ intervalRow mainframe p (x + 1) → x ≡ e → Ticked c c₂ p
-    unfolding stateIn withClocks
+    unfolding stateIn
     tick-done c₁ c₂ v u x row second first up is at k =
-        let done : clocksIn mainframe c₂ ≡ withClock (withClock (clocksIn mainframe c) (Processor p) (raised (rowOf 8 c p) p)) (Interval p (e + 1)) (raised (rowOf 8 c p) p) =
+        let done : clocksIn mainframe c₂ ≡ withClock (withClock (clocksIn mainframe c) (Processor p) (raised (rowOf clockWidth c p) p)) (Interval p (e + 1)) (raised (rowOf clockWidth c p) p) =
         ap (λ (l : List ℕ). clocksIn mainframe l) (second ∙ rw (first, up, is, at, k)) ∙ clocks-after in
         record {
           is = λ w r m. ap (λ (q : Clocks). withClocks (stateIn mainframe c w r m) q) (done ∙ rule-is w r m);

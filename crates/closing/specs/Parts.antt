@@ -5,8 +5,9 @@ use mathlib.Core.Path.{_≡_}
 use mathlib.Core.Bool.{Bool, cond}
 use mathlib.Core.List.{List}
 use lib.ListN.{length}
+use Rattle.limits.specs.Limits.{pageWidth}
 use Rattle.diff.specs.Format.{written}
-use Rattle.rules.specs.State.{mainframe, Clocks, dirtyAt, Record, Records, appended, State, own}
+use Rattle.rules.specs.State.{mainframe, dirtyAt, Record, appended, State, withClocks, withRecords}
 use Rattle.rules.specs.Tables.{any}
 use Rattle.rules.specs.Close.{changed, anyChanged, newRecord, recorded, ticked}
 use Rattle.memory.specs.Layout.{rowOf}
@@ -14,15 +15,7 @@ use Rattle.memory.specs.Areas.{copyRow, twinRow, stateIn}
 
 -- ---- the state after a part
 
--- a state with other clocks
-unfoldable pub withClocks : State → Clocks → State
-withClocks s c = record { counts = s .counts; clocks = c; pages = s .pages; records = s .records; marks = s .marks }
-
--- a state with other records
-unfoldable pub withRecords : State → Records → State
-withRecords s r = record { counts = s .counts; clocks = s .clocks; pages = s .pages; records = r; marks = s .marks }
-
--- with the record of page g of p
+-- a state with the record of page g of p
 unfoldable pub oneMore : State → ℕ → ℕ → State
 oneMore s p g = withRecords s (appended (s .records) (newRecord s p g))
 
@@ -42,13 +35,9 @@ recordOf p i g old new = record { processor = p; interval = i; page = g; diff = 
 
 -- the same for the twin and the copy in the area of the words
 unfoldable pub pageRecord : ℕ → ℕ → ℕ → List ℕ → Record
-pageRecord p i g w = recordOf p i g (rowOf 32 w (twinRow mainframe p g)) (rowOf 32 w (copyRow mainframe p g))
+pageRecord p i g w = recordOf p i g (rowOf pageWidth w (twinRow mainframe p g)) (rowOf pageWidth w (copyRow mainframe p g))
 
 -- ---- answers
-
--- e is the own entry of p, where c is the area of the clocks
-pub record OwnEntry (c : List ℕ) (p e : ℕ) : Type 0 where
-  pub is : (w r m : List ℕ) → e ≡ own (stateIn mainframe c w r m) p
 
 -- b says whether page g of p changed, where w and m are the areas of the words and of the marks
 pub record PageChanged (w m : List ℕ) (p g : ℕ) (b : Bool) : Type 0 where

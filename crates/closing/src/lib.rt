@@ -3,29 +3,41 @@
 ghost use mathlib.Core.Path.{_≡_};
 ghost use mathlib.Core.Bool.{not, _||_};
 ghost use Prim.Native.Nat.{_*_, _<_};
-ghost use lib.ListN.{length, replicate};
+ghost use lib.ListN.{length};
 ghost use lib.Seq.{sets};
 ghost use lib.Dec.{eqb};
+ghost use Rattle.limits.specs.Limits.{pageWidth, slotHead};
+ghost use Rattle.limits.specs.Sizes.{slotWidth};
 ghost use Rattle.diff.specs.Format.{written};
 ghost use Rattle.writer.specs.Needed.{PagesWhole};
 ghost use Rattle.rules.specs.State.{mainframe, slotBytes};
 ghost use Rattle.rules.specs.Close.{differ, raised, closed};
 ghost use Rattle.memory.specs.Layout.{rowOf};
-ghost use Rattle.memory.specs.Areas.{dirtyPlace, stateIn};
-ghost use Rattle.memory.specs.Needed.{RowThere, ClocksOf, Holds};
-ghost use Rattle.closing.specs.Parts.{recordOf, pageRecord, oneMore, pageRecorded, allRecorded, OwnEntry, PageChanged, AnyChanged, AnyDirty, Ticked};
-ghost use Rattle.closing.specs.Needed.{Closable, Recordable, Appendable, PageThere, SlotThere, RecordFits, SlotFits, DiffFits, Raisable, Tickable, MarksOf};
+ghost use Rattle.memory.specs.Areas.{stateIn};
+ghost use Rattle.memory.specs.Needed.{RowThere, MarksOf, Holds};
+ghost use Rattle.closing.specs.Parts.{recordOf, pageRecord, oneMore, pageRecorded, allRecorded, PageChanged, AnyChanged, AnyDirty, Ticked};
+ghost use Rattle.closing.specs.Needed.{Closable, Recordable, Appendable, PageThere, SlotThere, RecordFits, SlotFits, DiffFits, Raisable, Tickable};
 use clock::Clock;
 use clock::IntervalId;
 use clock::PageId;
 use clock::ProcessorId;
-use memory::clear;
+use limits::PAGE_LIMIT;
+use limits::PAGE_WIDTH;
+use limits::SLOT_HEAD;
+use limits::SLOT_WIDTH;
 use memory::clock_at;
 use memory::copy_row;
-use memory::dirty_place;
 use memory::interval_row;
+use memory::marks::clean_pages;
+use memory::marks::dirty_place;
+use memory::marks::is_dirty;
+use memory::marks::page_count;
+use memory::marks::put_standing_count;
+use memory::marks::standing_count;
+use memory::own_entry;
 use memory::put_clock;
 use memory::twin_row;
+use memory::wide;
 use writer::Written;
 
 // Closes the interval of a processor: for each page that changed one record, if there is one the clock of the interval, and clean pages.
@@ -47,7 +59,7 @@ fn any_dirty(p: ProcessorId, marks: &[u8]) -> bool
     let from = dirty_place(p, PageId(0));
     let mut found = false;
     let mut i: usize = 0;
-    while i < 8 {
+    while i < PAGE_LIMIT {
         found = also(found, marks[from + i]);
         i = i + 1;
     }
@@ -73,7 +85,7 @@ fn close_dirty(
     ensures { λ _. ⌜ Holds (now (clocks .exit)) (now (words .entry)) (now (records .exit)) (now (marks .exit)) (closed (stateIn mainframe (now (clocks .entry)) (now (words .entry)) (now (records .entry)) (now (marks .entry))) (p .0)) ⌝ }
 {
     let any = record_pages(p, clocks, words, records, marks);
-    clean_pages(p, marks);
+    clean_pages(marks, p);
     if any {
         tick(p, clocks);
     }
@@ -91,7 +103,7 @@ fn record_pages(
     ensures { λ r. ⌜ AnyChanged (stateIn mainframe (now (clocks .entry)) (now (words .entry)) (now (records .entry)) (now (marks .entry))) (p .0) r ⌝ }
     ensures { λ r. ⌜ Holds (now (clocks .entry)) (now (words .entry)) (now (records .exit)) (now (marks .exit)) (allRecorded (stateIn mainframe (now (clocks .entry)) (now (words .entry)) (now (records .entry)) (now (marks .entry))) (p .0)) ⌝ }
 {
-    let n = wide(marks[1]);
+    let n = page_count(marks);
     let mut any = false;
     let mut g: usize = 0;
     while g < n {
@@ -130,8 +142,7 @@ fn page_changed(p: ProcessorId, g: PageId, words: &[u32], marks: &[u8]) -> bool
     requires { ⌜ PageThere (now words) (now marks) (p .0) (g .0) ⌝ }
     ensures { λ r. ⌜ PageChanged (now (words .entry)) (now (marks .entry)) (p .0) (g .0) r ⌝ }
 {
-    let at = dirty_place(p, g);
-    if marks[at] == 0 {
+    if !is_dirty(marks, p, g) {
         return false;
     }
     let old = page(words, twin_row(p, g));
@@ -146,7 +157,7 @@ fn differs(old: &[u32], new: &[u32]) -> bool
 {
     let mut found = false;
     let mut i: usize = 0;
-    while i < 32 {
+    while i < PAGE_WIDTH {
         found = either(found, old[i], new[i]);
         i = i + 1;
     }
@@ -173,9 +184,9 @@ fn append(
     ensures { λ _. ⌜ Holds (now (clocks .entry)) (now (words .entry)) (now (records .exit)) (now (marks .exit)) (oneMore (stateIn mainframe (now (clocks .entry)) (now (words .entry)) (now (records .entry)) (now (marks .entry))) (p .0) (g .0)) ⌝ }
 {
     let interval = IntervalId(wide(own_entry(clocks, p)) + 1);
-    let count = marks[3];
-    lay_record(p, interval, g, words, records, wide(count));
-    marks[3] = count + 1;
+    let count = standing_count(marks);
+    lay_record(p, interval, g, words, records, count);
+    put_standing_count(marks, count + 1);
 }
 
 // The record of a page in a slot: what the processor's copy differs in from its twin.
@@ -188,12 +199,12 @@ fn lay_record(
     slot: usize,
 )
     requires { ⌜ SlotThere (now words) (now records) (p .0) (interval .0) (g .0) slot ⌝ }
-    ensures { λ _. ⌜ now (records .exit) ≡ sets (now (records .entry)) (135 * slot) (slotBytes (pageRecord (p .0) (interval .0) (g .0) (now (words .entry)))) ⌝ }
+    ensures { λ _. ⌜ now (records .exit) ≡ sets (now (records .entry)) (slotWidth * slot) (slotBytes (pageRecord (p .0) (interval .0) (g .0) (now (words .entry)))) ⌝ }
 {
     let old = page(words, twin_row(p, g));
     let new = page(words, copy_row(p, g));
-    let from = 135 * slot;
-    let to = from + 135;
+    let from = SLOT_WIDTH * slot;
+    let to = from + SLOT_WIDTH;
     fill_slot(p, interval, g, old, new, &mut records[from..to]);
 }
 
@@ -220,9 +231,9 @@ fn fill_slot(
 fn lay_diff_behind(old: &[u32], new: &[u32], slot: &mut [u8]) -> u8
     requires { ⌜ SlotFits (now old) (now new) (now slot) ⌝ }
     ensures { λ r. ⌜ r ≡ length (written (now (old .entry)) (now (new .entry))) ⌝ }
-    ensures { λ r. ⌜ now (slot .exit) ≡ sets (now (slot .entry)) 4 (written (now (old .entry)) (now (new .entry))) ⌝ }
+    ensures { λ r. ⌜ now (slot .exit) ≡ sets (now (slot .entry)) slotHead (written (now (old .entry)) (now (new .entry))) ⌝ }
 {
-    lay_diff(old, new, &mut slot[4..135])
+    lay_diff(old, new, &mut slot[SLOT_HEAD..SLOT_WIDTH])
 }
 
 // The diff of two pages at the start of `out`, and its length. It is never refused: 131 bytes suffice for every diff.
@@ -237,32 +248,14 @@ fn lay_diff(old: &[u32], new: &[u32], out: &mut [u8]) -> u8
     (n % 256) as u8
 }
 
-// The 32 words in a row.
+// The words in a row.
 fn page(words: &[u32], row: usize) -> &[u32]
-    requires { ⌜ RowThere 32 (now words) row ⌝ }
-    ensures { λ r. ⌜ now r ≡ rowOf 32 (now (words .entry)) row ⌝ }
+    requires { ⌜ RowThere pageWidth (now words) row ⌝ }
+    ensures { λ r. ⌜ now r ≡ rowOf pageWidth (now (words .entry)) row ⌝ }
 {
-    let from = 32 * row;
-    let to = from + 32;
+    let from = PAGE_WIDTH * row;
+    let to = from + PAGE_WIDTH;
     &words[from..to]
-}
-
-// How many intervals of its own a processor has made.
-fn own_entry(clocks: &[u8], p: ProcessorId) -> u8
-    requires { ⌜ ClocksOf (now clocks) (p .0) ⌝ }
-    ensures { λ r. ⌜ OwnEntry (now (clocks .entry)) (p .0) r ⌝ }
-{
-    clocks[9 * p.0 - 1]
-}
-
-// Every page of a processor becomes clean.
-fn clean_pages(p: ProcessorId, marks: &mut [u8])
-    requires { ⌜ MarksOf (now marks) (p .0) ⌝ }
-    ensures { λ _. ⌜ now (marks .exit) ≡ sets (now (marks .entry)) (dirtyPlace mainframe (p .0) 0) (replicate 8 0) ⌝ }
-{
-    let from = dirty_place(p, PageId(0));
-    let to = from + 8;
-    clear(&mut marks[from..to]);
 }
 
 // The own entry of a processor rises by 1, and the interval keeps the processor's clock.
@@ -287,10 +280,4 @@ fn raise(clock: Clock, p: ProcessorId) -> Clock
     let at = p.0 - 1;
     entries[at] = entries[at] + 1;
     Clock { entries }
-}
-
-fn wide(x: u8) -> usize
-    ensures { λ r. ⌜ (r ≡ x) × (r < 256) ⌝ }
-{
-    x as usize
 }

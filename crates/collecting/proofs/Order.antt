@@ -5,9 +5,11 @@ use native.Mathlib.Omega.{arith}
 use mathlib.Core.Path.{_≡_, refl, sym, ap, ap₂, _∙_}
 use mathlib.Core.Bool.{cond}
 use mathlib.Core.List.{List, [], _++_}
-use lib.ListN.{length, getD}
+use lib.ListN.{length}
 use lib.Seq.{sets}
 use lib.Dec.{eqb}
+use Rattle.limits.specs.Limits.{intervalLimit, pageLimit, processorLimit}
+use Rattle.limits.specs.Sizes.{clockWidth, firstAppliedRow, wordRowLimit}
 use Rattle.rules.specs.Fetch.{isPending, sumAt, earlier, fetched, fetchCount}
 use Rattle.rules.specs.State.{mainframe, Processor, Applied, Counts, Clocks, clockOf, Record, State}
 use Rattle.rules.specs.Steps.{Fetches, pagesFetched, allFetched}
@@ -15,9 +17,10 @@ use Rattle.rules.specs.Tables.{select, sortBy}
 use Rattle.rules.proofs.Facts.{InOrder, Within}
 use Rattle.rules.proofs.KeptFetch.{fetched-parts}
 use Rattle.rules.proofs.KeptParts.{among-when, Parts, parts-of, in-order-of}
-use Rattle.memory.specs.Areas.{appliedRow, intervalRow, clockRow, copyRow, clocksIn, stateIn}
+use Rattle.memory.specs.Areas.{appliedRow, intervalRow, clockRow, copyRow, clocksIn, stateIn, standingCount}
 use Rattle.memory.specs.Layout.{rowOf, tabulate}
 use Rattle.memory.specs.Needed.{Ready, Acts, OnPage}
+use Rattle.memory.specs.Marks.{pageCount, processorCount}
 use Rattle.memory.proofs.ClockLaws.{clock-read}
 use Rattle.memory.proofs.MarkLaws.{processors-read, pages-read}
 use Rattle.memory.proofs.RowLaws.{interval-table-same}
@@ -90,7 +93,7 @@ unfolding dueOf earlier sumAt clockOf isPending pendingBy only
 due-by c p g l = refl
 
 -- so it stays where the rows of these stay: those before the applied clocks, and those from this one on
-due-stays : (c c′ r : List ℕ) (n p g : ℕ) → OnPage p g → ((j : ℕ) → (25 ≤ j → j < 25 + 8 * (p - 1) + g → ⊥) → rowOf 8 c′ j ≡ rowOf 8 c j)
+due-stays : (c c′ r : List ℕ) (n p g : ℕ) → OnPage p g → ((j : ℕ) → (firstAppliedRow ≤ j → j < firstAppliedRow + pageLimit * (p - 1) + g → ⊥) → rowOf clockWidth c′ j ≡ rowOf clockWidth c j)
     → dueIn c′ r n p g ≡ dueIn c r n p g
 unfolding dueIn
 due-stays c c′ r n p g o h =
@@ -114,7 +117,7 @@ due-stays c c′ r n p g o h =
     intervals : clocksIn mainframe c′ .intervals ≡ clocksIn mainframe c .intervals
     intervals =
         unfold clocksIn mainframe clockRow intervalRow in
-        interval-table-same 8 63 (λ q i. rowOf 8 c′ (intervalRow mainframe q i)) (λ q i. rowOf 8 c (intervalRow mainframe q i))
+        interval-table-same processorLimit intervalLimit (λ q i. rowOf clockWidth c′ (intervalRow mainframe q i)) (λ q i. rowOf clockWidth c (intervalRow mainframe q i))
         (λ q i a b d e. h (intervalRow mainframe q i) (λ x y. omega (arith, y, o .to, o .page)))
 
 -- ---- one processor
@@ -123,14 +126,14 @@ due-stays c c′ r n p g o h =
 record PagesReached (c w r m : List ℕ) (p g : ℕ) : Type 0 where
   pub words : List ℕ
   pub is : stateIn mainframe (settledPages c p g) words r m ≡ pagesFetched mainframe (stateIn mainframe c w r m) p g .after
-  pub spread : Spread w words (fetchedTo c r (getD m 3 0) p g) (pagesFetched mainframe (stateIn mainframe c w r m) p g .count)
+  pub spread : Spread w words (fetchedTo c r (standingCount m) p g) (pagesFetched mainframe (stateIn mainframe c w r m) p g .count)
 
 module _ (c w r m : List ℕ) (p : ℕ) (a : Acts c w r m p) where
   abbrev state : State
   state = stateIn mainframe c w r m
 
   abbrev standing : ℕ
-  standing = getD m 3 0
+  standing = standingCount m
 
   pages-reached : (g : ℕ) → g ≤ state .counts .pages → PagesReached c w r m p g
   unfolding settledPages pagesFetched fetchedTo allBelow
@@ -160,7 +163,7 @@ module _ (c w r m : List ℕ) (p : ℕ) (a : Acts c w r m p) where
           place : OnPage p g
           place = on-page clocks (q .words) r m p g there
 
-          row-stays : (j : ℕ) → (25 ≤ j → j < 25 + 8 * (p - 1) + g → ⊥) → rowOf 8 clocks j ≡ rowOf 8 c j
+          row-stays : (j : ℕ) → (firstAppliedRow ≤ j → j < firstAppliedRow + pageLimit * (p - 1) + g → ⊥) → rowOf clockWidth clocks j ≡ rowOf clockWidth c j
           row-stays j e = settled-pages-row c p g j (a .lent .clocks) (place .to) (λ x y. e (omega (arith, x)) y)
 
           due-here : dueIn clocks r standing p g ≡ dueIn c r standing p g
@@ -169,19 +172,19 @@ module _ (c w r m : List ℕ) (p : ℕ) (a : Acts c w r m p) where
           words : List ℕ
           words = rowApplied (q .words) (copyRow mainframe p g) (dueIn c r standing p g)
 
-          is : stateIn mainframe (sets clocks (8 * appliedRow mainframe p g) (rowOf 8 c p)) words r m ≡ fetched mainframe (before .after) p g
+          is : stateIn mainframe (sets clocks (clockWidth * appliedRow mainframe p g) (rowOf clockWidth c p)) words r m ≡ fetched mainframe (before .after) p g
           is =
-              after-fetch clocks (q .words) r m p g there standing refl (sets clocks (8 * appliedRow mainframe p g) (rowOf 8 c p)) words
+              after-fetch clocks (q .words) r m p g there standing (sets clocks (clockWidth * appliedRow mainframe p g) (rowOf clockWidth c p)) words
               (ap (λ (l : List Record). rowApplied (q .words) (copyRow mainframe p g) l) (sym due-here))
-              (ap (λ (l : List ℕ). sets clocks (8 * appliedRow mainframe p g) l) (sym (row-stays p (λ x y. omega (arith, x, place .to)))))
+              (ap (λ (l : List ℕ). sets clocks (clockWidth * appliedRow mainframe p g) l) (sym (row-stays p (λ x y. omega (arith, x, place .to))))) refl
               ∙ ap (λ (t : State). fetched mainframe t p g) (q .is)
 
           count : length (dueIn c r standing p g) ≡ fetchCount (before .after) p g
           count =
-              page-counted clocks (q .words) r m p g there standing refl (length (dueIn c r standing p g)) (ap length (sym due-here))
+              page-counted clocks (q .words) r m p g there standing (length (dueIn c r standing p g)) (ap length (sym due-here)) refl
               ∙ ap (λ (t : State). fetchCount t p g) (q .is)
 
-          row-there : copyRow mainframe p g < 128
+          row-there : copyRow mainframe p g < wordRowLimit
           row-there = unfold copyRow mainframe in omega (arith, place .to, place .page)
 
           spread : Spread w words (λ j. fetchedTo c r standing p g j ++ cond (eqb j (copyRow mainframe p g)) (dueIn c r standing p g) []) (before .count + fetchCount (before .after) p g)
@@ -195,28 +198,28 @@ module _ (c w r m : List ℕ) (p : ℕ) (a : Acts c w r m p) where
 -- the words after the fetches of the first n processors: with the settled clocks they hold the rules' state
 pub record AllReached (c w r m : List ℕ) (n : ℕ) : Type 0 where
   pub words : List ℕ
-  pub is : stateIn mainframe (settledAll c n (getD m 1 0)) words r m ≡ allFetched mainframe (stateIn mainframe c w r m) n .after
-  pub spread : Spread w words (allFetchedTo c r (getD m 3 0) n (getD m 1 0)) (allFetched mainframe (stateIn mainframe c w r m) n .count)
+  pub is : stateIn mainframe (settledAll c n (pageCount m)) words r m ≡ allFetched mainframe (stateIn mainframe c w r m) n .after
+  pub spread : Spread w words (allFetchedTo c r (standingCount m) n (pageCount m)) (allFetched mainframe (stateIn mainframe c w r m) n .count)
 
 module _ (c w r m : List ℕ) (a : Ready c w r m) where
   abbrev whole : State
   whole = stateIn mainframe c w r m
 
   abbrev ranked : ℕ
-  ranked = getD m 3 0
+  ranked = standingCount m
 
   abbrev pages : ℕ
-  pages = getD m 1 0
+  pages = pageCount m
 
-  pages-few : pages ≤ 8
+  pages-few : pages ≤ pageLimit
   unfolding mainframe
   pages-few = omega (arith, pages-read c w r m, a .in-order .pages-fit)
 
-  processors-few : getD m 0 0 ≤ 8
+  processors-few : processorCount m ≤ processorLimit
   unfolding mainframe
   processors-few = omega (arith, processors-read c w r m, a .in-order .processors-fit)
 
-  pub all-reached : (n : ℕ) → n ≤ getD m 0 0 → AllReached c w r m n
+  pub all-reached : (n : ℕ) → n ≤ processorCount m → AllReached c w r m n
   unfolding settledAll allFetched allFetchedTo allBelow
   all-reached zero h = record { words = w; is = refl; spread = spread-none w (a .lent .words) }
   all-reached (suc k) h = next (all-reached k (omega (arith, h)))
@@ -244,7 +247,7 @@ module _ (c w r m : List ℕ) (a : Ready c w r m) where
 
           due-here : (g : ℕ) → g < pages → dueIn clocks r ranked (suc k) g ≡ dueIn c r ranked (suc k) g
           due-here g b =
-              let bound : suc k ≤ 8 = omega (arith, h, processors-few) in
+              let bound : suc k ≤ processorLimit = omega (arith, h, processors-few) in
               due-stays c clocks r ranked (suc k) g (record { from = omega arith; to = bound; page = omega (arith, b, pages-few) })
               (λ j e. settled-all-row c k pages j (a .lent .clocks) (omega (arith, bound)) pages-few (λ x y. e x (omega (arith, y))))
 

@@ -4,6 +4,7 @@ use Prim.Native.Nat.{ℕ}
 use mathlib.Core.Path.{_≡_}
 use mathlib.Core.List.{List}
 use lib.ListN.{length}
+use Rattle.limits.specs.Sizes.{clockArea, markArea}
 use Rattle.rules.specs.State.{mainframe}
 use Rattle.rules.specs.Steps.{Fetches, emptied}
 use Rattle.memory.specs.Areas.{stateIn}
@@ -16,6 +17,6 @@ pub record CountedAs (f : Fetches) (count : ℕ) (c w r m : List ℕ) : Type 0 w
 
 -- the records went, the clocks became zeros and the wish was cleared
 pub record Emptied (c m c′ m′ : List ℕ) : Type 0 where
-  pub clocks : length c′ ≡ 4744
-  pub marks : length m′ ≡ 93
+  pub clocks : length c′ ≡ clockArea
+  pub marks : length m′ ≡ markArea
   pub is : (w r : List ℕ) → stateIn mainframe c′ w r m′ ≡ emptied (stateIn mainframe c w r m)

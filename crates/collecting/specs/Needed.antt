@@ -3,30 +3,33 @@ use Prim.Native.Nat.{ℕ, _≤_, _<_}
 use mathlib.Core.Path.{_≡_}
 use mathlib.Core.List.{List}
 use lib.ListN.{length, getD, take}
+use Rattle.limits.specs.Limits.{pageLimit, recordLimit}
+use Rattle.limits.specs.Sizes.{clockArea, markArea, rankArea}
 use Rattle.memory.specs.Layout.{rowOf}
+use Rattle.memory.specs.Areas.{standingCount}
 use Rattle.ranking.specs.Needed.{Rankable}
 use Rattle.ranking.specs.Ranks.{pageNumbers}
 use Rattle.spreading.specs.Needed.{PageSpreadable}
 
 -- the records that stand can be ranked
 pub record StandingRankable (c r m l : List ℕ) : Type 0 where
-  pub marks : length m ≡ 93
-  pub rankable : Rankable c r (getD m 3 0) l
+  pub marks : length m ≡ markArea
+  pub rankable : Rankable c r (standingCount m) l
 
 -- the row of each page begins with the numbers of the page's records, upwards, and `counts` says how many they are
 pub record PagesRanked (c r m l counts : List ℕ) : Type 0 where
-  pub whole : length l ≡ 1024
-  pub pages : 8 ≤ length counts
-  pub few : (g : ℕ) → g < 8 → getD counts g 0 ≤ 128
-  pub row : (g : ℕ) → g < 8 → take (getD counts g 0) (rowOf 128 l g) ≡ pageNumbers c r g (getD m 3 0)
+  pub whole : length l ≡ rankArea
+  pub pages : pageLimit ≤ length counts
+  pub few : (g : ℕ) → g < pageLimit → getD counts g 0 ≤ recordLimit
+  pub row : (g : ℕ) → g < pageLimit → take (getD counts g 0) (rowOf recordLimit l g) ≡ pageNumbers c r g (standingCount m)
 
 -- the row of a page begins with numbers whose records can be laid into the copies of the first n processors
 pub record RowSpreadable (c w r l counts : List ℕ) (g n : ℕ) : Type 0 where
-  pub whole : length l ≡ 1024
-  pub pages : 8 ≤ length counts
-  pub row : PageSpreadable c w r g (rowOf 128 l g) (getD counts g 0) n
+  pub whole : length l ≡ rankArea
+  pub pages : pageLimit ≤ length counts
+  pub row : PageSpreadable c w r g (rowOf recordLimit l g) (getD counts g 0) n
 
 -- the areas of the clocks and of the marks
 pub record ClocksAndMarks (c m : List ℕ) : Type 0 where
-  pub clocks : length c ≡ 4744
-  pub marks : length m ≡ 93
+  pub clocks : length c ≡ clockArea
+  pub marks : length m ≡ markArea

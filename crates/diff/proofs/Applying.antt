@@ -9,6 +9,8 @@ use lib.ListN.{length, getD, set, length-set}
 use lib.Seq.{sets, length-sets}
 use borrow.Author.Needs.{needs}
 use borrow.Author.Tests.{eq-eqb, ne-eqb}
+use Rattle.limits.specs.Limits.{pageWidth}
+use Rattle.limits.specs.Sizes.{runLimit}
 use Rattle.diff.specs.Reading.{runCount, mostRuns, runsAt, runsIn, wordsPlace, wordAt, wordsAt, wordCount, orderly, readRefusal, applied}
 use Rattle.diff.specs.Answers.{applyRefusal, pageAfter}
 use Rattle.diff.specs.Needed.{Applicable, NextThere, RunThere}
@@ -77,20 +79,20 @@ one-word-laid bytes page words len offset v one e = rw (one, e)
 -- after some runs: `left` runs whose pairs stand from the place `at` on are to be laid into the page, their words from the place `words` on
 pub record LayingRuns (bytes page₀ page : List ℕ) (n at left words : ℕ) : Type 0 where
   pub from : ℕ
-  pub in-order : orderly 32 from (runsAt bytes at left) ≡ true
-  pub few : n ≤ 16
+  pub in-order : orderly pageWidth from (runsAt bytes at left) ≡ true
+  pub few : n ≤ runLimit
   pub pairs-whole : 1 + 2 * n ≤ length bytes
   pub place : at + 2 * left ≡ 1 + 2 * n
   pub exact : length bytes ≡ words + 4 * wordCount (runsAt bytes at left)
-  pub page-whole : length page ≡ 32
+  pub page-whole : length page ≡ pageWidth
   pub as-long : length page ≡ length page₀
-  pub same : applied 32 bytes page₀ ≡ lay bytes (runsAt bytes at left) words page
+  pub same : applied pageWidth bytes page₀ ≡ lay bytes (runsAt bytes at left) words page
 
 module _ (bytes page₀ : List ℕ) (n : ℕ) where
   pub laying-begins : Applicable bytes page₀ → n ≡ getD bytes 0 0 → LayingRuns bytes page₀ page₀ n 1 n (1 + 2 * n)
   unfolding runCount runsIn wordsPlace mostRuns
   laying-begins a e =
-      let p = legal-when-read 32 bytes (a .accepted) in
+      let p = legal-when-read pageWidth bytes (a .accepted) in
       record {
         from = 0;
         in-order = rw e (p .in-order);
@@ -100,7 +102,7 @@ module _ (bytes page₀ : List ℕ) (n : ℕ) where
         exact = rw e (p .exact);
         page-whole = a .page-whole;
         as-long = refl;
-        same = rw e (lay-applies 32 bytes page₀ (p .in-order) (a .page-whole));
+        same = rw e (lay-applies pageWidth bytes page₀ (p .in-order) (a .page-whole));
       }
 
 module _ (bytes page₀ page : List ℕ) (n at left words : ℕ) where
@@ -112,8 +114,8 @@ module _ (bytes page₀ page : List ℕ) (n at left words : ℕ) where
 
   -- what is known of the next run, and of those behind it
   record Next : Type 0 where
-    pub on-page : offset + len ≤ 32
-    pub behind : orderly 32 (offset + len + 1) (runsAt bytes (at + 2) (left - 1)) ≡ true
+    pub on-page : offset + len ≤ pageWidth
+    pub behind : orderly pageWidth (offset + len + 1) (runsAt bytes (at + 2) (left - 1)) ≡ true
     pub count : wordCount (runsAt bytes at left) ≡ len + wordCount (runsAt bytes (at + 2) (left - 1))
     pub laid : lay bytes (runsAt bytes at left) words page ≡ lay bytes (runsAt bytes (at + 2) (left - 1)) (words + 4 * len) (sets page offset (wordsAt bytes words len))
 
@@ -121,7 +123,7 @@ module _ (bytes page₀ page : List ℕ) (n at left words : ℕ) where
   unfolding wordCount lay
   next p more =
       let first = runs-left bytes at left more in
-      let q = orderly-parts 32 (p .from) _ (runsAt bytes (at + 2) (left - 1)) (rw first at (p .in-order)) in
+      let q = orderly-parts pageWidth (p .from) _ (runsAt bytes (at + 2) (left - 1)) (rw first at (p .in-order)) in
       record { on-page = q .within; behind = q .rest; count = rw first; laid = rw first }
 
   pub next-there : LayingRuns bytes page₀ page n at left words → 0 < left → NextThere bytes page at words
@@ -161,7 +163,7 @@ pub run-laid : (bytes page page′ : List ℕ) (at words offset len : ℕ) → o
     → page′ ≡ sets page offset (wordsAt bytes words len) → page′ ≡ sets page (getD bytes at 0) (wordsAt bytes words (getD bytes (at + 1) 0))
 run-laid bytes page page′ at words offset len o k e = e ∙ rw (o, k)
 
-pub laying-ends : (bytes page₀ page : List ℕ) (n at left words : ℕ) → LayingRuns bytes page₀ page n at left words → left ≤ 0 → page ≡ applied 32 bytes page₀
+pub laying-ends : (bytes page₀ page : List ℕ) (n at left words : ℕ) → LayingRuns bytes page₀ page n at left words → left ≤ 0 → page ≡ applied pageWidth bytes page₀
 unfolding lay runsAt
 laying-ends bytes page₀ page n at left words p none =
     let e : left ≡ 0 = omega arith in
@@ -169,37 +171,37 @@ laying-ends bytes page₀ page n at left words p none =
 
 -- a diff has a first byte
 pub first-byte : (bytes page : List ℕ) → Applicable bytes page → 0 < length bytes
-first-byte bytes page a = omega (arith, legal-when-read 32 bytes (a .accepted) .not-empty)
+first-byte bytes page a = omega (arith, legal-when-read pageWidth bytes (a .accepted) .not-empty)
 
 -- ---- the refusals of `apply`
 
 module _ (bytes page : List ℕ) where
-  pub page-length-refused : (length page ≡ 32 → ⊥) → 14 ≡ applyRefusal 32 bytes page
+  pub page-length-refused : (length page ≡ pageWidth → ⊥) → 14 ≡ applyRefusal pageWidth bytes page
   unfolding applyRefusal
   page-length-refused h = rw (ne-eqb _ _ h)
 
-  pub page-length-untouched : (length page ≡ 32 → ⊥) → page ≡ pageAfter 32 bytes page
+  pub page-length-untouched : (length page ≡ pageWidth → ⊥) → page ≡ pageAfter pageWidth bytes page
   unfolding pageAfter applyRefusal
   page-length-untouched h = rw (ne-eqb _ _ h)
 
-  module _ (whole : length page ≡ 32) (r : ℕ) (is : r ≡ readRefusal 32 bytes) where
-    pub string-refused : (r ≡ 0 → ⊥) → r ≡ applyRefusal 32 bytes page
+  module _ (whole : length page ≡ pageWidth) (r : ℕ) (is : r ≡ readRefusal pageWidth bytes) where
+    pub string-refused : (r ≡ 0 → ⊥) → r ≡ applyRefusal pageWidth bytes page
     unfolding applyRefusal
     string-refused h = is ∙ rw (eq-eqb _ _ whole)
 
-    pub string-untouched : (r ≡ 0 → ⊥) → page ≡ pageAfter 32 bytes page
+    pub string-untouched : (r ≡ 0 → ⊥) → page ≡ pageAfter pageWidth bytes page
     unfolding pageAfter applyRefusal
-    string-untouched h = rw (eq-eqb _ _ whole, ne-eqb (readRefusal 32 bytes) 0 (rw is at h))
+    string-untouched h = rw (eq-eqb _ _ whole, ne-eqb (readRefusal pageWidth bytes) 0 (rw is at h))
 
     pub applicable : r ≡ 0 → Applicable bytes page
     applicable z = record { accepted = sym is ∙ z; page-whole = whole }
 
-    pub applied-accepted : r ≡ 0 → 0 ≡ applyRefusal 32 bytes page
+    pub applied-accepted : r ≡ 0 → 0 ≡ applyRefusal pageWidth bytes page
     unfolding applyRefusal
     applied-accepted z = sym z ∙ is ∙ rw (eq-eqb _ _ whole)
 
-    pub applied-page : (page′ : List ℕ) → r ≡ 0 → page′ ≡ applied 32 bytes page → page′ ≡ pageAfter 32 bytes page
+    pub applied-page : (page′ : List ℕ) → r ≡ 0 → page′ ≡ applied pageWidth bytes page → page′ ≡ pageAfter pageWidth bytes page
     unfolding pageAfter applyRefusal
-    applied-page page′ z e = e ∙ rw (eq-eqb _ _ whole, eq-eqb (readRefusal 32 bytes) 0 (sym is ∙ z))
+    applied-page page′ z e = e ∙ rw (eq-eqb _ _ whole, eq-eqb (readRefusal pageWidth bytes) 0 (sym is ∙ z))
 
 pub ruleset apply-laws = (four-bytes, laying-run-begins, laying-run-more, laying-run-ends, one-word-there, one-word-on-page, one-word-laid, laying-begins, next-there, laying-more, run-there, words-end, run-laid, laying-ends, first-byte, page-length-refused, page-length-untouched, string-refused, string-untouched, applicable, applied-accepted, applied-page, needs)

@@ -1,5 +1,5 @@
 -- Document 01's starred bench cases G to L, of the definitions. Words that the document leaves open are any words. Assumes nothing.
-use Prim.Native.Nat.{ℕ, _+_, _*_, _≤_}
+use Prim.Native.Nat.{ℕ, _+_, _≤_}
 use native.Mathlib.Omega.{arith}
 use mathlib.Core.Path.{_≡_, refl, ap}
 use mathlib.Core.Bool.{false}
@@ -8,6 +8,8 @@ use mathlib.Core.List.{List, [], _∷_, _++_}
 use lib.ListN.{length, take, replicate}
 use lib.Dec.{lit≤}
 use borrow.Author.Tests.{eq-eqb, ne-eqb, le-ltb}
+use Rattle.limits.specs.Limits.{pageWidth}
+use Rattle.limits.specs.Sizes.{runLimit}
 use Rattle.diff.specs.Format.{setting, difference, ended, runsFrom, runs, setWords, pairBytes, wordBytes, wordsBytes, bytesOf, written}
 use Rattle.diff.specs.Reading.{runCount, mostRuns, runsAt, runsIn, wordsPlace, wordCount, pairHolds, orderly, pairsRefusal, readRefusal}
 use Rattle.diff.proofs.Legal.{read-when-legal}
@@ -39,26 +41,26 @@ case-H = equal-pages
 -- ---- *I: pairs (0,1), (1,1): 12. *J: (0,2), (3,1): fine. *K: (31,2): 12. *L: (31,1): fine
 
 -- where the pairs are whole and one of them breaks its rule the refusal is 12
-broken-pair : (bytes : List ℕ) → 1 ≤ length bytes → runCount bytes ≤ 16 → wordsPlace bytes ≤ length bytes → orderly 32 0 (runsIn bytes) ≡ false → readRefusal 32 bytes ≡ 12
+broken-pair : (bytes : List ℕ) → 1 ≤ length bytes → runCount bytes ≤ runLimit → wordsPlace bytes ≤ length bytes → orderly pageWidth 0 (runsIn bytes) ≡ false → readRefusal pageWidth bytes ≡ 12
 unfolding readRefusal pairsRefusal mostRuns
 broken-pair bytes some-bytes few whole broken =
-    rw (ne-eqb (length bytes) 0 (λ e. omega (arith, e, some-bytes)), le-ltb 16 (runCount bytes) few, le-ltb (length bytes) (wordsPlace bytes) whole, broken)
+    rw (ne-eqb (length bytes) 0 (λ e. omega (arith, e, some-bytes)), le-ltb runLimit (runCount bytes) few, le-ltb (length bytes) (wordsPlace bytes) whole, broken)
 
-pub case-I : (words : List ℕ) → readRefusal 32 (2 ∷ 0 ∷ 1 ∷ 1 ∷ 1 ∷ words) ≡ 12
+pub case-I : (words : List ℕ) → readRefusal pageWidth (2 ∷ 0 ∷ 1 ∷ 1 ∷ 1 ∷ words) ≡ 12
 unfolding runCount wordsPlace runsIn runsAt orderly pairHolds
 case-I words = broken-pair (2 ∷ 0 ∷ 1 ∷ 1 ∷ 1 ∷ words) (omega arith) (lit≤ tt) (omega arith) refl
 
-pub case-J : (words : List ℕ) → length words ≡ 12 → readRefusal 32 (2 ∷ 0 ∷ 2 ∷ 3 ∷ 1 ∷ words) ≡ 0
+pub case-J : (words : List ℕ) → length words ≡ 12 → readRefusal pageWidth (2 ∷ 0 ∷ 2 ∷ 3 ∷ 1 ∷ words) ≡ 0
 unfolding mostRuns runCount wordsPlace runsIn runsAt orderly pairHolds wordCount
 case-J words l =
-    read-when-legal 32 (2 ∷ 0 ∷ 2 ∷ 3 ∷ 1 ∷ words)
+    read-when-legal pageWidth (2 ∷ 0 ∷ 2 ∷ 3 ∷ 1 ∷ words)
     (record { not-empty = omega arith; few-runs = lit≤ tt; pairs-whole = omega arith; in-order = refl; exact = omega arith })
 
-pub case-K : (words : List ℕ) → readRefusal 32 (1 ∷ 31 ∷ 2 ∷ words) ≡ 12
+pub case-K : (words : List ℕ) → readRefusal pageWidth (1 ∷ 31 ∷ 2 ∷ words) ≡ 12
 unfolding runCount wordsPlace runsIn runsAt orderly pairHolds
 case-K words = broken-pair (1 ∷ 31 ∷ 2 ∷ words) (omega arith) (lit≤ tt) (omega arith) refl
 
-pub case-L : (words : List ℕ) → length words ≡ 4 → readRefusal 32 (1 ∷ 31 ∷ 1 ∷ words) ≡ 0
+pub case-L : (words : List ℕ) → length words ≡ 4 → readRefusal pageWidth (1 ∷ 31 ∷ 1 ∷ words) ≡ 0
 unfolding mostRuns runCount wordsPlace runsIn runsAt orderly pairHolds wordCount
 case-L words l =
-    read-when-legal 32 (1 ∷ 31 ∷ 1 ∷ words) (record { not-empty = omega arith; few-runs = lit≤ tt; pairs-whole = omega arith; in-order = refl; exact = omega arith })
+    read-when-legal pageWidth (1 ∷ 31 ∷ 1 ∷ words) (record { not-empty = omega arith; few-runs = lit≤ tt; pairs-whole = omega arith; in-order = refl; exact = omega arith })

@@ -8,21 +8,23 @@ use lib.ListN.{length, getD}
 use lib.Dec.{leb, eqb}
 use borrow.Author.Needs.{needs}
 use borrow.Author.Tests.{leb-true, lt-leb, le-leb, lt-ltb, le-ltb, eq-eqb, ne-eqb, not-true, not-false}
+use Rattle.limits.specs.Limits.{pageWidth}
+use Rattle.limits.specs.Sizes.{runLimit}
 use Rattle.diff.specs.Format.{Run}
 use Rattle.diff.specs.Reading.{runCount, mostRuns, runsAt, runsIn, wordsPlace, wordCount, pairHolds, orderly, pairsRefusal, readRefusal}
 use Rattle.diff.specs.Needed.{PairsThere}
 
 -- ---- one pair
 
-pub offset-too-low : (from offset len : ℕ) → offset < from → false ≡ pairHolds 32 from offset len
+pub offset-too-low : (from offset len : ℕ) → offset < from → false ≡ pairHolds pageWidth from offset len
 unfolding pairHolds
 offset-too-low from offset len h = rw (lt-leb from offset h)
 
-pub no-words-in-run : (from offset len : ℕ) → from ≤ offset → len ≡ 0 → false ≡ pairHolds 32 from offset len
+pub no-words-in-run : (from offset len : ℕ) → from ≤ offset → len ≡ 0 → false ≡ pairHolds pageWidth from offset len
 unfolding pairHolds
 no-words-in-run from offset len h e = rw (le-leb from offset h, e)
 
-pub pair-on-page : (from offset len : ℕ) → from ≤ offset → (len ≡ 0 → ⊥) → leb (offset + len) 32 ≡ pairHolds 32 from offset len
+pub pair-on-page : (from offset len : ℕ) → from ≤ offset → (len ≡ 0 → ⊥) → leb (offset + len) pageWidth ≡ pairHolds pageWidth from offset len
 unfolding pairHolds
 pair-on-page from offset len h e = rw (le-leb from offset h, le-leb 1 len (omega arith))
 
@@ -30,12 +32,12 @@ pair-on-page from offset len h e = rw (le-leb from offset h, le-leb 1 len (omega
 pub record Holds (from offset len : ℕ) : Type 0 where
   pub above : from ≤ offset
   pub some-words : 1 ≤ len
-  pub within : offset + len ≤ 32
+  pub within : offset + len ≤ pageWidth
 
-holds : (from offset len : ℕ) → pairHolds 32 from offset len ≡ true → Holds from offset len
+holds : (from offset len : ℕ) → pairHolds pageWidth from offset len ≡ true → Holds from offset len
 unfolding pairHolds
 holds from offset len h =
-    let both = and-eq-true-iff (leb from offset && leb 1 len) (leb (offset + len) 32) .0 h in
+    let both = and-eq-true-iff (leb from offset && leb 1 len) (leb (offset + len) pageWidth) .0 h in
     let two = and-eq-true-iff (leb from offset) (leb 1 len) .0 (both .0) in
     record { above = leb-true _ _ (two .0); some-words = leb-true _ _ (two .1); within = leb-true _ _ (both .1) }
 
@@ -45,9 +47,9 @@ holds from offset len h =
 pub record Checking (bytes : List ℕ) (n at left from end : ℕ) : Type 0 where
   pub there : PairsThere bytes n
   pub place : at + 2 * left ≡ 1 + 2 * n
-  pub room : end + 128 * left ≤ 2081
-  pub low : from ≤ 33
-  pub same : pairsRefusal 32 bytes 0 (1 + 2 * n) (runsAt bytes 1 n) ≡ pairsRefusal 32 bytes from end (runsAt bytes at left)
+  pub room : end + 4 * pageWidth * left ≤ 1 + (2 + 4 * pageWidth) * runLimit
+  pub low : from ≤ pageWidth + 1
+  pub same : pairsRefusal pageWidth bytes 0 (1 + 2 * n) (runsAt bytes 1 n) ≡ pairsRefusal pageWidth bytes from end (runsAt bytes at left)
 
 pub checking-begins : (bytes : List ℕ) (n : ℕ) → PairsThere bytes n → Checking bytes n 1 n 0 (1 + 2 * n)
 checking-begins bytes n p = record { there = p; place = refl; room = omega arith; low = omega arith; same = refl }
@@ -61,12 +63,12 @@ runs-left bytes at (suc k) h =
     let e : k ≡ suc k - 1 = omega arith in
     ap (λ (m : ℕ). record { offset = getD bytes at 0; len = getD bytes (at + 1) 0 } ∷ runsAt bytes (at + 2) m) e
 
-refusal-broken : (bytes : List ℕ) (from end : ℕ) (r : Run) (rs : List Run) → pairHolds 32 from (r .offset) (r .len) ≡ false → pairsRefusal 32 bytes from end (r ∷ rs) ≡ 12
+refusal-broken : (bytes : List ℕ) (from end : ℕ) (r : Run) (rs : List Run) → pairHolds pageWidth from (r .offset) (r .len) ≡ false → pairsRefusal pageWidth bytes from end (r ∷ rs) ≡ 12
 unfolding pairsRefusal orderly
 refusal-broken bytes from end r rs h = rw h
 
-refusal-onward : (bytes : List ℕ) (from end : ℕ) (r : Run) (rs : List Run) → pairHolds 32 from (r .offset) (r .len) ≡ true
-    → pairsRefusal 32 bytes from end (r ∷ rs) ≡ pairsRefusal 32 bytes (r .offset + r .len + 1) (end + 4 * r .len) rs
+refusal-onward : (bytes : List ℕ) (from end : ℕ) (r : Run) (rs : List Run) → pairHolds pageWidth from (r .offset) (r .len) ≡ true
+    → pairsRefusal pageWidth bytes from end (r ∷ rs) ≡ pairsRefusal pageWidth bytes (r .offset + r .len + 1) (end + 4 * r .len) rs
 unfolding pairsRefusal orderly wordCount
 refusal-onward bytes from end r rs h =
     let e : end + 4 * (r .len + wordCount rs) ≡ end + 4 * r .len + 4 * wordCount rs = omega arith in
@@ -75,17 +77,17 @@ refusal-onward bytes from end r rs h =
 module _ (bytes : List ℕ) (n at left from end offset len : ℕ) (holds? : Bool) where
   -- a pair that breaks its rule is refused
   pub checking-broken : Checking bytes n at left from end → 0 < left → offset ≡ getD bytes at 0 → len ≡ getD bytes (at + 1) 0
-      → holds? ≡ pairHolds 32 from offset len → not holds? ≡ true → 12 ≡ pairsRefusal 32 bytes 0 (1 + 2 * n) (runsAt bytes 1 n)
+      → holds? ≡ pairHolds pageWidth from offset len → not holds? ≡ true → 12 ≡ pairsRefusal pageWidth bytes 0 (1 + 2 * n) (runsAt bytes 1 n)
   checking-broken p more o k h t =
-      let broken : pairHolds 32 from (getD bytes at 0) (getD bytes (at + 1) 0) ≡ false = rw (← o, ← k, ← h) (not-true holds? t) in
-      sym (p .same ∙ ap (λ (rs : List Run). pairsRefusal 32 bytes from end rs) (runs-left bytes at left more)
+      let broken : pairHolds pageWidth from (getD bytes at 0) (getD bytes (at + 1) 0) ≡ false = rw (← o, ← k, ← h) (not-true holds? t) in
+      sym (p .same ∙ ap (λ (rs : List Run). pairsRefusal pageWidth bytes from end rs) (runs-left bytes at left more)
       ∙ refusal-broken bytes from end _ (runsAt bytes (at + 2) (left - 1)) broken)
 
   -- after a pair that keeps its rule the next one is read
   pub checking-more : Checking bytes n at left from end → 0 < left → offset ≡ getD bytes at 0 → len ≡ getD bytes (at + 1) 0
-      → holds? ≡ pairHolds 32 from offset len → not holds? ≡ false → Checking bytes n (at + 2) (left - 1) (offset + len + 1) (end + 4 * len)
+      → holds? ≡ pairHolds pageWidth from offset len → not holds? ≡ false → Checking bytes n (at + 2) (left - 1) (offset + len + 1) (end + 4 * len)
   checking-more p more o k h t =
-      let kept : pairHolds 32 from offset len ≡ true = sym h ∙ not-false holds? t in
+      let kept : pairHolds pageWidth from offset len ≡ true = sym h ∙ not-false holds? t in
       let fact = holds from offset len kept in
       record {
         there = p .there;
@@ -94,43 +96,43 @@ module _ (bytes : List ℕ) (n at left from end offset len : ℕ) (holds? : Bool
         low = omega (arith, fact .within);
         same =
             rw (o, k)
-            (p .same ∙ ap (λ (rs : List Run). pairsRefusal 32 bytes from end rs) (runs-left bytes at left more)
+            (p .same ∙ ap (λ (rs : List Run). pairsRefusal pageWidth bytes from end rs) (runs-left bytes at left more)
             ∙ refusal-onward bytes from end _ (runsAt bytes (at + 2) (left - 1)) (rw (← o, ← k) kept));
       }
 
 module _ (bytes : List ℕ) (n at left from end : ℕ) where
-  last : left ≤ 0 → pairsRefusal 32 bytes from end (runsAt bytes at left) ≡ cond (not (eqb (length bytes) end)) 11 0
+  last : left ≤ 0 → pairsRefusal pageWidth bytes from end (runsAt bytes at left) ≡ cond (not (eqb (length bytes) end)) 11 0
   unfolding pairsRefusal runsAt orderly wordCount
   last h = let e : left ≡ 0 = omega arith in let z : end + 4 * 0 ≡ end = omega arith in rw (e, z)
 
   -- after the last pair the total length decides
-  pub length-exact : Checking bytes n at left from end → left ≤ 0 → length bytes ≡ end → 0 ≡ pairsRefusal 32 bytes 0 (1 + 2 * n) (runsAt bytes 1 n)
+  pub length-exact : Checking bytes n at left from end → left ≤ 0 → length bytes ≡ end → 0 ≡ pairsRefusal pageWidth bytes 0 (1 + 2 * n) (runsAt bytes 1 n)
   length-exact p none e = sym (p .same ∙ last none ∙ rw (eq-eqb _ _ e))
 
-  pub length-not-exact : Checking bytes n at left from end → left ≤ 0 → (length bytes ≡ end → ⊥) → 11 ≡ pairsRefusal 32 bytes 0 (1 + 2 * n) (runsAt bytes 1 n)
+  pub length-not-exact : Checking bytes n at left from end → left ≤ 0 → (length bytes ≡ end → ⊥) → 11 ≡ pairsRefusal pageWidth bytes 0 (1 + 2 * n) (runsAt bytes 1 n)
   length-not-exact p none e = sym (p .same ∙ last none ∙ rw (ne-eqb _ _ e))
 
 -- ---- the whole byte string
 
 module _ (bytes : List ℕ) where
-  pub empty-string : length bytes ≡ 0 → 11 ≡ readRefusal 32 bytes
+  pub empty-string : length bytes ≡ 0 → 11 ≡ readRefusal pageWidth bytes
   unfolding readRefusal
   empty-string e = rw (eq-eqb _ _ e)
 
   module _ (some-bytes : length bytes ≡ 0 → ⊥) (n : ℕ) (is : n ≡ getD bytes 0 0) where
-    pub too-many-runs : 16 < n → 11 ≡ readRefusal 32 bytes
+    pub too-many-runs : runLimit < n → 11 ≡ readRefusal pageWidth bytes
     unfolding readRefusal mostRuns runCount
-    too-many-runs h = rw (ne-eqb _ _ some-bytes, ← is, lt-ltb 16 n h)
+    too-many-runs h = rw (ne-eqb _ _ some-bytes, ← is, lt-ltb runLimit n h)
 
-    pub ends-within-pairs : n ≤ 16 → length bytes < 1 + 2 * n → 11 ≡ readRefusal 32 bytes
+    pub ends-within-pairs : n ≤ runLimit → length bytes < 1 + 2 * n → 11 ≡ readRefusal pageWidth bytes
     unfolding readRefusal mostRuns runCount wordsPlace
-    ends-within-pairs m h = rw (ne-eqb _ _ some-bytes, ← is, le-ltb 16 n m, lt-ltb _ _ h)
+    ends-within-pairs m h = rw (ne-eqb _ _ some-bytes, ← is, le-ltb runLimit n m, lt-ltb _ _ h)
 
-    pub pairs-decide : (r : ℕ) → n ≤ 16 → 1 + 2 * n ≤ length bytes → r ≡ pairsRefusal 32 bytes 0 (1 + 2 * n) (runsAt bytes 1 n) → r ≡ readRefusal 32 bytes
+    pub pairs-decide : (r : ℕ) → n ≤ runLimit → 1 + 2 * n ≤ length bytes → r ≡ pairsRefusal pageWidth bytes 0 (1 + 2 * n) (runsAt bytes 1 n) → r ≡ readRefusal pageWidth bytes
     unfolding readRefusal mostRuns runCount wordsPlace runsIn
-    pairs-decide r m h e = e ∙ rw (ne-eqb _ _ some-bytes, ← is, le-ltb 16 n m, le-ltb _ _ h)
+    pairs-decide r m h e = e ∙ rw (ne-eqb _ _ some-bytes, ← is, le-ltb runLimit n m, le-ltb _ _ h)
 
-pub pairs-there : (bytes : List ℕ) (n : ℕ) → n ≤ 16 → 1 + 2 * n ≤ length bytes → PairsThere bytes n
+pub pairs-there : (bytes : List ℕ) (n : ℕ) → n ≤ runLimit → 1 + 2 * n ≤ length bytes → PairsThere bytes n
 pairs-there bytes n f w = record { few = f; within = w }
 
 pub ruleset check-laws = (offset-too-low, no-words-in-run, pair-on-page, checking-begins, checking-broken, checking-more, length-exact, length-not-exact, empty-string, too-many-runs, ends-within-pairs, pairs-decide, pairs-there, needs)

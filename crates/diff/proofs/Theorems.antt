@@ -10,6 +10,8 @@ use lib.ListN.{length, getD, replicate, length-map}
 use lib.Seq.{ext-getD}
 use lib.Dec.{eqb, lit<, eqb·suc-zero, eqb·zero-suc}
 use borrow.Author.Tests.{eq-eqb, eqb-true}
+use Rattle.limits.specs.Limits.{pageWidth}
+use Rattle.limits.specs.Sizes.{diffLimit, runLimit}
 use Rattle.diff.specs.Format.{Below, Run, setting, difference, runs, runsFrom, ended, setWords, pairBytes, wordsBytes, bytesOf, written}
 use Rattle.diff.specs.Reading.{readRefusal, runsIn, wordsPlace, wordsAt, wordCount, settings, settingAt, overlay, applied}
 use Rattle.diff.proofs.Runs.{runs-gap, words-gap, length-settings, words-of-settings, orderly-bound, orderly-count, pairs-are-bytes}
@@ -213,11 +215,11 @@ written-are-bytes w old new l h k =
 
 -- ---- the numbers of document 01: pages of 32 words
 
-pub at-most-16-runs : (old new : List ℕ) → length old ≡ 32 → length new ≡ 32 → length (runs (difference old new)) ≤ 16
-at-most-16-runs old new h k = omega (arith, at-most-half-as-many-runs 32 old new h k)
+pub at-most-16-runs : (old new : List ℕ) → length old ≡ pageWidth → length new ≡ pageWidth → length (runs (difference old new)) ≤ runLimit
+at-most-16-runs old new h k = omega (arith, at-most-half-as-many-runs pageWidth old new h k)
 
-pub at-most-131-bytes : (old new : List ℕ) → length old ≡ 32 → length new ≡ 32 → length (written old new) ≤ 131
-at-most-131-bytes old new h k = omega (arith, at-most-bytes 32 old new h k)
+pub at-most-131-bytes : (old new : List ℕ) → length old ≡ pageWidth → length new ≡ pageWidth → length (written old new) ≤ diffLimit
+at-most-131-bytes old new h k = omega (arith, at-most-bytes pageWidth old new h k)
 
 -- ---- 5. what applying does to one word: the value set there, or the word as it was
 

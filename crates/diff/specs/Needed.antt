@@ -4,17 +4,19 @@ use Prim.Native.Nat.{ℕ, _+_, _*_, _≤_}
 use mathlib.Core.Path.{_≡_}
 use mathlib.Core.List.{List}
 use lib.ListN.{length, getD}
+use Rattle.limits.specs.Limits.{pageWidth}
+use Rattle.limits.specs.Sizes.{runLimit}
 use Rattle.diff.specs.Reading.{readRefusal}
 
 -- the n pairs lie within the bytes
 pub record PairsThere (bytes : List ℕ) (n : ℕ) : Type 0 where
-  pub few : n ≤ 16
+  pub few : n ≤ runLimit
   pub within : 1 + 2 * n ≤ length bytes
 
 -- the bytes are a diff and the page has 32 words
 pub record Applicable (bytes page : List ℕ) : Type 0 where
-  pub accepted : readRefusal 32 bytes ≡ 0
-  pub page-whole : length page ≡ 32
+  pub accepted : readRefusal pageWidth bytes ≡ 0
+  pub page-whole : length page ≡ pageWidth
 
 -- a pair lies within the bytes, and so do the words of its run; the run lies within the page
 pub record NextThere (bytes page : List ℕ) (at words : ℕ) : Type 0 where

@@ -4,9 +4,12 @@ ghost use mathlib.Core.Path.{_≡_};
 ghost use Prim.Native.Nat.{_+_, _*_, _<_, _≤_};
 ghost use lib.ListN.{length, getD};
 ghost use lib.Seq.{sets};
+ghost use Rattle.limits.specs.Limits.{pageWidth};
 ghost use Rattle.diff.specs.Reading.{runsAt, wordAt, wordsAt, pairHolds, pairsRefusal, readRefusal, applied};
 ghost use Rattle.diff.specs.Answers.{applyRefusal, pageAfter};
 ghost use Rattle.diff.specs.Needed.{PairsThere, Applicable, NextThere, RunThere};
+use limits::PAGE_WIDTH;
+use limits::RUN_LIMIT;
 
 // What applying a diff answers: the number of a refusal, or 0.
 pub struct Applied {
@@ -15,13 +18,13 @@ pub struct Applied {
 
 // The refusal of a byte string that is to be read as a diff, or 0.
 pub fn check(bytes: &[u8]) -> u8
-    ensures { λ r. ⌜ r ≡ readRefusal 32 (now (bytes .entry)) ⌝ }
+    ensures { λ r. ⌜ r ≡ readRefusal pageWidth (now (bytes .entry)) ⌝ }
 {
     if bytes.len() == 0 {
         return 11;
     }
     let n = wide(bytes[0]);
-    if 16 < n {
+    if RUN_LIMIT < n {
         return 11;
     }
     if bytes.len() < 1 + 2 * n {
@@ -33,7 +36,7 @@ pub fn check(bytes: &[u8]) -> u8
 // The refusal of the n pairs and of the total length, or 0.
 fn check_pairs(bytes: &[u8], n: usize) -> u8
     requires { ⌜ PairsThere (now bytes) n ⌝ }
-    ensures { λ r. ⌜ r ≡ pairsRefusal 32 (now (bytes .entry)) 0 (1 + 2 * n) (runsAt (now (bytes .entry)) 1 n) ⌝ }
+    ensures { λ r. ⌜ r ≡ pairsRefusal pageWidth (now (bytes .entry)) 0 (1 + 2 * n) (runsAt (now (bytes .entry)) 1 n) ⌝ }
 {
     let mut at: usize = 1;
     let mut left = n;
@@ -56,7 +59,7 @@ fn check_pairs(bytes: &[u8], n: usize) -> u8
 // Whether a pair keeps its rule where no smaller offset than `from` may stand.
 fn pair_holds(from: usize, offset: usize, len: usize) -> bool
     requires { ⌜ (offset < 256) × (len < 256) ⌝ }
-    ensures { λ r. ⌜ r ≡ pairHolds 32 from offset len ⌝ }
+    ensures { λ r. ⌜ r ≡ pairHolds pageWidth from offset len ⌝ }
 {
     if offset < from {
         return false;
@@ -64,15 +67,15 @@ fn pair_holds(from: usize, offset: usize, len: usize) -> bool
     if len == 0 {
         return false;
     }
-    offset + len <= 32
+    offset + len <= PAGE_WIDTH
 }
 
 // Carries a diff out on a page.
 pub fn apply(bytes: &[u8], page: &mut [u32]) -> Applied
-    ensures answer { λ r. ⌜ r .refusal ≡ applyRefusal 32 (now (bytes .entry)) (now (page .entry)) ⌝ }
-    ensures memory { λ r. ⌜ now (page .exit) ≡ pageAfter 32 (now (bytes .entry)) (now (page .entry)) ⌝ }
+    ensures answer { λ r. ⌜ r .refusal ≡ applyRefusal pageWidth (now (bytes .entry)) (now (page .entry)) ⌝ }
+    ensures memory { λ r. ⌜ now (page .exit) ≡ pageAfter pageWidth (now (bytes .entry)) (now (page .entry)) ⌝ }
 {
-    if page.len() != 32 {
+    if page.len() != PAGE_WIDTH {
         return Applied { refusal: 14 };
     }
     let refusal = check(bytes);
@@ -86,7 +89,7 @@ pub fn apply(bytes: &[u8], page: &mut [u32]) -> Applied
 // Carries a diff out on a page where both are known to be legal: the words of every run, laid into the page.
 pub fn lay(bytes: &[u8], page: &mut [u32])
     requires { ⌜ Applicable (now bytes) (now page) ⌝ }
-    ensures { λ _. ⌜ now (page .exit) ≡ applied 32 (now (bytes .entry)) (now (page .entry)) ⌝ }
+    ensures { λ _. ⌜ now (page .exit) ≡ applied pageWidth (now (bytes .entry)) (now (page .entry)) ⌝ }
 {
     let n = wide(bytes[0]);
     let mut at: usize = 1;

@@ -17,7 +17,8 @@ use Rattle.checking.specs.Areas.{areasInOrder}
 use Rattle.acting.specs.declared.Outcome.{Outcome}
 use Rattle.acting.specs.declared.Outcome.the-variants.{Refused}
 use Rattle.acting.specs.Outcomes.{outcomeOf}
-use Rattle.engine.specs.Promises.{answerOf, areasAfter, OrderIs, SteppedAs}
+use Rattle.engine.specs.Promises.{answerOf, areasAfter}
+use Rattle.engine.specs.Needed.{OrderIs, SteppedAs}
 
 -- ---- in order or not
 

@@ -1,21 +1,33 @@
 -- A step on memory in order: refused or done as the rules say. One law for each way of the code, and `stepping-laws`. Assumes nothing.
-use Prim.Native.Nat.{ℕ}
-use mathlib.Core.Path.{_≡_, sym, ap, _∙_}
+use Prim.Native.Nat.{ℕ, zero, suc, _<_}
+use native.Mathlib.Omega.{arith}
+use mathlib.Core.Path.{_≡_, refl, sym, ap, _∙_}
 use mathlib.Core.Bool.{Bool, true, false, cond}
-use mathlib.Core.List.{List}
+use mathlib.Core.List.{List, []}
+use lib.ListN.{length, List·getD-eq-default}
 use borrow.Author.Tests.{eq-eqb, ne-eqb}
 use borrow.Author.Needs.{needs}
-use Rattle.rules.specs.Refusals.{Step, stepOf, Answer, refusedAs, actionOf, effect, refusalInOrder, answerInOrder, nextInOrder, answer}
-use Rattle.rules.specs.State.{mainframe, State}
+use Rattle.limits.specs.Limits.{processorLimit}
+use Rattle.limits.specs.Sizes.{clockArea, clockWidth}
+use Rattle.clock.specs.Clocks.{entryOf}
+use Rattle.rules.specs.Refusals.{Step, stepOf, Answer, refusedAs, actionOf, effect, refusalBy, refusalInOrder, answerInOrder, nextInOrder, answer}
+use Rattle.rules.specs.State.{mainframe, Processor, State, clockOf, clock, own}
 use Rattle.rules.proofs.Kept.{next-keeps-order}
-use Rattle.memory.specs.Areas.{stateIn, Areas, areas, heldBy, holding, rightSizes}
-use Rattle.memory.specs.Needed.{Ready}
+use Rattle.memory.specs.Areas.{clockRow, clocksIn, stateIn, Areas, areas, heldBy, holding, rightSizes}
+use Rattle.memory.specs.Layout.{rowOf, perProcessor}
+use Rattle.memory.specs.Needed.{Ready, OwnEntry}
 use Rattle.memory.proofs.Encoding.{held-again, holding-is}
+use Rattle.memory.proofs.RowLaws.{length-tabulate}
+use Rattle.refusals.specs.Parts.{seen}
+use Rattle.refusals.proofs.Refusing.{counted-when-ready, table-decides}
 use Rattle.acting.specs.declared.Outcome.{Outcome}
 use Rattle.acting.specs.declared.Outcome.the-variants.{Refused}
-use Rattle.acting.specs.Outcomes.{told, outcomeOf, DoneAs}
+use Rattle.acting.specs.Telling.{told}
+use Rattle.acting.specs.Outcomes.{outcomeOf}
+use Rattle.acting.specs.Needed.{DoneAs}
 use Rattle.acting.proofs.Telling.{told-refused, told-in-state}
-use Rattle.engine.specs.Promises.{answerOf, RefusalIs, SteppedAs}
+use Rattle.engine.specs.Promises.{answerOf}
+use Rattle.engine.specs.Needed.{RefusalIs, SteppedAs}
 
 -- ---- an outcome tells the answer of its step
 
@@ -51,9 +63,37 @@ refused-outcome : (n : ℕ) → (n ≡ 0 → ⊥) → Refused n ≡ outcomeOf (r
 unfolding outcomeOf refusedAs
 refused-outcome n z = rw (ne-eqb n 0 z)
 
+-- ---- the refusal by the own entry and the marks
+
+-- no processor is numbered 0: its entry is 0
+pub own-of-nobody : (c : List ℕ) (p : ℕ) → p ≡ 0 → OwnEntry c p 0
+unfolding own entryOf
+own-of-nobody c p e = record { is = λ w r m. rw e }
+
+-- nor above the processors of the tables
+pub own-of-absent : (c : List ℕ) (p : ℕ) → processorLimit < p → OwnEntry c p 0
+unfolding own entryOf clock clockOf stateIn clocksIn perProcessor mainframe
+own-of-absent c p h = record { is = λ w r m. sym (ap (λ (l : List ℕ). entryOf l p) no-row ∙ entry-of-none p) }
+  where
+    entry-of-none : (q : ℕ) → entryOf [] q ≡ 0
+    entry-of-none zero = refl
+    entry-of-none (suc q) = refl
+
+    no-row : clockOf (clocksIn mainframe c) (Processor p) ≡ []
+    no-row =
+        let rows : length (clocksIn mainframe c .processors) ≡ suc processorLimit =
+        ap suc (length-tabulate processorLimit (λ k. rowOf clockWidth c (clockRow mainframe (Processor (suc k))))) in
+        List·getD-eq-default (clocksIn mainframe c .processors) [] {n = p} (omega (arith, rows, h))
+
+-- the clocks have their size, and the marks count what they may
+pub clocks-long : (c w r m : List ℕ) → Ready c w r m → length c ≡ clockArea
+clocks-long c w r m h = h .lent .clocks
+
 -- the refusal of the step with these fields
-pub refusal-asked : (s : State) (k p o v n : ℕ) → n ≡ refusalInOrder mainframe s (stepOf k p o v) → RefusalIs s (stepOf k p o v) n
-refusal-asked s k p o v n e = record { is = e }
+pub refusal-asked : (c w r m : List ℕ) (k p o v n e : ℕ) → n ≡ refusalBy mainframe (seen m) e (stepOf k p o v) → OwnEntry c p e
+    → RefusalIs (stateIn mainframe c w r m) (stepOf k p o v) n
+unfolding stepOf
+refusal-asked c w r m k p o v n e i h = record { is = table-decides c w r m (stepOf k p o v) e n i (h .is w r m) }
 
 module _ (c w r m : List ℕ) (k p o v n : ℕ) (h : Ready c w r m) (e : RefusalIs (stateIn mainframe c w r m) (stepOf k p o v) n) where
   -- a refused step leaves every area as it was
@@ -95,4 +135,4 @@ refused-leaves-areas c w r m t n x c′ w′ r′ m′ h e z d =
     ∙ ap (λ (s : State). holding s) (refused-next (stateIn mainframe c w r m) t n (e .is) z)
     ∙ held-again c w r m (h .lent)
 
-pub ruleset stepping-laws = (refusal-asked, step-refused, step-done, needs)
+pub ruleset stepping-laws = (own-of-nobody, own-of-absent, clocks-long, counted-when-ready, refusal-asked, step-refused, step-done, needs)

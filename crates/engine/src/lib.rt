@@ -1,14 +1,19 @@
 // The engine: a step on the four areas of lent memory that hold the state of one mainframe.
 // Every contract determines the answer and what each area holds afterwards, by an equation with a definition of the rules.
 ghost use mathlib.Core.Path.{_≡_};
+ghost use lib.ListN.{length};
+ghost use Rattle.limits.specs.Sizes.{clockArea};
 ghost use Rattle.rules.specs.State.{mainframe};
 ghost use Rattle.rules.specs.Refusals.{stepOf};
 ghost use Rattle.memory.specs.Areas.{stateIn, areas};
-ghost use Rattle.memory.specs.Needed.{Ready};
+ghost use Rattle.memory.specs.Needed.{Ready, OwnEntry};
 ghost use Rattle.acting.specs.Outcomes.{outcomeOf};
-ghost use Rattle.engine.specs.Promises.{answerOf, areasAfter, OrderIs, RefusalIs, SteppedAs};
+ghost use Rattle.engine.specs.Promises.{answerOf, areasAfter};
+ghost use Rattle.engine.specs.Needed.{OrderIs, RefusalIs, SteppedAs};
 use acting::Outcome;
 use clock::ProcessorId;
+use limits::PROCESSOR_LIMIT;
+use memory::own_entry;
 
 // A step on areas of any sizes and contents: 1 where they are not in order, else what the step answers and does.
 pub fn step(
@@ -99,14 +104,20 @@ pub fn refusal_of(
     requires { ⌜ Ready (now clocks) (now words) (now records) (now marks) ⌝ }
     ensures { λ r. ⌜ RefusalIs (stateIn mainframe (now (clocks .entry)) (now (words .entry)) (now (records .entry)) (now (marks .entry))) (stepOf kind processor object value) r ⌝ }
 {
-    refusals::refusal(
-        kind,
-        processor,
-        object,
-        value,
-        clocks,
-        words,
-        records,
-        marks,
-    )
+    let own = own_if_there(clocks, ProcessorId(processor as usize));
+    refusals::refusal(kind, processor, object, value, own, marks)
+}
+
+// The own entry of a processor, or 0 where the tables have no place for it.
+fn own_if_there(clocks: &[u8], p: ProcessorId) -> u8
+    requires { ⌜ length (now clocks) ≡ clockArea ⌝ }
+    ensures { λ r. ⌜ OwnEntry (now (clocks .entry)) (p .0) r ⌝ }
+{
+    if p.0 == 0 {
+        return 0;
+    }
+    if PROCESSOR_LIMIT < p.0 {
+        return 0;
+    }
+    own_entry(clocks, p)
 }

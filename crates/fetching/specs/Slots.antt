@@ -1,8 +1,10 @@
 -- The records in the area of the slots, and those that a fetch applies. Assumes nothing.
-use Prim.Native.Nat.{ℕ, _+_, _-_, _*_}
+use Prim.Native.Nat.{ℕ, _+_, _*_}
 use mathlib.Core.List.{List, map}
 use lib.Seq.{sets}
 use lib.Dec.{ltb}
+use Rattle.limits.specs.Limits.{pageWidth}
+use Rattle.limits.specs.Sizes.{slotBase}
 use Rattle.diff.specs.Reading.{applied}
 use Rattle.rules.specs.Fetch.{appliedAll}
 use Rattle.rules.specs.State.{mainframe, Record}
@@ -18,7 +20,7 @@ dueIn c r n p g = dueOf (clocksIn mainframe c) p g (tabulate n (λ i. recordOf r
 
 -- the key of the record in slot i and the slot as one number: slots are below 128
 unfoldable pub numberIn : List ℕ → List ℕ → ℕ → ℕ
-numberIn c r i = keyOf (clocksIn mainframe c) (recordOf r i) * 128 + i
+numberIn c r i = keyOf (clocksIn mainframe c) (recordOf r i) * slotBase + i
 
 -- the numbers of the pending records in the first n slots, upwards
 unfoldable pub numbersIn : List ℕ → List ℕ → List ℕ → List ℕ → ℕ → ℕ → ℕ → List ℕ
@@ -26,8 +28,8 @@ numbersIn c r applied known p g n = sortBy ltb (map (λ i. numberIn c r i) (slot
 
 -- the words with a diff applied to the page in a row
 unfoldable pub diffLaid : List ℕ → ℕ → List ℕ → List ℕ
-diffLaid w row bytes = sets w (32 * row) (applied 32 bytes (rowOf 32 w row))
+diffLaid w row bytes = sets w (pageWidth * row) (applied pageWidth bytes (rowOf pageWidth w row))
 
 -- the words with the records applied to the page in a row
 unfoldable pub rowApplied : List ℕ → ℕ → List Record → List ℕ
-rowApplied w row rs = sets w (32 * row) (appliedAll 32 rs (rowOf 32 w row))
+rowApplied w row rs = sets w (pageWidth * row) (appliedAll pageWidth rs (rowOf pageWidth w row))

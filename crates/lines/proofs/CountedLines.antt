@@ -8,6 +8,7 @@ use mathlib.Core.List.{List, [], _∷_, _++_, append-assoc}
 use lib.ListN.{length, take, drop, getD, set, length-append, length-drop, length-set, take-append-drop}
 use lib.Seq.{length-take-le, sets, take-all, take-suc}
 use borrow.Author.Needs.{needs}
+use Rattle.limits.specs.Limits.{lineLimit}
 use Rattle.lines.specs.Decimal.{digits}
 use Rattle.lines.specs.Lines.{lineBytes}
 use Rattle.lines.specs.Needed.{Room, Put, fieldBytes, halfBytes, Counted, EightFit, behindNumber}
@@ -96,7 +97,7 @@ behind-covers : (refusal value count : ℕ) → 7 ≤ length (behindNumber refus
 behind-covers refusal value count =
     omega (arith, ap length (line-is-number-and-rest 0 refusal value count), length-append (digits 0) (behindNumber refusal value count), length-line 0 refusal value count, some-digit refusal, some-digit value, some-digit count)
 
-module _ (out : List ℕ) (at : ℕ) (d : List ℕ) (len n : ℕ) (p : Room out at 44) (q : Counted d len n) where
+module _ (out : List ℕ) (at : ℕ) (d : List ℕ) (len n : ℕ) (p : Room out at lineLimit) (q : Counted d len n) where
   pub room-for-eight : EightFit out at d
   room-for-eight = record { room = omega (arith, p .room); long = q .long }
 

@@ -6,6 +6,7 @@ use mathlib.Core.Path.{_≡_, refl, sym, ap, _∙_}
 use mathlib.Core.List.{List, [], _∷_, _++_, append-assoc}
 use lib.ListN.{length, set, length-append}
 use lib.Seq.{set-comm, set-set, sets}
+use Rattle.limits.specs.Limits.{lineLimit}
 use Rattle.lines.specs.Decimal.{digitsWithin, digits}
 use Rattle.lines.specs.Lines.{lineBytes}
 use Rattle.lines.specs.Needed.{fieldBytes, halfBytes}
@@ -24,7 +25,7 @@ length-line number refusal value count = simp length-append (omega arith)
 
 -- a line of numbers of 32 bits has at most 44 bytes
 pub at-most-44-bytes : (number refusal value count : ℕ) → number < 2 ^ 32 → refusal < 2 ^ 32 → value < 2 ^ 32 → count < 2 ^ 32
-    → length (lineBytes number refusal value count) ≤ 44
+    → length (lineBytes number refusal value count) ≤ lineLimit
 at-most-44-bytes number refusal value count a b c d =
     omega (arith, length-line number refusal value count, at-most-ten-digits number a, at-most-ten-digits refusal b, at-most-ten-digits value c, at-most-ten-digits count d)
 

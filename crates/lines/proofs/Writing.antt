@@ -12,6 +12,7 @@ use mir.Syntax.{w32}
 use mir.Val.{Fits}
 use borrow.Author.Tests.{leb-true, leb-false, not-true, not-false, le-leb, lt-leb}
 use borrow.Author.Needs.{needs}
+use Rattle.limits.specs.Limits.{lineLimit}
 use Rattle.lines.specs.Decimal.{digits}
 use Rattle.lines.specs.Lines.{lineBytes, lineFits, lineAnswer, lineLeft}
 use Rattle.lines.specs.Needed.{Room, DigitsFit, PairFits, Put, pairBytes, fieldBytes, halfBytes}
@@ -158,14 +159,14 @@ put-keeps-length out out′ at end most vs p = sets-keep-length out out′ at vs
 pub room-for-first : (out : List ℕ) (at : ℕ) → Room out at 22 → Room out at 11
 room-for-first out at p = record { room = omega (arith, p .room) }
 
-pub room-for-half : (out : List ℕ) (at : ℕ) → Room out at 44 → Room out at 22
+pub room-for-half : (out : List ℕ) (at : ℕ) → Room out at lineLimit → Room out at 22
 room-for-half out at p = record { room = omega (arith, p .room) }
 
 module _ (out out₁ : List ℕ) (at at₁ : ℕ) (vs : List ℕ) where
   pub room-for-second : Put out at vs 11 out₁ at₁ → Room out at 22 → Room out₁ at₁ 11
   room-for-second q p = record { room = omega (arith, p .room, q .near, put-keeps-length out out₁ at at₁ 11 vs q) }
 
-  pub room-for-other-half : Put out at vs 22 out₁ at₁ → Room out at 44 → Room out₁ at₁ 22
+  pub room-for-other-half : Put out at vs 22 out₁ at₁ → Room out at lineLimit → Room out₁ at₁ 22
   room-for-other-half q p = record { room = omega (arith, p .room, q .near, put-keeps-length out out₁ at at₁ 22 vs q) }
 
   -- what is stored behind something stored
@@ -187,7 +188,7 @@ module _ (out out₁ out₂ : List ℕ) (at at₁ at₂ a b : ℕ) where
   half-put behind p q = put-behind out out₁ at at₁ (fieldBytes a 32) out₂ at₂ 11 (fieldBytes b behind) p q
 
   module _ (c d : ℕ) (p : Put out at (halfBytes a b 32) 22 out₁ at₁) (q : Put out₁ at₁ (halfBytes c d 10) 22 out₂ at₂) where
-    whole : Put out at (halfBytes a b 32 ++ halfBytes c d 10) 44 out₂ at₂
+    whole : Put out at (halfBytes a b 32 ++ halfBytes c d 10) lineLimit out₂ at₂
     whole = put-behind out out₁ at at₁ (halfBytes a b 32) out₂ at₂ 22 (halfBytes c d 10) p q
 
     pub line-end : at₂ ≡ at + length (lineBytes a b c d)
@@ -201,19 +202,19 @@ module _ (out out₁ out₂ : List ℕ) (at at₁ at₂ a b : ℕ) where
 module _ (bytes at : ℕ) where
   pub behind-the-end : bytes < at → false ≡ lineFits bytes at
   unfolding lineFits
-  behind-the-end h = sym (lt-leb (at + 44) bytes (omega arith))
+  behind-the-end h = sym (lt-leb (at + lineLimit) bytes (omega arith))
 
-  pub enough-left : at ≤ bytes → leb 44 (bytes - at) ≡ lineFits bytes at
+  pub enough-left : at ≤ bytes → leb lineLimit (bytes - at) ≡ lineFits bytes at
   unfolding lineFits
-  enough-left l = go (leb 44 (bytes - at)) refl
+  enough-left l = go (leb lineLimit (bytes - at)) refl
     where
-      go : (b : Bool) → leb 44 (bytes - at) ≡ b → b ≡ leb (at + 44) bytes
+      go : (b : Bool) → leb lineLimit (bytes - at) ≡ b → b ≡ leb (at + lineLimit) bytes
       go true e =
-          let h : 44 ≤ bytes - at = leb-true 44 (bytes - at) e in
-          sym (le-leb (at + 44) bytes (omega arith))
+          let h : lineLimit ≤ bytes - at = leb-true lineLimit (bytes - at) e in
+          sym (le-leb (at + lineLimit) bytes (omega arith))
       go false e =
-          let h : bytes - at < 44 = leb-false 44 (bytes - at) e in
-          sym (lt-leb (at + 44) bytes (omega arith))
+          let h : bytes - at < lineLimit = leb-false lineLimit (bytes - at) e in
+          sym (lt-leb (at + lineLimit) bytes (omega arith))
 
 -- `line_into` by what `line_fits` says
 module _ (out : List ℕ) (at number refusal value count : ℕ) (r : Bool) (is : r ≡ lineFits (length out) at) where
@@ -234,8 +235,8 @@ module _ (out : List ℕ) (at number refusal value count : ℕ) (r : Bool) (is :
     unfolding lineLeft
     line-left out′ e = e ∙ rw (sym is ∙ not-false r h)
 
-pub room-for-line : (out : List ℕ) (at : ℕ) (r : Bool) → r ≡ lineFits (length out) at → not r ≡ false → Room out at 44
+pub room-for-line : (out : List ℕ) (at : ℕ) (r : Bool) → r ≡ lineFits (length out) at → not r ≡ false → Room out at lineLimit
 unfolding lineFits
-room-for-line out at r is h = record { room = leb-true (at + 44) (length out) (sym is ∙ not-false r h) }
+room-for-line out at r is h = record { room = leb-true (at + lineLimit) (length out) (sym is ∙ not-false r h) }
 
 pub ruleset line-laws = (width-one, width-two, width-three, width-four, width-above-four, width-above-eight, width-short, second-place, pair-stored, storing-begins, pair-before, room-for-pair, storing-more, room-for-first-digit, first-digit-stored, room-for-first-pair, first-pair-stored, one-digit-place, one-digit-stored, one-digit-near, digits-near, room-for-digits, sets-keep-length, room-for-number, room-for-byte, field-put, field-keeps-length, put-keeps-length, room-for-first, room-for-second, room-for-half, room-for-other-half, half-put, line-end, line-stored, behind-the-end, enough-left, no-room-answered, no-room-untouched, end-answered, line-left, room-for-line, needs)

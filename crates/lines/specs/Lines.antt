@@ -5,6 +5,7 @@ use mathlib.Core.List.{List, [], _∷_, _++_}
 use lib.ListN.{length}
 use lib.Seq.{sets}
 use lib.Dec.{leb}
+use Rattle.limits.specs.Limits.{lineLimit}
 use Rattle.lines.specs.Decimal.{digits}
 use Rattle.lines.specs.declared.Placed.{Placed}
 use Rattle.lines.specs.declared.Placed.the-variants.{End, NoRoom}
@@ -15,7 +16,7 @@ lineBytes number refusal value count = digits number ++ 32 ∷ digits refusal ++
 
 -- whether the longest line, of 44 bytes, fits from a place on into memory of so many bytes
 unfoldable pub lineFits : ℕ → ℕ → Bool
-lineFits bytes at = leb (at + 44) bytes
+lineFits bytes at = leb (at + lineLimit) bytes
 
 -- what `line_into` answers: the place behind the line, or that there is no room
 unfoldable pub lineAnswer : List ℕ → ℕ → ℕ → ℕ → ℕ → ℕ → Placed

@@ -3,9 +3,11 @@ ghost use mathlib.Core.Path.{_≡_};
 ghost use Prim.Native.Nat.{_+_, _≤_, _<_};
 ghost use lib.ListN.{length};
 ghost use lib.Seq.{sets};
+ghost use Rattle.limits.specs.Limits.{lineLimit};
 ghost use Rattle.lines.specs.Decimal.{digits};
 ghost use Rattle.lines.specs.Lines.{lineBytes, lineFits, lineAnswer, lineLeft};
 ghost use Rattle.lines.specs.Needed.{Room, DigitsFit, PairFits, Put, pairBytes, fieldBytes, halfBytes, Eight, Counted, Countable, EightFit, behindNumber};
+use limits::LINE_LIMIT;
 
 // What writing a line answers: the place behind it, or that the longest line would not fit.
 pub enum Placed {
@@ -38,7 +40,7 @@ pub fn line_fits(bytes: usize, at: usize) -> bool
     if bytes < at {
         return false;
     }
-    44 <= bytes - at
+    LINE_LIMIT <= bytes - at
 }
 
 // Writes the line of a record from a place on, and says the place behind it.
@@ -50,7 +52,7 @@ pub fn put_line(
     value: u32,
     count: u32,
 ) -> usize
-    requires { ⌜ Room (now out) at 44 ⌝ }
+    requires { ⌜ Room (now out) at lineLimit ⌝ }
     ensures { λ r. ⌜ r ≡ at + length (lineBytes number refusal value count) ⌝ }
     ensures { λ r. ⌜ now (out .exit) ≡ sets (now (out .entry)) at (lineBytes number refusal value count) ⌝ }
 {
@@ -70,7 +72,7 @@ pub fn put_counted(
     value: u32,
     count: u32,
 ) -> usize
-    requires { ⌜ Room (now out) at 44 ⌝ }
+    requires { ⌜ Room (now out) at lineLimit ⌝ }
     requires { ⌜ Counted digits len number ⌝ }
     ensures { λ r. ⌜ r ≡ at + length (lineBytes number refusal value count) ⌝ }
     ensures { λ r. ⌜ now (out .exit) ≡ sets (now (out .entry)) at (lineBytes number refusal value count) ⌝ }

@@ -4,6 +4,7 @@ use native.Mathlib.Omega.{arith}
 use mathlib.Core.Path.{ap, _∙_}
 use mathlib.Core.List.{List}
 use borrow.Author.Needs.{needs}
+use Rattle.limits.specs.Limits.{processorLimit}
 use Rattle.rules.specs.Close.{closed}
 use Rattle.rules.specs.State.{mainframe, State}
 use Rattle.rules.specs.Steps.{acquire, release}
@@ -18,7 +19,7 @@ pub can-close : (c w r m : List ℕ) (p : ℕ) → Acts c w r m p → Closable c
 can-close c w r m p a = record { lent = a .lent; in-order = a .in-order; from = a .from; to = a .to }
 
 -- who acts has rows and places
-pub processor-within : (c w r m : List ℕ) (p : ℕ) → Acts c w r m p → p ≤ 8
+pub processor-within : (c w r m : List ℕ) (p : ℕ) → Acts c w r m p → p ≤ processorLimit
 unfolding mainframe
 processor-within c w r m p a = omega (arith, a .to, a .in-order .processors-fit)
 

@@ -6,6 +6,7 @@ use mathlib.Core.List.{List}
 use lib.ListN.{length}
 use lib.Seq.{sets}
 use borrow.Author.Needs.{needs}
+use Rattle.limits.specs.Sizes.{clockArea, clockWidth}
 use Rattle.clock.specs.Clocks.{joined}
 use Rattle.clock.proofs.Laws.{length-joined}
 use Rattle.rules.specs.State.{mainframe, Holder}
@@ -18,25 +19,25 @@ use Rattle.memory.proofs.RowLaws.{length-row}
 use Rattle.memory.proofs.Rows.{clock-row-there as row-there}
 
 -- what is laid into the learner's row
-pub learned-row : (c c′ : List ℕ) (to from : ℕ) (own news both : List ℕ) → own ≡ rowOf 8 c to → news ≡ rowOf 8 c from → both ≡ joined own news
-    → c′ ≡ sets c (8 * to) both → c′ ≡ sets c (8 * to) (joined (rowOf 8 c to) (rowOf 8 c from))
+pub learned-row : (c c′ : List ℕ) (to from : ℕ) (own news both : List ℕ) → own ≡ rowOf clockWidth c to → news ≡ rowOf clockWidth c from → both ≡ joined own news
+    → c′ ≡ sets c (clockWidth * to) both → c′ ≡ sets c (clockWidth * to) (joined (rowOf clockWidth c to) (rowOf clockWidth c from))
 learned-row c c′ to from own news both eo en eb e = e ∙ rw (eb, eo, en)
 
 -- a holder's row that learned another holder's is that clock learned
-module _ (c : List ℕ) (to from : Holder) (long : length c ≡ 4744) (t : Within mainframe to) (f : Within mainframe from) where
+module _ (c : List ℕ) (to from : Holder) (long : length c ≡ clockArea) (t : Within mainframe to) (f : Within mainframe from) where
   abbrev both : List ℕ
-  both = joined (rowOf 8 c (clockRow mainframe to)) (rowOf 8 c (clockRow mainframe from))
+  both = joined (rowOf clockWidth c (clockRow mainframe to)) (rowOf clockWidth c (clockRow mainframe from))
 
-  length-both : length both ≡ 8
+  length-both : length both ≡ clockWidth
   length-both =
       omega (
         arith,
-        length-joined (rowOf 8 c (clockRow mainframe to)) (rowOf 8 c (clockRow mainframe from)),
-        length-row 8 c (clockRow mainframe to) (omega (arith, clock-row-there to t)),
-        length-row 8 c (clockRow mainframe from) (omega (arith, clock-row-there from f)),
+        length-joined (rowOf clockWidth c (clockRow mainframe to)) (rowOf clockWidth c (clockRow mainframe from)),
+        length-row clockWidth c (clockRow mainframe to) (omega (arith, clock-row-there to t)),
+        length-row clockWidth c (clockRow mainframe from) (omega (arith, clock-row-there from f)),
       )
 
-  pub learned-clock : clocksIn mainframe (sets c (8 * clockRow mainframe to) both) ≡ learned (clocksIn mainframe c) to from
+  pub learned-clock : clocksIn mainframe (sets c (clockWidth * clockRow mainframe to) both) ≡ learned (clocksIn mainframe c) to from
   unfolding learned
   learned-clock =
       clock-written c both to long t length-both ∙ rw (clock-read c to t, clock-read c from f)

@@ -4,7 +4,8 @@ use Prim.Native.Nat.{ℕ}
 use mathlib.Core.Path.{_≡_}
 use mathlib.Core.List.{List}
 use lib.ListN.{length}
-use Rattle.rules.specs.State.{mainframe, Processor, Lock, clockOf, withClock, State}
+use Rattle.limits.specs.Sizes.{clockArea, markArea}
+use Rattle.rules.specs.State.{mainframe, Processor, Lock, clockOf, withClock, State, withClocks, withMarks}
 use Rattle.rules.specs.Close.{closed}
 use Rattle.rules.specs.Steps.{withHolder, learned}
 use Rattle.memory.specs.Areas.{stateIn}
@@ -18,34 +19,20 @@ pub record ClosedAtLock (s : State) (c w r m : List ℕ) (p l : ℕ) : Type 0 wh
 
 -- "the card becomes holder; its clock joins the lock's"
 unfoldable pub lockTaken : State → ℕ → ℕ → State
-lockTaken s p l =
-    record {
-      counts = s .counts;
-      clocks = learned (s .clocks) (Processor p) (Lock l);
-      pages = s .pages;
-      records = s .records;
-      marks = withHolder (s .marks) l p;
-    }
+lockTaken s p l = withClocks (withMarks s (withHolder (s .marks) l p)) (learned (s .clocks) (Processor p) (Lock l))
 
 -- "holder becomes 0; the lock's clock becomes the card's"
 unfoldable pub lockFreed : State → ℕ → ℕ → State
-lockFreed s p l =
-    record {
-      counts = s .counts;
-      clocks = withClock (s .clocks) (Lock l) (clockOf (s .clocks) (Processor p));
-      pages = s .pages;
-      records = s .records;
-      marks = withHolder (s .marks) l 0;
-    }
+lockFreed s p l = withClocks (withMarks s (withHolder (s .marks) l 0)) (withClock (s .clocks) (Lock l) (clockOf (s .clocks) (Processor p)))
 
 -- p took lock l
 pub record LockTaken (c m c′ m′ : List ℕ) (p l : ℕ) : Type 0 where
-  pub clocks : length c′ ≡ 4744
-  pub marks : length m′ ≡ 93
+  pub clocks : length c′ ≡ clockArea
+  pub marks : length m′ ≡ markArea
   pub is : (w r : List ℕ) → stateIn mainframe c′ w r m′ ≡ lockTaken (stateIn mainframe c w r m) p l
 
 -- p freed lock l
 pub record LockFreed (c m c′ m′ : List ℕ) (p l : ℕ) : Type 0 where
-  pub clocks : length c′ ≡ 4744
-  pub marks : length m′ ≡ 93
+  pub clocks : length c′ ≡ clockArea
+  pub marks : length m′ ≡ markArea
   pub is : (w r : List ℕ) → stateIn mainframe c′ w r m′ ≡ lockFreed (stateIn mainframe c w r m) p l

@@ -3,6 +3,8 @@ use Prim.Native.Nat.{ℕ, _≤_, _<_}
 use mathlib.Core.Path.{_≡_}
 use mathlib.Core.List.{List}
 use lib.ListN.{length}
+use Rattle.limits.specs.Limits.{lockLimit, processorLimit}
+use Rattle.limits.specs.Sizes.{clockArea, clockRowLimit, markArea}
 use Rattle.rules.specs.State.{mainframe}
 use Rattle.memory.specs.Areas.{stateIn}
 use Rattle.memory.specs.Needed.{Acts}
@@ -14,14 +16,14 @@ pub record ActsOnLock (c w r m : List ℕ) (p l : ℕ) : Type 0 where
 
 -- two rows of the area of the clocks
 pub record TwoRows (c : List ℕ) (to from : ℕ) : Type 0 where
-  pub clocks : length c ≡ 4744
-  pub to-there : to < 593
-  pub from-there : from < 593
+  pub clocks : length c ≡ clockArea
+  pub to-there : to < clockRowLimit
+  pub from-there : from < clockRowLimit
 
 -- processor p and lock l, in areas of clocks and marks of the right sizes
 pub record LockThere (c m : List ℕ) (p l : ℕ) : Type 0 where
-  pub clocks : length c ≡ 4744
-  pub marks : length m ≡ 93
+  pub clocks : length c ≡ clockArea
+  pub marks : length m ≡ markArea
   pub from : 1 ≤ p
-  pub to : p ≤ 8
-  pub lock : l < 16
+  pub to : p ≤ processorLimit
+  pub lock : l < lockLimit

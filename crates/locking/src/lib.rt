@@ -3,6 +3,7 @@
 ghost use mathlib.Core.Path.{_≡_};
 ghost use Prim.Native.Nat.{_*_};
 ghost use lib.Seq.{sets};
+ghost use Rattle.limits.specs.Sizes.{clockWidth};
 ghost use Rattle.clock.specs.Clocks.{joined};
 ghost use Rattle.rules.specs.State.{mainframe};
 ghost use Rattle.rules.specs.Steps.{acquire, release};
@@ -13,6 +14,8 @@ ghost use Rattle.locking.specs.Needed.{ActsOnLock, TwoRows, LockThere};
 ghost use Rattle.locking.specs.Effects.{ClosedAtLock, LockTaken, LockFreed};
 use clock::ProcessorId;
 use memory::clock_at;
+use memory::lock_row;
+use memory::marks::put_holder;
 use memory::put_clock;
 
 // Acquire: closes the interval; the processor becomes the lock's holder; its clock joins the lock's.
@@ -50,7 +53,7 @@ pub fn release(
 // The clock in one row becomes its join with the clock in another, which keeps its entries.
 pub fn learn(clocks: &mut [u8], to: usize, from: usize)
     requires { ⌜ TwoRows (now clocks) to from ⌝ }
-    ensures { λ _. ⌜ now (clocks .exit) ≡ sets (now (clocks .entry)) (8 * to) (joined (rowOf 8 (now (clocks .entry)) to) (rowOf 8 (now (clocks .entry)) from)) ⌝ }
+    ensures { λ _. ⌜ now (clocks .exit) ≡ sets (now (clocks .entry)) (clockWidth * to) (joined (rowOf clockWidth (now (clocks .entry)) to) (rowOf clockWidth (now (clocks .entry)) from)) ⌝ }
 {
     let own = clock_at(clocks, to);
     let news = clock_at(clocks, from);
@@ -77,8 +80,8 @@ fn take_lock(clocks: &mut [u8], marks: &mut [u8], p: ProcessorId, l: usize)
     requires { ⌜ LockThere (now clocks) (now marks) (p .0) l ⌝ }
     ensures { λ _. ⌜ LockTaken (now (clocks .entry)) (now (marks .entry)) (now (clocks .exit)) (now (marks .exit)) (p .0) l ⌝ }
 {
-    marks[13 + l] = (p.0 % 256) as u8;
-    learn(clocks, p.0, 9 + l);
+    put_holder(marks, l, p);
+    learn(clocks, p.0, lock_row(l));
 }
 
 // The lock has no holder, and its clock becomes the processor's.
@@ -86,7 +89,7 @@ fn free_lock(clocks: &mut [u8], marks: &mut [u8], p: ProcessorId, l: usize)
     requires { ⌜ LockThere (now clocks) (now marks) (p .0) l ⌝ }
     ensures { λ _. ⌜ LockFreed (now (clocks .entry)) (now (marks .entry)) (now (clocks .exit)) (now (marks .exit)) (p .0) l ⌝ }
 {
-    marks[13 + l] = 0;
+    put_holder(marks, l, ProcessorId(0));
     let own = clock_at(clocks, p.0);
-    put_clock(clocks, 9 + l, own);
+    put_clock(clocks, lock_row(l), own);
 }

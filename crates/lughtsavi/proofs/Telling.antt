@@ -9,13 +9,15 @@ use borrow.Author.Tests.{eq-eqb, ne-eqb}
 use borrow.Author.Needs.{needs}
 use Rattle.rules.specs.Refusals.{Step, Answer}
 use Rattle.memory.specs.Areas.{Areas}
-use Rattle.acting.specs.Outcomes.{outcomeRefusal, outcomeValue, outcomeCount, told, outcomeOf}
+use Rattle.acting.specs.Telling.{outcomeRefusal, outcomeValue, outcomeCount, told}
+use Rattle.acting.specs.Outcomes.{outcomeOf}
 use Rattle.acting.specs.declared.Outcome.{Outcome}
 use Rattle.acting.specs.declared.Outcome.the-variants.{Done, Refused}
 use Rattle.engine.specs.Promises.{answerOf, areasAfter}
 use Rattle.engine.proofs.Stepping.{outcome-tells}
 use Rattle.running.specs.Records.{answerWords}
-use Rattle.lughtsavi.specs.Numbers.{slices, stepReturn, slicesAfter, ToldAs}
+use Rattle.lughtsavi.specs.Numbers.{slices, stepReturn, slicesAfter}
+use Rattle.lughtsavi.specs.Needed.{ToldAs}
 
 -- three words laid into three
 pub three-laid : (l : List ℕ) (x y z : ℕ) → length l ≡ 3 → set (set (set l 0 x) 1 y) 2 z ≡ x ∷ y ∷ z ∷ []

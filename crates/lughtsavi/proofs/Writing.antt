@@ -9,6 +9,8 @@ use lib.ListN.{length}
 use lib.Dec.{eqb, ltb}
 use borrow.Author.Tests.{eqb-true, eq-eqb, ne-eqb}
 use borrow.Author.Needs.{needs}
+use Rattle.limits.specs.Limits.{pageWidth}
+use Rattle.limits.specs.Sizes.{diffLimit}
 use Rattle.diff.specs.Format.{written}
 use Rattle.writer.specs.Answers.{writeRefusal, writeAnswer}
 use Rattle.writer.specs.declared.Written.{Written}
@@ -19,9 +21,9 @@ use Rattle.lughtsavi.specs.Numbers.{writtenNumber}
 -- ---- a length and a refusal are not mistaken for one another
 
 module _ (old new out : List ℕ) where
-  refusal-at-most-14 : writeRefusal 32 old new out ≤ 14
+  refusal-at-most-14 : writeRefusal pageWidth old new out ≤ 14
   unfolding writeRefusal
-  refusal-at-most-14 = go (not (eqb (length old) 32 && eqb (length new) 32)) (ltb (length out) (length (written old new)))
+  refusal-at-most-14 = go (not (eqb (length old) pageWidth && eqb (length new) pageWidth)) (ltb (length out) (length (written old new)))
     where
       go : (b d : Bool) → cond b 14 (cond d 13 0) ≤ 14
       go true d = omega arith
@@ -29,36 +31,36 @@ module _ (old new out : List ℕ) where
       go false false = omega arith
 
   -- what is not refused is the diff of two pages of 32 words
-  pages-whole : writeRefusal 32 old new out ≡ 0 → (eqb (length old) 32 && eqb (length new) 32) ≡ true
+  pages-whole : writeRefusal pageWidth old new out ≡ 0 → (eqb (length old) pageWidth && eqb (length new) pageWidth) ≡ true
   unfolding writeRefusal
-  pages-whole = go (eqb (length old) 32 && eqb (length new) 32)
+  pages-whole = go (eqb (length old) pageWidth && eqb (length new) pageWidth)
     where
       go : (b : Bool) → _≡_ {A = ℕ} (cond (not b) 14 (cond (ltb (length out) (length (written old new))) 13 0)) 0 → b ≡ true
       go true z = refl
       go false z = absurd (omega (arith, z))
 
-  diff-at-most-131 : writeRefusal 32 old new out ≡ 0 → length (written old new) ≤ 131
+  diff-at-most-131 : writeRefusal pageWidth old new out ≡ 0 → length (written old new) ≤ diffLimit
   diff-at-most-131 z =
-      let both = and-eq-true-iff (eqb (length old) 32) (eqb (length new) 32) .0 (pages-whole z) in
+      let both = and-eq-true-iff (eqb (length old) pageWidth) (eqb (length new) pageWidth) .0 (pages-whole z) in
       at-most-131-bytes old new (eqb-true _ _ (both .0)) (eqb-true _ _ (both .1))
 
   -- written: the number is at most 131
-  pub written-at-most-131 : writeRefusal 32 old new out ≡ 0 → writtenNumber (writeAnswer 32 old new out) ≤ 131
+  pub written-at-most-131 : writeRefusal pageWidth old new out ≡ 0 → writtenNumber (writeAnswer pageWidth old new out) ≤ diffLimit
   unfolding writeAnswer writtenNumber
-  written-at-most-131 z = rw (eq-eqb (writeRefusal 32 old new out) 0 z) (diff-at-most-131 z)
+  written-at-most-131 z = rw (eq-eqb (writeRefusal pageWidth old new out) 0 z) (diff-at-most-131 z)
 
   -- refused: it is 256 + the refusal
-  pub refused-from-256 : (writeRefusal 32 old new out ≡ 0 → ⊥) → writtenNumber (writeAnswer 32 old new out) ≡ 256 + writeRefusal 32 old new out
+  pub refused-from-256 : (writeRefusal pageWidth old new out ≡ 0 → ⊥) → writtenNumber (writeAnswer pageWidth old new out) ≡ 256 + writeRefusal pageWidth old new out
   unfolding writeAnswer writtenNumber
-  refused-from-256 z = rw (ne-eqb (writeRefusal 32 old new out) 0 z)
+  refused-from-256 z = rw (ne-eqb (writeRefusal pageWidth old new out) 0 z)
 
   -- either has 32 bits
-  answer-small : writtenNumber (writeAnswer 32 old new out) < 4294967296
+  answer-small : writtenNumber (writeAnswer pageWidth old new out) < 4294967296
   unfolding writeAnswer writtenNumber
-  answer-small = go (eqb (writeRefusal 32 old new out) 0) refl
+  answer-small = go (eqb (writeRefusal pageWidth old new out) 0) refl
     where
-      go : (b : Bool) → eqb (writeRefusal 32 old new out) 0 ≡ b
-          → writtenNumber (cond b (Length (length (written old new))) (Refused (writeRefusal 32 old new out))) < 4294967296
+      go : (b : Bool) → eqb (writeRefusal pageWidth old new out) 0 ≡ b
+          → writtenNumber (cond b (Length (length (written old new))) (Refused (writeRefusal pageWidth old new out))) < 4294967296
       go true e = omega (arith, diff-at-most-131 (eqb-true _ _ e))
       go false e = omega (arith, refusal-at-most-14)
 
@@ -66,7 +68,7 @@ module _ (old new out : List ℕ) where
 
 module _ (x : Written) where
   -- what is written has a number of 32 bits
-  pub written-small : (old new out : List ℕ) → x ≡ writeAnswer 32 old new out → writtenNumber x < 4294967296
+  pub written-small : (old new out : List ℕ) → x ≡ writeAnswer pageWidth old new out → writtenNumber x < 4294967296
   written-small old new out e = rw e (answer-small old new out)
 
   module _ (n : ℕ) where
@@ -85,7 +87,7 @@ module _ (x : Written) where
     refusal-numbered m e w = rw (e, w .0)
 
     -- the number of the answer
-    pub answer-numbered : (old new out : List ℕ) → x ≡ writeAnswer 32 old new out → n ≡ writtenNumber x → n ≡ writtenNumber (writeAnswer 32 old new out)
+    pub answer-numbered : (old new out : List ℕ) → x ≡ writeAnswer pageWidth old new out → n ≡ writtenNumber x → n ≡ writtenNumber (writeAnswer pageWidth old new out)
     answer-numbered old new out e k = k ∙ ap (λ (y : Written). writtenNumber y) e
 
 pub ruleset writing-laws = (written-small, length-small, length-numbered, refusal-numbered, answer-numbered, needs)

@@ -1,7 +1,6 @@
 -- What the functions for C and Rust answer where the engine or the diffs answer an enum: document 01's numbers, and what a step leaves in
 -- the slices lent to it. Assumes nothing.
 use Prim.Native.Nat.{ℕ, _+_}
-use mathlib.Core.Path.{_≡_}
 use mathlib.Core.Bool.{cond}
 use mathlib.Core.List.{List, [], _∷_}
 use lib.ListN.{length}
@@ -11,8 +10,6 @@ use Rattle.memory.specs.Areas.{Areas}
 use Rattle.writer.specs.declared.Written.{Written}
 use Rattle.writer.specs.declared.Written.the-variants.{Length, Refused}
 use Rattle.engine.specs.Promises.{answerOf, areasAfter}
-use Rattle.acting.specs.Outcomes.{outcomeRefusal, told}
-use Rattle.acting.specs.declared.Outcome.{Outcome}
 use Rattle.running.specs.Records.{answerWords}
 
 -- ---- a step
@@ -33,11 +30,6 @@ stepReturn out a t = cond (eqb (length out) 3) (answerOf a t .refusal) 1
 -- the slices after a step: its answer and the areas that it leaves; all as they were where the answer has not three words
 unfoldable pub slicesAfter : List ℕ → Areas → Step → Slices
 slicesAfter out a t = cond (eqb (length out) 3) (slices (answerWords (answerOf a t ∷ [])) (areasAfter a t)) (slices out a)
-
--- n is the outcome's refusal, and the words are its three numbers
-pub record ToldAs (o : Outcome) (n : ℕ) (out : List ℕ) : Type 0 where
-  pub returned : n ≡ outcomeRefusal o
-  pub laid : out ≡ answerWords (told o ∷ [])
 
 -- ---- a diff written
 

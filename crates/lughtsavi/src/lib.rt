@@ -5,6 +5,7 @@ ghost use mathlib.Core.Path.{_≡_};
 ghost use mathlib.Core.List.{_∷_, []};
 ghost use Prim.Native.Nat.{_<_};
 ghost use lib.ListN.{length};
+ghost use Rattle.limits.specs.Limits.{pageWidth};
 ghost use Rattle.diff.specs.Reading.{readRefusal};
 ghost use Rattle.diff.specs.Answers.{applyRefusal, pageAfter};
 ghost use Rattle.writer.specs.Answers.{writeAnswer, outAfter};
@@ -13,7 +14,8 @@ ghost use Rattle.memory.specs.Areas.{areas};
 ghost use Rattle.checking.specs.Areas.{areasInOrder};
 ghost use Rattle.opening.specs.Promises.{openRefusal, areasOpened};
 ghost use Rattle.running.specs.Runs.{Ran};
-ghost use Rattle.lughtsavi.specs.Numbers.{stepReturn, slices, slicesAfter, ToldAs, writtenNumber};
+ghost use Rattle.lughtsavi.specs.Numbers.{stepReturn, slices, slicesAfter, writtenNumber};
+ghost use Rattle.lughtsavi.specs.Needed.{ToldAs};
 use acting::Outcome;
 use writer::Written;
 
@@ -126,8 +128,8 @@ pub extern "C" fn lughtsavi_run(
 // Writes what turns the page `old` into the page `new` as a diff at the start of `out`: its length in bytes, or 256 + the refusal.
 #[no_mangle]
 pub extern "C" fn lughtsavi_diff_write(old: &[u32], new: &[u32], out: &mut [u8]) -> u32
-    ensures answer { λ r. ⌜ r ≡ writtenNumber (writeAnswer 32 (now (old .entry)) (now (new .entry)) (now (out .entry))) ⌝ }
-    ensures memory { λ r. ⌜ now (out .exit) ≡ outAfter 32 (now (old .entry)) (now (new .entry)) (now (out .entry)) ⌝ }
+    ensures answer { λ r. ⌜ r ≡ writtenNumber (writeAnswer pageWidth (now (old .entry)) (now (new .entry)) (now (out .entry))) ⌝ }
+    ensures memory { λ r. ⌜ now (out .exit) ≡ outAfter pageWidth (now (old .entry)) (now (new .entry)) (now (out .entry)) ⌝ }
 {
     let written = writer::write(old, new, out);
     number(written)
@@ -147,7 +149,7 @@ fn number(written: Written) -> u32
 // The refusal of a byte string that is to be read as a diff, or 0.
 #[no_mangle]
 pub extern "C" fn lughtsavi_diff_check(bytes: &[u8]) -> u8
-    ensures { λ r. ⌜ r ≡ readRefusal 32 (now (bytes .entry)) ⌝ }
+    ensures { λ r. ⌜ r ≡ readRefusal pageWidth (now (bytes .entry)) ⌝ }
 {
     diff::check(bytes)
 }
@@ -155,8 +157,8 @@ pub extern "C" fn lughtsavi_diff_check(bytes: &[u8]) -> u8
 // Carries a diff out on a page: the refusal, or 0.
 #[no_mangle]
 pub extern "C" fn lughtsavi_diff_apply(bytes: &[u8], page: &mut [u32]) -> u8
-    ensures answer { λ r. ⌜ r ≡ applyRefusal 32 (now (bytes .entry)) (now (page .entry)) ⌝ }
-    ensures memory { λ r. ⌜ now (page .exit) ≡ pageAfter 32 (now (bytes .entry)) (now (page .entry)) ⌝ }
+    ensures answer { λ r. ⌜ r ≡ applyRefusal pageWidth (now (bytes .entry)) (now (page .entry)) ⌝ }
+    ensures memory { λ r. ⌜ now (page .exit) ≡ pageAfter pageWidth (now (bytes .entry)) (now (page .entry)) ⌝ }
 {
     let applied = diff::apply(bytes, page);
     applied.refusal

@@ -9,6 +9,8 @@ use lib.ListN.{length, getD}
 use lib.Dec.{leb}
 use borrow.Author.Tests.{lt-ltb, le-ltb, le-leb, lt-leb, eq-eqb, ne-eqb}
 use borrow.Author.Needs.{needs}
+use Rattle.limits.specs.Limits.{firstArrived, intervalLimit, lockLimit, pageLimit, processorLimit, recordLimit}
+use Rattle.limits.specs.Sizes.{firstDirty, firstHolder, markArea}
 use Rattle.rules.specs.Tables.{every, any, total}
 use Rattle.rules.proofs.Tables.{any-holds}
 use Rattle.marktests.specs.Tests.{zeroAt, pagesOf, mayBeDirty, dirtyHold, holderWithin, holdersHold, arrivedHold, dirtyCount, dirtyOf, roomHolds, marksHoldWith}
@@ -42,32 +44,32 @@ pages-absent processors pages k h = rw (le-ltb k processors h)
 -- ---- dirty marks
 
 -- with own entry below 63 the present pages may be dirty
-pub dirty-allowed : (own : List ℕ) (processors pages k there : ℕ) → getD own k 0 < 63 → there ≡ pagesOf processors pages k → there ≡ mayBeDirty own processors pages k
+pub dirty-allowed : (own : List ℕ) (processors pages k there : ℕ) → getD own k 0 < intervalLimit → there ≡ pagesOf processors pages k → there ≡ mayBeDirty own processors pages k
 unfolding mayBeDirty
-dirty-allowed own processors pages k there h e = e ∙ rw (lt-ltb (getD own k 0) 63 h)
+dirty-allowed own processors pages k there h e = e ∙ rw (lt-ltb (getD own k 0) intervalLimit h)
 
 -- with own entry 63 none may
-pub dirty-refused : (own : List ℕ) (processors pages k : ℕ) → 63 ≤ getD own k 0 → 0 ≡ mayBeDirty own processors pages k
+pub dirty-refused : (own : List ℕ) (processors pages k : ℕ) → intervalLimit ≤ getD own k 0 → 0 ≡ mayBeDirty own processors pages k
 unfolding mayBeDirty
-dirty-refused own processors pages k h = rw (le-ltb (getD own k 0) 63 h)
+dirty-refused own processors pages k h = rw (le-ltb (getD own k 0) intervalLimit h)
 
 -- the marks of the other pages lie within the area
-pub dirty-there : (m : List ℕ) (pages k there : ℕ) → MarksOne m pages k → there ≤ pages → PlacesThere m (29 + 8 * k + there) (8 - there)
+pub dirty-there : (m : List ℕ) (pages k there : ℕ) → MarksOne m pages k → there ≤ pages → PlacesThere m (firstDirty + pageLimit * k + there) (pageLimit - there)
 dirty-there m pages k there p h = record { within = omega (arith, p .marks, p .pages-fit, p .processor) }
 
 -- they decide
 pub dirty-is : (own m : List ℕ) (processors pages k there : ℕ) (r : Bool) → there ≡ mayBeDirty own processors pages k
-    → r ≡ every (8 - there) (zeroAt m (29 + 8 * k + there)) → r ≡ dirtyHold own m processors pages k
+    → r ≡ every (pageLimit - there) (zeroAt m (firstDirty + pageLimit * k + there)) → r ≡ dirtyHold own m processors pages k
 unfolding dirtyHold
 dirty-is own m processors pages k there r t e = e ∙ rw t
 
 -- one processor of eight
-pub marks-one : (m : List ℕ) (pages k : ℕ) → length m ≡ 93 → pages ≤ 8 → k < 8 → MarksOne m pages k
+pub marks-one : (m : List ℕ) (pages k : ℕ) → length m ≡ markArea → pages ≤ pageLimit → k < processorLimit → MarksOne m pages k
 marks-one m pages k a b h = record { marks = a; pages-fit = b; processor = h }
 
 -- ---- holders
 
-module _ (m : List ℕ) (processors locks l holder : ℕ) (p : Passed locks (holderWithin m processors) l) (h : l < locks) (is : (holder ≡ getD m (13 + l) 0) × (holder < 256)) where
+module _ (m : List ℕ) (processors locks l holder : ℕ) (p : Passed locks (holderWithin m processors) l) (h : l < locks) (is : (holder ≡ getD m (firstHolder + l) 0) × (holder < 256)) where
   -- one more holder is a present processor or 0
   pub holder-more : holder ≤ processors → Passed locks (holderWithin m processors) (l + 1)
   unfolding holderWithin
@@ -79,12 +81,12 @@ module _ (m : List ℕ) (processors locks l holder : ℕ) (p : Passed locks (hol
   holder-broken e = fail-one locks (holderWithin m processors) l h (lt-leb _ _ (rw (is .0) at e))
 
 -- the holders of absent locks lie within the area
-pub absent-holders-there : (m : List ℕ) (locks : ℕ) → length m ≡ 93 → locks ≤ 16 → PlacesThere m (13 + locks) (16 - locks)
+pub absent-holders-there : (m : List ℕ) (locks : ℕ) → length m ≡ markArea → locks ≤ lockLimit → PlacesThere m (firstHolder + locks) (lockLimit - locks)
 absent-holders-there m locks a h = record { within = omega arith }
 
 -- both decide
 pub holders-is : (m : List ℕ) (processors locks : ℕ) (r : Bool)
-    → r ≡ (every locks (holderWithin m processors) && every (16 - locks) (zeroAt m (13 + locks))) → r ≡ holdersHold m processors locks
+    → r ≡ (every locks (holderWithin m processors) && every (lockLimit - locks) (zeroAt m (firstHolder + locks))) → r ≡ holdersHold m processors locks
 unfolding holdersHold
 holders-is m processors locks r e = e
 
@@ -93,7 +95,7 @@ holders-is m processors locks r e = e
 -- all of the first k have arrived
 pub record AllArrived (m : List ℕ) (n k : ℕ) : Type 0 where
   pub upto : k ≤ n
-  pub none : any k (zeroAt m 5) ≡ false
+  pub none : any k (zeroAt m firstArrived) ≡ false
 
 -- none was looked at
 pub arrived-none : (m : List ℕ) (n : ℕ) → AllArrived m n 0
@@ -101,26 +103,26 @@ unfolding any
 arrived-none m n = record { upto = omega arith; none = refl }
 
 -- one more has arrived
-pub arrived-more : (m : List ℕ) (n k : ℕ) → AllArrived m n k → k < n → (getD m (5 + k) 0 ≡ 0 → ⊥) → AllArrived m n (k + 1)
+pub arrived-more : (m : List ℕ) (n k : ℕ) → AllArrived m n k → k < n → (getD m (firstArrived + k) 0 ≡ 0 → ⊥) → AllArrived m n (k + 1)
 unfolding any zeroAt
 arrived-more m n k p h e = record { upto = omega arith; none = rw (add-one, p .none, ne-eqb _ _ e) }
 
 -- one has not
-pub arrived-missing : (m : List ℕ) (n k : ℕ) → AllArrived m n k → k < n → getD m (5 + k) 0 ≡ 0 → true ≡ any n (zeroAt m 5)
+pub arrived-missing : (m : List ℕ) (n k : ℕ) → AllArrived m n k → k < n → getD m (firstArrived + k) 0 ≡ 0 → true ≡ any n (zeroAt m firstArrived)
 unfolding zeroAt
-arrived-missing m n k p h e = sym (any-holds n (zeroAt m 5) k h (eq-eqb _ _ e))
+arrived-missing m n k p h e = sym (any-holds n (zeroAt m firstArrived) k h (eq-eqb _ _ e))
 
 -- all have
-pub arrived-all : (m : List ℕ) (n k : ℕ) → AllArrived m n k → n ≤ k → false ≡ any n (zeroAt m 5)
+pub arrived-all : (m : List ℕ) (n k : ℕ) → AllArrived m n k → n ≤ k → false ≡ any n (zeroAt m firstArrived)
 arrived-all m n k p h = let e : k ≡ n = omega (arith, p .upto) in rw (← e) (sym (p .none))
 
 -- the marks of absent processors lie within the area
-pub absent-arrived-there : (m : List ℕ) (processors : ℕ) → length m ≡ 93 → processors ≤ 8 → PlacesThere m (5 + processors) (8 - processors)
+pub absent-arrived-there : (m : List ℕ) (processors : ℕ) → length m ≡ markArea → processors ≤ processorLimit → PlacesThere m (firstArrived + processors) (processorLimit - processors)
 absent-arrived-there m processors a h = record { within = omega arith }
 
 -- both decide
 pub arrived-is : (m : List ℕ) (processors : ℕ) (r : Bool)
-    → r ≡ (every (8 - processors) (zeroAt m (5 + processors)) && any processors (zeroAt m 5)) → r ≡ arrivedHold m processors
+    → r ≡ (every (processorLimit - processors) (zeroAt m (firstArrived + processors)) && any processors (zeroAt m firstArrived)) → r ≡ arrivedHold m processors
 unfolding arrivedHold
 arrived-is m processors r e = e
 
@@ -150,14 +152,14 @@ count-dirty m at pages g n p h e =
     record { upto = omega arith; few = omega (arith, p .few); counted = rw (add-one g, ne-eqb _ _ e) (omega (arith, p .counted)) }
 
 -- all were counted
-pub count-all : (m : List ℕ) (pages k g n : ℕ) → Counted m (29 + 8 * k) pages g n → pages ≤ g → n ≡ dirtyOf m pages k
+pub count-all : (m : List ℕ) (pages k g n : ℕ) → Counted m (firstDirty + pageLimit * k) pages g n → pages ≤ g → n ≡ dirtyOf m pages k
 unfolding dirtyOf
 count-all m pages k g n p h = let e : g ≡ pages = omega (arith, p .upto) in p .counted ∙ rw e
 
 -- the first k processors have n dirty pages
 pub record Summed (m : List ℕ) (processors pages k n : ℕ) : Type 0 where
   pub upto : k ≤ processors
-  pub few : n ≤ 8 * k
+  pub few : n ≤ pageLimit * k
   pub summed : n ≡ total k (dirtyOf m pages)
 
 -- no processor was counted
@@ -166,7 +168,7 @@ unfolding total
 sum-none m processors pages = record { upto = omega arith; few = omega arith; summed = refl }
 
 -- one more processor
-pub sum-next : (m : List ℕ) (processors pages k n d : ℕ) → Summed m processors pages k n → k < processors → d ≡ dirtyOf m pages k → d ≤ 8
+pub sum-next : (m : List ℕ) (processors pages k n d : ℕ) → Summed m processors pages k n → k < processors → d ≡ dirtyOf m pages k → d ≤ pageLimit
     → Summed m processors pages (k + 1) (n + d)
 unfolding total
 sum-next m processors pages k n d p h e f =
@@ -177,7 +179,7 @@ pub sum-whole : (m : List ℕ) (processors pages k n : ℕ) → Summed m process
 sum-whole m processors pages k n p h = let e : k ≡ processors = omega (arith, p .upto) in p .summed ∙ rw e
 
 -- the sum decides
-pub room-is : (m : List ℕ) (processors pages standing d : ℕ) → d ≡ total processors (dirtyOf m pages) → leb (standing + d) 128 ≡ roomHolds m processors pages standing
+pub room-is : (m : List ℕ) (processors pages standing d : ℕ) → d ≡ total processors (dirtyOf m pages) → leb (standing + d) recordLimit ≡ roomHolds m processors pages standing
 unfolding roomHolds
 room-is m processors pages standing d e = rw e
 
@@ -185,7 +187,7 @@ room-is m processors pages standing d e = rw e
 
 -- the tests of all marks, one after the other
 pub marks-is : (own m : List ℕ) (processors pages locks standing : ℕ) (r : Bool)
-    → r ≡ (every 8 (dirtyHold own m processors pages) && (holdersHold m processors locks && (arrivedHold m processors && roomHolds m processors pages standing)))
+    → r ≡ (every processorLimit (dirtyHold own m processors pages) && (holdersHold m processors locks && (arrivedHold m processors && roomHolds m processors pages standing)))
     → r ≡ marksHoldWith own m processors pages locks standing
 unfolding marksHoldWith
 marks-is own m processors pages locks standing r e = e

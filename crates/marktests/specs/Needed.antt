@@ -4,6 +4,8 @@ use Prim.Native.Nat.{ℕ, _+_, _≤_, _<_}
 use mathlib.Core.Path.{_≡_}
 use mathlib.Core.List.{List}
 use lib.ListN.{length}
+use Rattle.limits.specs.Limits.{lockLimit, pageLimit, processorLimit, recordLimit}
+use Rattle.limits.specs.Sizes.{markArea}
 
 -- n places from `at` on lie within the area
 pub record PlacesThere (l : List ℕ) (at n : ℕ) : Type 0 where
@@ -11,18 +13,18 @@ pub record PlacesThere (l : List ℕ) (at n : ℕ) : Type 0 where
 
 -- the counts are at most what there is place for
 pub record CountsFit (processors pages locks standing : ℕ) : Type 0 where
-  pub processors-fit : processors ≤ 8
-  pub pages-fit : pages ≤ 8
-  pub locks-fit : locks ≤ 16
-  pub standing-fit : standing ≤ 128
+  pub processors-fit : processors ≤ processorLimit
+  pub pages-fit : pages ≤ pageLimit
+  pub locks-fit : locks ≤ lockLimit
+  pub standing-fit : standing ≤ recordLimit
 
 -- the area of the marks and one processor of eight
 pub record MarksOne (m : List ℕ) (pages k : ℕ) : Type 0 where
-  pub marks : length m ≡ 93
-  pub pages-fit : pages ≤ 8
-  pub processor : k < 8
+  pub marks : length m ≡ markArea
+  pub pages-fit : pages ≤ pageLimit
+  pub processor : k < processorLimit
 
 -- the area of the marks, and counts that fit
 pub record MarksThere (m : List ℕ) (processors pages locks standing : ℕ) : Type 0 where
-  pub marks : length m ≡ 93
+  pub marks : length m ≡ markArea
   pub counts : CountsFit processors pages locks standing

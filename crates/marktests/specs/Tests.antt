@@ -5,6 +5,8 @@ use mathlib.Core.Bool.{Bool, cond, not, _&&_}
 use mathlib.Core.List.{List}
 use lib.ListN.{getD}
 use lib.Dec.{leb, ltb, eqb}
+use Rattle.limits.specs.Limits.{firstArrived, intervalLimit, lockLimit, pageLimit, processorLimit, recordLimit}
+use Rattle.limits.specs.Sizes.{firstDirty, firstHolder}
 use Rattle.rules.specs.Tables.{every, any, total}
 
 -- ---- what the tests of other areas share with these
@@ -21,23 +23,23 @@ pagesOf processors pages k = cond (ltb k processors) pages 0
 
 -- how many pages of processor k + 1 may be dirty: none with own entry 63
 unfoldable pub mayBeDirty : List ℕ → ℕ → ℕ → ℕ → ℕ
-mayBeDirty own processors pages k = cond (ltb (getD own k 0) 63) (pagesOf processors pages k) 0
+mayBeDirty own processors pages k = cond (ltb (getD own k 0) intervalLimit) (pagesOf processors pages k) 0
 
 -- the dirty marks of the others are 0
 unfoldable pub dirtyHold : List ℕ → List ℕ → ℕ → ℕ → ℕ → Bool
-dirtyHold own m processors pages k = every (8 - mayBeDirty own processors pages k) (zeroAt m (29 + 8 * k + mayBeDirty own processors pages k))
+dirtyHold own m processors pages k = every (pageLimit - mayBeDirty own processors pages k) (zeroAt m (firstDirty + pageLimit * k + mayBeDirty own processors pages k))
 
 -- the holder of a lock is a present processor or 0
 unfoldable pub holderWithin : List ℕ → ℕ → ℕ → Bool
-holderWithin m processors l = leb (getD m (13 + l) 0) processors
+holderWithin m processors l = leb (getD m (firstHolder + l) 0) processors
 
 -- and that of an absent lock is 0
 unfoldable pub holdersHold : List ℕ → ℕ → ℕ → Bool
-holdersHold m processors locks = every locks (holderWithin m processors) && every (16 - locks) (zeroAt m (13 + locks))
+holdersHold m processors locks = every locks (holderWithin m processors) && every (lockLimit - locks) (zeroAt m (firstHolder + locks))
 
 -- no absent processor has arrived, and not every present one
 unfoldable pub arrivedHold : List ℕ → ℕ → Bool
-arrivedHold m processors = every (8 - processors) (zeroAt m (5 + processors)) && any processors (zeroAt m 5)
+arrivedHold m processors = every (processorLimit - processors) (zeroAt m (firstArrived + processors)) && any processors (zeroAt m firstArrived)
 
 -- 1 for a dirty page, the g-th from a place on
 unfoldable pub dirtyCount : List ℕ → ℕ → ℕ → ℕ
@@ -45,16 +47,16 @@ dirtyCount m at g = cond (not (zeroAt m at g)) 1 0
 
 -- the dirty pages of one processor
 unfoldable pub dirtyOf : List ℕ → ℕ → ℕ → ℕ
-dirtyOf m pages k = total pages (dirtyCount m (29 + 8 * k))
+dirtyOf m pages k = total pages (dirtyCount m (firstDirty + pageLimit * k))
 
 -- records and dirty pages have their place
 unfoldable pub roomHolds : List ℕ → ℕ → ℕ → ℕ → Bool
-roomHolds m processors pages standing = leb (standing + total processors (dirtyOf m pages)) 128
+roomHolds m processors pages standing = leb (standing + total processors (dirtyOf m pages)) recordLimit
 
 -- all marks
 unfoldable pub marksHoldWith : List ℕ → List ℕ → ℕ → ℕ → ℕ → ℕ → Bool
 marksHoldWith own m processors pages locks standing =
-    every 8 (dirtyHold own m processors pages)
+    every processorLimit (dirtyHold own m processors pages)
     && (holdersHold m processors locks
     && (arrivedHold m processors
     && roomHolds m processors pages standing))

@@ -3,14 +3,26 @@
 ghost use mathlib.Core.Path.{_≡_};
 ghost use Prim.Native.Nat.{_<_, _≤_};
 ghost use lib.ListN.{length};
+ghost use Rattle.limits.specs.Limits.{firstArrived, lockLimit, pageLimit, processorLimit, recordLimit};
+ghost use Rattle.limits.specs.Sizes.{copyLimit, markArea};
 ghost use Rattle.rules.specs.Tables.{every, any, total};
 ghost use Rattle.marktests.specs.Tests.{zeroAt, pagesOf, mayBeDirty, dirtyHold, holderWithin, holdersHold, arrivedHold, dirtyOf, roomHolds, marksHoldWith};
 ghost use Rattle.marktests.specs.Needed.{PlacesThere, MarksOne, MarksThere};
+use limits::CLOCK_WIDTH;
+use limits::FIRST_ARRIVED;
+use limits::FIRST_DIRTY;
+use limits::FIRST_HOLDER;
+use limits::LAST_INTERVAL;
+use limits::LOCK_LIMIT;
+use limits::PAGE_LIMIT;
+use limits::PROCESSOR_LIMIT;
+use limits::RECORD_LIMIT;
+use memory::wide;
 
 // Whether all marks are in order.
 pub fn marks_hold(
     marks: &[u8],
-    own: [u8; 8],
+    own: [u8; CLOCK_WIDTH],
     processors: usize,
     pages: usize,
     locks: usize,
@@ -58,33 +70,37 @@ pub fn pages_of(processors: usize, pages: usize, k: usize) -> usize
 }
 
 // How many pages of a processor may be dirty: none where its own entry is 63.
-fn may_be_dirty(own: [u8; 8], processors: usize, pages: usize, k: usize) -> usize
-    requires { ⌜ k < 8 ⌝ }
+fn may_be_dirty(own: [u8; CLOCK_WIDTH], processors: usize, pages: usize, k: usize) -> usize
+    requires { ⌜ k < processorLimit ⌝ }
     ensures { λ r. ⌜ r ≡ mayBeDirty own processors pages k ⌝ }
     ensures { λ r. ⌜ r ≤ pages ⌝ }
 {
-    if own[k] < 63 {
+    if own[k] < LAST_INTERVAL {
         return pages_of(processors, pages, k);
     }
     0
 }
 
 // Whether no other page of the processor is dirty.
-fn dirty_of(marks: &[u8], own: [u8; 8], processors: usize, pages: usize, k: usize) -> bool
+fn dirty_of(marks: &[u8], own: [u8; CLOCK_WIDTH], processors: usize, pages: usize, k: usize) -> bool
     requires { ⌜ MarksOne (now marks) pages k ⌝ }
     ensures { λ r. ⌜ r ≡ dirtyHold own (now (marks .entry)) processors pages k ⌝ }
 {
     let there = may_be_dirty(own, processors, pages, k);
-    zeros_at(marks, 29 + 8 * k + there, 8 - there)
+    zeros_at(
+        marks,
+        FIRST_DIRTY + PAGE_LIMIT * k + there,
+        PAGE_LIMIT - there,
+    )
 }
 
 // Whether that is so for every processor.
-fn dirty_hold(marks: &[u8], own: [u8; 8], processors: usize, pages: usize) -> bool
-    requires { ⌜ (length (now marks) ≡ 93) × (pages ≤ 8) ⌝ }
-    ensures { λ r. ⌜ r ≡ every 8 (dirtyHold own (now (marks .entry)) processors pages) ⌝ }
+fn dirty_hold(marks: &[u8], own: [u8; CLOCK_WIDTH], processors: usize, pages: usize) -> bool
+    requires { ⌜ (length (now marks) ≡ markArea) × (pages ≤ pageLimit) ⌝ }
+    ensures { λ r. ⌜ r ≡ every processorLimit (dirtyHold own (now (marks .entry)) processors pages) ⌝ }
 {
     let mut k: usize = 0;
-    while k < 8 {
+    while k < PROCESSOR_LIMIT {
         if !dirty_of(marks, own, processors, pages, k) {
             return false;
         }
@@ -95,12 +111,12 @@ fn dirty_hold(marks: &[u8], own: [u8; 8], processors: usize, pages: usize) -> bo
 
 // Whether the holders of the present locks are present processors or 0.
 fn holders_within(marks: &[u8], processors: usize, locks: usize) -> bool
-    requires { ⌜ (length (now marks) ≡ 93) × (locks ≤ 16) ⌝ }
+    requires { ⌜ (length (now marks) ≡ markArea) × (locks ≤ lockLimit) ⌝ }
     ensures { λ r. ⌜ r ≡ every locks (holderWithin (now (marks .entry)) processors) ⌝ }
 {
     let mut l: usize = 0;
     while l < locks {
-        if processors < wide(marks[13 + l]) {
+        if processors < wide(marks[FIRST_HOLDER + l]) {
             return false;
         }
         l = l + 1;
@@ -110,23 +126,23 @@ fn holders_within(marks: &[u8], processors: usize, locks: usize) -> bool
 
 // Whether they are, and those of absent locks are 0.
 fn holders_hold(marks: &[u8], processors: usize, locks: usize) -> bool
-    requires { ⌜ (length (now marks) ≡ 93) × (locks ≤ 16) ⌝ }
+    requires { ⌜ (length (now marks) ≡ markArea) × (locks ≤ lockLimit) ⌝ }
     ensures { λ r. ⌜ r ≡ holdersHold (now (marks .entry)) processors locks ⌝ }
 {
     if !holders_within(marks, processors, locks) {
         return false;
     }
-    zeros_at(marks, 13 + locks, 16 - locks)
+    zeros_at(marks, FIRST_HOLDER + locks, LOCK_LIMIT - locks)
 }
 
 // Whether one of the present processors has not arrived.
 fn someone_missing(marks: &[u8], processors: usize) -> bool
-    requires { ⌜ (length (now marks) ≡ 93) × (processors ≤ 8) ⌝ }
-    ensures { λ r. ⌜ r ≡ any processors (zeroAt (now (marks .entry)) 5) ⌝ }
+    requires { ⌜ (length (now marks) ≡ markArea) × (processors ≤ processorLimit) ⌝ }
+    ensures { λ r. ⌜ r ≡ any processors (zeroAt (now (marks .entry)) firstArrived) ⌝ }
 {
     let mut k: usize = 0;
     while k < processors {
-        if marks[5 + k] == 0 {
+        if marks[FIRST_ARRIVED + k] == 0 {
             return true;
         }
         k = k + 1;
@@ -136,10 +152,14 @@ fn someone_missing(marks: &[u8], processors: usize) -> bool
 
 // Whether one has not, and no absent processor has.
 fn arrived_hold(marks: &[u8], processors: usize) -> bool
-    requires { ⌜ (length (now marks) ≡ 93) × (processors ≤ 8) ⌝ }
+    requires { ⌜ (length (now marks) ≡ markArea) × (processors ≤ processorLimit) ⌝ }
     ensures { λ r. ⌜ r ≡ arrivedHold (now (marks .entry)) processors ⌝ }
 {
-    if !zeros_at(marks, 5 + processors, 8 - processors) {
+    if !zeros_at(
+        marks,
+        FIRST_ARRIVED + processors,
+        PROCESSOR_LIMIT - processors,
+    ) {
         return false;
     }
     someone_missing(marks, processors)
@@ -149,9 +169,9 @@ fn arrived_hold(marks: &[u8], processors: usize) -> bool
 fn dirty_pages_of(marks: &[u8], pages: usize, k: usize) -> usize
     requires { ⌜ MarksOne (now marks) pages k ⌝ }
     ensures { λ r. ⌜ r ≡ dirtyOf (now (marks .entry)) pages k ⌝ }
-    ensures { λ r. ⌜ r ≤ 8 ⌝ }
+    ensures { λ r. ⌜ r ≤ pageLimit ⌝ }
 {
-    let at = 29 + 8 * k;
+    let at = FIRST_DIRTY + PAGE_LIMIT * k;
     let mut n: usize = 0;
     let mut g: usize = 0;
     while g < pages {
@@ -167,9 +187,9 @@ fn dirty_pages_of(marks: &[u8], pages: usize, k: usize) -> usize
 
 // How many pages of all processors are.
 fn dirty_pages(marks: &[u8], processors: usize, pages: usize) -> usize
-    requires { ⌜ (length (now marks) ≡ 93) × (processors ≤ 8) × (pages ≤ 8) ⌝ }
+    requires { ⌜ (length (now marks) ≡ markArea) × (processors ≤ processorLimit) × (pages ≤ pageLimit) ⌝ }
     ensures { λ r. ⌜ r ≡ total processors (dirtyOf (now (marks .entry)) pages) ⌝ }
-    ensures { λ r. ⌜ r ≤ 64 ⌝ }
+    ensures { λ r. ⌜ r ≤ copyLimit ⌝ }
 {
     let mut n: usize = 0;
     let mut k: usize = 0;
@@ -182,14 +202,8 @@ fn dirty_pages(marks: &[u8], processors: usize, pages: usize) -> usize
 
 // Whether records and dirty pages are at most 128.
 fn room_holds(marks: &[u8], processors: usize, pages: usize, standing: usize) -> bool
-    requires { ⌜ (length (now marks) ≡ 93) × (processors ≤ 8) × (pages ≤ 8) × (standing ≤ 128) ⌝ }
+    requires { ⌜ (length (now marks) ≡ markArea) × (processors ≤ processorLimit) × (pages ≤ pageLimit) × (standing ≤ recordLimit) ⌝ }
     ensures { λ r. ⌜ r ≡ roomHolds (now (marks .entry)) processors pages standing ⌝ }
 {
-    standing + dirty_pages(marks, processors, pages) <= 128
-}
-
-fn wide(x: u8) -> usize
-    ensures { λ r. ⌜ (r ≡ x) × (r < 256) ⌝ }
-{
-    x as usize
+    standing + dirty_pages(marks, processors, pages) <= RECORD_LIMIT
 }

@@ -8,10 +8,16 @@ use mathlib.Core.List.{List, [], _∷_, _++_}
 use lib.ListN.{length, getD, take, drop, set, length-drop, length-set, replicate, replicate-append-replicate, drop-of-length-le}
 use lib.Seq.{length-take-le, take-all, take-suc, drop-cons, take-suc-set, getD-take, getD-drop, sets}
 use borrow.Author.Needs.{needs}
-use Rattle.rules.specs.State.{mainframe}
+use Rattle.limits.specs.Limits.{intervalLimit, pageLimit, processorLimit}
+use Rattle.limits.specs.Sizes.{clockArea, clockRowLimit, clockWidth, copyLimit, firstAppliedRow, firstDirty, firstIntervalRow, ownStep}
+use Rattle.clock.specs.Clocks.{entryOf}
+use Rattle.rules.specs.State.{mainframe, Processor, clock, own}
+use Rattle.rules.proofs.Facts.{Within}
 use Rattle.memory.specs.Layout.{rowOf, tabulate}
-use Rattle.memory.specs.Areas.{appliedRow, intervalRow, copyRow, twinRow, dirtyPlace}
-use Rattle.memory.specs.Needed.{RowThere, OnPage, MadeInterval, ClocksOf}
+use Rattle.memory.specs.Areas.{appliedRow, intervalRow, clockRow, copyRow, twinRow, dirtyPlace, stateIn}
+use Rattle.memory.specs.Needed.{RowThere, OnPage, MadeInterval, ClocksOf, OwnEntry}
+use Rattle.memory.proofs.ClockLaws.{clock-read}
+use Rattle.memory.proofs.RowLaws.{get-row}
 
 -- ---- the elements of a tabulated list
 
@@ -146,70 +152,98 @@ clear-all l₀ l n i p h =
 
 -- ---- row numbers: what the code computes is the row or the place of specs/Areas.antt at the mainframe's limits
 
-pub applied-row-is : (p g : ℕ) → OnPage p g → 25 + 8 * (p - 1) + g ≡ appliedRow mainframe p g
+pub applied-row-is : (p g : ℕ) → OnPage p g → firstAppliedRow + pageLimit * (p - 1) + g ≡ appliedRow mainframe p g
 unfolding appliedRow mainframe
 applied-row-is p g h = omega arith
 
-pub interval-row-is : (p i : ℕ) → MadeInterval p i → 89 + 63 * (p - 1) + (i - 1) ≡ intervalRow mainframe p i
+pub interval-row-is : (p i : ℕ) → MadeInterval p i → firstIntervalRow + intervalLimit * (p - 1) + (i - 1) ≡ intervalRow mainframe p i
 unfolding intervalRow mainframe
 interval-row-is p i h = omega arith
 
-pub copy-row-is : (p g : ℕ) → OnPage p g → 8 * (p - 1) + g ≡ copyRow mainframe p g
+pub copy-row-is : (p g : ℕ) → OnPage p g → pageLimit * (p - 1) + g ≡ copyRow mainframe p g
 unfolding copyRow mainframe
 copy-row-is p g h = omega arith
 
-pub twin-row-is : (p g : ℕ) → OnPage p g → 64 + 8 * (p - 1) + g ≡ twinRow mainframe p g
+pub twin-row-is : (p g : ℕ) → OnPage p g → copyLimit + pageLimit * (p - 1) + g ≡ twinRow mainframe p g
 unfolding twinRow copyRow mainframe
 twin-row-is p g h = omega arith
 
-pub dirty-place-is : (p g : ℕ) → OnPage p g → 29 + 8 * (p - 1) + g ≡ dirtyPlace mainframe p g
+pub dirty-place-is : (p g : ℕ) → OnPage p g → firstDirty + pageLimit * (p - 1) + g ≡ dirtyPlace mainframe p g
 unfolding dirtyPlace mainframe
 dirty-place-is p g h = omega arith
 
 -- a row of the area of the clocks lies within it
-pub clock-row-there : (c : List ℕ) (row : ℕ) → length c ≡ 4744 → row < 593 → RowThere 8 c row
+pub clock-row-there : (c : List ℕ) (row : ℕ) → length c ≡ clockArea → row < clockRowLimit → RowThere clockWidth c row
 clock-row-there c row e h = record { within = omega arith }
 
 -- ---- the applied clocks of a processor are read: the first g rows are theirs
 
 pub record AppliedRead (c : List ℕ) (p : ℕ) (rows : List (List ℕ)) (g : ℕ) : Type 0 where
-  pub clocks : length c ≡ 4744
+  pub clocks : length c ≡ clockArea
   pub from : 1 ≤ p
-  pub to : p ≤ 8
-  pub count : length rows ≡ 8
-  pub upto : g ≤ 8
-  pub first : take g rows ≡ take g (tabulate 8 (λ k. rowOf 8 c (appliedRow mainframe p k)))
+  pub to : p ≤ processorLimit
+  pub count : length rows ≡ pageLimit
+  pub upto : g ≤ pageLimit
+  pub first : take g rows ≡ take g (tabulate pageLimit (λ k. rowOf clockWidth c (appliedRow mainframe p k)))
 
 -- no row is read yet
-pub applied-read-begins : (c : List ℕ) (p : ℕ) (rows : List (List ℕ)) → ClocksOf c p → length rows ≡ 8 → AppliedRead c p rows 0
+pub applied-read-begins : (c : List ℕ) (p : ℕ) (rows : List (List ℕ)) → ClocksOf c p → length rows ≡ pageLimit → AppliedRead c p rows 0
 applied-read-begins c p rows h e = record { clocks = h .clocks; from = h .from; to = h .to; count = e; upto = omega arith; first = refl }
 
 -- the next page has a row
-pub applied-read-page : (c : List ℕ) (p : ℕ) (rows : List (List ℕ)) (g : ℕ) → AppliedRead c p rows g → g < 8 → OnPage p g
+pub applied-read-page : (c : List ℕ) (p : ℕ) (rows : List (List ℕ)) (g : ℕ) → AppliedRead c p rows g → g < pageLimit → OnPage p g
 applied-read-page c p rows g h l = record { from = h .from; to = h .to; page = l }
 
 -- one more row is the processor's
-pub applied-read-more : (c : List ℕ) (p : ℕ) (rows : List (List ℕ)) (g r : ℕ) (row : List ℕ) → AppliedRead c p rows g → g < 8 → r ≡ appliedRow mainframe p g
-    → row ≡ rowOf 8 c r → AppliedRead c p (set rows g row) (g + 1)
+pub applied-read-more : (c : List ℕ) (p : ℕ) (rows : List (List ℕ)) (g r : ℕ) (row : List ℕ) → AppliedRead c p rows g → g < pageLimit → r ≡ appliedRow mainframe p g
+    → row ≡ rowOf clockWidth c r → AppliedRead c p (set rows g row) (g + 1)
 applied-read-more c p rows g r row h l er e =
-    let f : ℕ → List ℕ = λ k. rowOf 8 c (appliedRow mainframe p k) in
+    let f : ℕ → List ℕ = λ k. rowOf clockWidth c (appliedRow mainframe p k) in
     let hr : g < length rows = omega (arith, h .count) in
-    let ht : g < length (tabulate 8 f) = omega (arith, length-tabulate 8 f) in
+    let ht : g < length (tabulate pageLimit f) = omega (arith, length-tabulate pageLimit f) in
     record {
       clocks = h .clocks;
       from = h .from;
       to = h .to;
       count = length-set rows g row ∙ h .count;
       upto = omega arith;
-      first = rw (add-one, take-suc-set rows g row hr, take-suc (tabulate 8 f) g [] ht, tabulate-at 8 f g [] l, h .first, e, er);
+      first = rw (add-one, take-suc-set rows g row hr, take-suc (tabulate pageLimit f) g [] ht, tabulate-at pageLimit f g [] l, h .first, e, er);
     }
 
 -- all eight rows are the processor's; f is what a contract writes for them
-pub applied-read-all : (c : List ℕ) (p : ℕ) (rows : List (List ℕ)) (g : ℕ) (f : ℕ → List ℕ) → AppliedRead c p rows g → 8 ≤ g
-    → ((k : ℕ) → f k ≡ rowOf 8 c (appliedRow mainframe p k)) → rows ≡ tabulate 8 f
+pub applied-read-all : (c : List ℕ) (p : ℕ) (rows : List (List ℕ)) (g : ℕ) (f : ℕ → List ℕ) → AppliedRead c p rows g → pageLimit ≤ g
+    → ((k : ℕ) → f k ≡ rowOf clockWidth c (appliedRow mainframe p k)) → rows ≡ tabulate pageLimit f
 applied-read-all c p rows g f h l e =
-    let same : f ≡ (λ k. rowOf 8 c (appliedRow mainframe p k)) = fun-ext e in
-    sym (take-all g rows (omega (arith, h .count))) ∙ h .first ∙ ap (λ (t : ℕ → List ℕ). take g (tabulate 8 t)) (sym same)
-    ∙ take-all g (tabulate 8 f) (omega (arith, length-tabulate 8 f))
+    let same : f ≡ (λ k. rowOf clockWidth c (appliedRow mainframe p k)) = fun-ext e in
+    sym (take-all g rows (omega (arith, h .count))) ∙ h .first ∙ ap (λ (t : ℕ → List ℕ). take g (tabulate pageLimit t)) (sym same)
+    ∙ take-all g (tabulate pageLimit f) (omega (arith, length-tabulate pageLimit f))
 
-pub ruleset row-laws = (row-read-begins, row-read-more, row-read-all, row-written-begins, row-written-more, row-written-all, row-copied, clear-begins, clear-more, clear-all, applied-row-is, interval-row-is, copy-row-is, twin-row-is, dirty-place-is, clock-row-there, applied-read-begins, applied-read-page, applied-read-more, applied-read-all, needs)
+-- ---- the own entry of a processor
+
+entry-at : (c : List ℕ) (p : ℕ) → 1 ≤ p → p ≤ processorLimit → entryOf (rowOf clockWidth c (clockRow mainframe (Processor p))) p ≡ getD c (ownStep * p - 1) 0
+unfolding entryOf clockRow
+entry-at c zero h k = absurd (omega arith)
+entry-at c (suc q) h k =
+    let e : clockWidth * suc q + q ≡ ownStep * suc q - 1 = omega arith in
+    get-row clockWidth c (suc q) q 0 (omega arith) ∙ ap (λ (j : ℕ). getD c j 0) e
+
+-- a processor has a clock
+pub processor-within : (p : ℕ) → 1 ≤ p → p ≤ processorLimit → Within mainframe (Processor p)
+unfolding Within mainframe
+processor-within p h k = (h, k)
+
+module _ (c : List ℕ) (p : ℕ) (there : ClocksOf c p) where
+  -- the own entry lies within the area
+  pub own-place : ownStep * p - 1 < length c
+  own-place = omega (arith, there .clocks, there .from, there .to)
+
+  -- the byte at that place is the own entry
+  pub own-is : OwnEntry c p (getD c (ownStep * p - 1) 0)
+  unfolding own clock stateIn
+  own-is =
+      record {
+        is = λ w r m.
+            sym (ap (λ (v : List ℕ). entryOf v p) (clock-read c (Processor p) (processor-within p (there .from) (there .to))) ∙ entry-at c p (there .from) (there .to));
+      }
+
+pub ruleset row-laws = (row-read-begins, row-read-more, row-read-all, row-written-begins, row-written-more, row-written-all, row-copied, clear-begins, clear-more, clear-all, applied-row-is, interval-row-is, copy-row-is, twin-row-is, dirty-place-is, clock-row-there, own-place, own-is, applied-read-begins, applied-read-page, applied-read-more, applied-read-all, needs)

@@ -4,7 +4,7 @@ use mathlib.Core.Bool.{Bool, _&&_}
 use mathlib.Core.List.{List, _∷_, _++_}
 use lib.ListN.{length, getD, drop}
 use lib.Dec.{eqb}
-use Rattle.diff.specs.Reading.{applied}
+use Rattle.limits.specs.Limits.{processorsPlace, pagesPlace, locksPlace, standingPlace, wantedPlace, firstArrived}
 use Rattle.rules.specs.InOrder.{slotSize}
 use Rattle.rules.specs.State.{Limits, mainframe, Holder, Processor, Lock, Barrier, Applied, Interval, Clocks, Pages, Records, Marks, State, standing}
 use Rattle.memory.specs.Layout.{rowOf, tabulate, perProcessor, joinRows}
@@ -53,19 +53,23 @@ wordRows lim = lim .processors * lim .pages + lim .processors * lim .pages
 
 -- the arrived mark of processor p
 unfoldable pub arrivedPlace : Limits → ℕ → ℕ
-arrivedPlace lim p = 4 + p
+arrivedPlace lim p = firstArrived + (p - 1)
 
 -- the holder of lock l
 unfoldable pub holderPlace : Limits → ℕ → ℕ
-holderPlace lim l = 5 + lim .processors + l
+holderPlace lim l = firstArrived + lim .processors + l
 
 -- the dirty mark of page g of processor p
 unfoldable pub dirtyPlace : Limits → ℕ → ℕ → ℕ
-dirtyPlace lim p g = 5 + lim .processors + lim .locks + (p - 1) * lim .pages + g
+dirtyPlace lim p g = firstArrived + lim .processors + lim .locks + (p - 1) * lim .pages + g
 
 -- all marks
 unfoldable pub markPlaces : Limits → ℕ
-markPlaces lim = 5 + lim .processors + lim .locks + lim .processors * lim .pages
+markPlaces lim = firstArrived + lim .processors + lim .locks + lim .processors * lim .pages
+
+-- how many records stand
+unfoldable pub standingCount : List ℕ → ℕ
+standingCount m = getD m standingPlace 0
 
 -- ---- decode: the state that the areas hold
 
@@ -91,7 +95,7 @@ pagesIn lim w m =
 
 -- the slots from the records, their number from the marks
 unfoldable pub recordsIn : Limits → List ℕ → List ℕ → Records
-recordsIn lim r m = record { standing = getD m 3 0; slots = tabulate (lim .records) (λ i. rowOf (slotSize lim) r i) }
+recordsIn lim r m = record { standing = standingCount m; slots = tabulate (lim .records) (λ i. rowOf (slotSize lim) r i) }
 
 -- holders, arrived marks and the wish
 unfoldable pub marksIn : Limits → List ℕ → Marks
@@ -99,14 +103,14 @@ marksIn lim m =
     record {
       holders = tabulate (lim .locks) (λ l. getD m (holderPlace lim l) 0);
       arrived = 0 ∷ tabulate (lim .processors) (λ k. getD m (arrivedPlace lim (suc k)) 0);
-      wanted = getD m 4 0;
+      wanted = getD m wantedPlace 0;
     }
 
 -- the whole state
 unfoldable pub stateIn : Limits → List ℕ → List ℕ → List ℕ → List ℕ → State
 stateIn lim c w r m =
     record {
-      counts = record { processors = getD m 0 0; pages = getD m 1 0; locks = getD m 2 0 };
+      counts = record { processors = getD m processorsPlace 0; pages = getD m pagesPlace 0; locks = getD m locksPlace 0 };
       clocks = clocksIn lim c;
       pages = pagesIn lim w m;
       records = recordsIn lim r m;

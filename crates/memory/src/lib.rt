@@ -1,28 +1,42 @@
 // The state of one mainframe in lent memory: clocks and pages read and written by their rows.
 // Every contract is an equation over the lists that the areas hold; specs/Areas.antt says what state they are.
+pub mod marks;
+pub mod slots;
+
 ghost use mathlib.Core.Path.{_≡_};
 ghost use mathlib.Core.List.{[]};
 ghost use Prim.Native.Nat.{_*_, _<_};
 ghost use lib.ListN.{length, getD, replicate};
 ghost use lib.Seq.{sets};
+ghost use Rattle.limits.specs.Limits.{lockLimit, pageLimit, pageWidth};
+ghost use Rattle.limits.specs.Sizes.{clockRowLimit, clockWidth, wordRowLimit};
 ghost use Rattle.rules.specs.State.{mainframe};
 ghost use Rattle.memory.specs.Layout.{rowOf, tabulate};
-ghost use Rattle.memory.specs.Areas.{appliedRow, intervalRow, copyRow, twinRow, dirtyPlace};
-ghost use Rattle.memory.specs.Needed.{RowThere, OnPage, MadeInterval, ClocksOf};
+ghost use Rattle.memory.specs.Areas.{lockRow, appliedRow, intervalRow, copyRow, twinRow};
+ghost use Rattle.memory.specs.Needed.{RowThere, OnPage, MadeInterval, ClocksOf, OwnEntry};
 use clock::Clock;
 use clock::IntervalId;
 use clock::PageId;
 use clock::ProcessorId;
+use limits::CLOCK_WIDTH;
+use limits::COPY_LIMIT;
+use limits::FIRST_APPLIED_ROW;
+use limits::FIRST_INTERVAL_ROW;
+use limits::FIRST_LOCK_ROW;
+use limits::INTERVAL_LIMIT;
+use limits::OWN_STEP;
+use limits::PAGE_LIMIT;
+use limits::PAGE_WIDTH;
 
 // The clock in a row of eight entries.
 pub fn clock_at(clocks: &[u8], row: usize) -> Clock
-    requires { ⌜ RowThere 8 (now clocks) row ⌝ }
-    ensures { λ r. ⌜ r .entries ≡ rowOf 8 (now (clocks .entry)) row ⌝ }
+    requires { ⌜ RowThere clockWidth (now clocks) row ⌝ }
+    ensures { λ r. ⌜ r .entries ≡ rowOf clockWidth (now (clocks .entry)) row ⌝ }
 {
-    let at = 8 * row;
-    let mut entries = [0; 8];
+    let at = CLOCK_WIDTH * row;
+    let mut entries = [0; CLOCK_WIDTH];
     let mut i: usize = 0;
-    while i < 8 {
+    while i < CLOCK_WIDTH {
         entries[i] = clocks[at + i];
         i = i + 1;
     }
@@ -31,27 +45,35 @@ pub fn clock_at(clocks: &[u8], row: usize) -> Clock
 
 // A clock laid into its row.
 pub fn put_clock(clocks: &mut [u8], row: usize, clock: Clock)
-    requires { ⌜ RowThere 8 (now clocks) row ⌝ }
-    ensures { λ _. ⌜ now (clocks .exit) ≡ sets (now (clocks .entry)) (8 * row) (clock .entries) ⌝ }
+    requires { ⌜ RowThere clockWidth (now clocks) row ⌝ }
+    ensures { λ _. ⌜ now (clocks .exit) ≡ sets (now (clocks .entry)) (clockWidth * row) (clock .entries) ⌝ }
 {
     let entries = clock.entries;
-    let at = 8 * row;
+    let at = CLOCK_WIDTH * row;
     let mut i: usize = 0;
-    while i < 8 {
+    while i < CLOCK_WIDTH {
         clocks[at + i] = entries[i];
         i = i + 1;
     }
 }
 
-// The page of 32 words in a row.
-pub fn page_at(words: &[u32], row: usize) -> [u32; 32]
-    requires { ⌜ RowThere 32 (now words) row ⌝ }
-    ensures { λ r. ⌜ r ≡ rowOf 32 (now (words .entry)) row ⌝ }
+// The own entry of a processor: how many intervals it has made.
+pub fn own_entry(clocks: &[u8], p: ProcessorId) -> u8
+    requires { ⌜ ClocksOf (now clocks) (p .0) ⌝ }
+    ensures { λ r. ⌜ OwnEntry (now (clocks .entry)) (p .0) r ⌝ }
 {
-    let at = 32 * row;
-    let mut page = [0; 32];
+    clocks[OWN_STEP * p.0 - 1]
+}
+
+// The page of 32 words in a row.
+pub fn page_at(words: &[u32], row: usize) -> [u32; PAGE_WIDTH]
+    requires { ⌜ RowThere pageWidth (now words) row ⌝ }
+    ensures { λ r. ⌜ r ≡ rowOf pageWidth (now (words .entry)) row ⌝ }
+{
+    let at = PAGE_WIDTH * row;
+    let mut page = [0; PAGE_WIDTH];
     let mut i: usize = 0;
-    while i < 32 {
+    while i < PAGE_WIDTH {
         page[i] = words[at + i];
         i = i + 1;
     }
@@ -59,13 +81,13 @@ pub fn page_at(words: &[u32], row: usize) -> [u32; 32]
 }
 
 // A page laid into its row.
-pub fn put_page(words: &mut [u32], row: usize, page: [u32; 32])
-    requires { ⌜ RowThere 32 (now words) row ⌝ }
-    ensures { λ _. ⌜ now (words .exit) ≡ sets (now (words .entry)) (32 * row) page ⌝ }
+pub fn put_page(words: &mut [u32], row: usize, page: [u32; PAGE_WIDTH])
+    requires { ⌜ RowThere pageWidth (now words) row ⌝ }
+    ensures { λ _. ⌜ now (words .exit) ≡ sets (now (words .entry)) (pageWidth * row) page ⌝ }
 {
-    let at = 32 * row;
+    let at = PAGE_WIDTH * row;
     let mut i: usize = 0;
-    while i < 32 {
+    while i < PAGE_WIDTH {
         words[at + i] = page[i];
         i = i + 1;
     }
@@ -73,8 +95,8 @@ pub fn put_page(words: &mut [u32], row: usize, page: [u32; 32])
 
 // A page copied from one row to another.
 pub fn copy_page(words: &mut [u32], from: usize, to: usize)
-    requires { ⌜ RowThere 32 (now words) from × RowThere 32 (now words) to ⌝ }
-    ensures { λ _. ⌜ now (words .exit) ≡ sets (now (words .entry)) (32 * to) (rowOf 32 (now (words .entry)) from) ⌝ }
+    requires { ⌜ RowThere pageWidth (now words) from × RowThere pageWidth (now words) to ⌝ }
+    ensures { λ _. ⌜ now (words .exit) ≡ sets (now (words .entry)) (pageWidth * to) (rowOf pageWidth (now (words .entry)) from) ⌝ }
 {
     let page = page_at(words, from);
     put_page(words, to, page);
@@ -92,59 +114,58 @@ pub fn clear(area: &mut [u8])
     }
 }
 
+// The row of a lock's clock.
+pub fn lock_row(lock: usize) -> usize
+    requires { ⌜ lock < lockLimit ⌝ }
+    ensures { λ r. ⌜ (r ≡ lockRow mainframe lock) × (r < clockRowLimit) ⌝ }
+{
+    FIRST_LOCK_ROW + lock
+}
+
 // The row of the clock applied to a page of a processor.
 pub fn applied_row(p: ProcessorId, g: PageId) -> usize
     requires { ⌜ OnPage (p .0) (g .0) ⌝ }
     ensures { λ r. ⌜ r ≡ appliedRow mainframe (p .0) (g .0) ⌝ }
-    ensures { λ r. ⌜ r < 593 ⌝ }
+    ensures { λ r. ⌜ r < clockRowLimit ⌝ }
 {
-    25 + 8 * (p.0 - 1) + g.0
+    FIRST_APPLIED_ROW + PAGE_LIMIT * (p.0 - 1) + g.0
 }
 
 // The row of the clock that an interval of a processor keeps.
 pub fn interval_row(p: ProcessorId, i: IntervalId) -> usize
     requires { ⌜ MadeInterval (p .0) (i .0) ⌝ }
     ensures { λ r. ⌜ r ≡ intervalRow mainframe (p .0) (i .0) ⌝ }
-    ensures { λ r. ⌜ r < 593 ⌝ }
+    ensures { λ r. ⌜ r < clockRowLimit ⌝ }
 {
-    89 + 63 * (p.0 - 1) + (i.0 - 1)
+    FIRST_INTERVAL_ROW + INTERVAL_LIMIT * (p.0 - 1) + (i.0 - 1)
 }
 
 // The row of a processor's copy of a page.
 pub fn copy_row(p: ProcessorId, g: PageId) -> usize
     requires { ⌜ OnPage (p .0) (g .0) ⌝ }
     ensures { λ r. ⌜ r ≡ copyRow mainframe (p .0) (g .0) ⌝ }
-    ensures { λ r. ⌜ r < 128 ⌝ }
+    ensures { λ r. ⌜ r < wordRowLimit ⌝ }
 {
-    8 * (p.0 - 1) + g.0
+    PAGE_LIMIT * (p.0 - 1) + g.0
 }
 
 // The row of a processor's twin of a page.
 pub fn twin_row(p: ProcessorId, g: PageId) -> usize
     requires { ⌜ OnPage (p .0) (g .0) ⌝ }
     ensures { λ r. ⌜ r ≡ twinRow mainframe (p .0) (g .0) ⌝ }
-    ensures { λ r. ⌜ r < 128 ⌝ }
+    ensures { λ r. ⌜ r < wordRowLimit ⌝ }
 {
-    64 + 8 * (p.0 - 1) + g.0
-}
-
-// The place of the mark that says whether a processor's copy of a page is dirty.
-pub fn dirty_place(p: ProcessorId, g: PageId) -> usize
-    requires { ⌜ OnPage (p .0) (g .0) ⌝ }
-    ensures { λ r. ⌜ r ≡ dirtyPlace mainframe (p .0) (g .0) ⌝ }
-    ensures { λ r. ⌜ r < 93 ⌝ }
-{
-    29 + 8 * (p.0 - 1) + g.0
+    COPY_LIMIT + PAGE_LIMIT * (p.0 - 1) + g.0
 }
 
 // The clocks applied to the pages of a processor, a row for each page.
-pub fn applied_at(clocks: &[u8], p: ProcessorId) -> [[u8; 8]; 8]
+pub fn applied_at(clocks: &[u8], p: ProcessorId) -> [[u8; CLOCK_WIDTH]; PAGE_LIMIT]
     requires { ⌜ ClocksOf (now clocks) (p .0) ⌝ }
-    ensures { λ r. ⌜ r ≡ tabulate 8 (λ g. rowOf 8 (now (clocks .entry)) (appliedRow mainframe (p .0) g)) ⌝ }
+    ensures { λ r. ⌜ r ≡ tabulate pageLimit (λ g. rowOf clockWidth (now (clocks .entry)) (appliedRow mainframe (p .0) g)) ⌝ }
 {
-    let mut rows = [[0u8; 8]; 8];
+    let mut rows = [[0u8; CLOCK_WIDTH]; PAGE_LIMIT];
     let mut g: usize = 0;
-    while g < 8 {
+    while g < PAGE_LIMIT {
         let clock = clock_at(clocks, applied_row(p, PageId(g)));
         let row = clock.entries;
         rows[g] = row;
@@ -154,11 +175,18 @@ pub fn applied_at(clocks: &[u8], p: ProcessorId) -> [[u8; 8]; 8]
 }
 
 // The clock of one page out of those of all pages.
-pub fn applied_clock(rows: [[u8; 8]; 8], g: PageId) -> Clock
-    requires { ⌜ g .0 < 8 ⌝ }
+pub fn applied_clock(rows: [[u8; CLOCK_WIDTH]; PAGE_LIMIT], g: PageId) -> Clock
+    requires { ⌜ g .0 < pageLimit ⌝ }
     ensures { λ r. ⌜ r .entries ≡ getD rows (g .0) [] ⌝ }
 {
     let at = g.0;
     let entries = rows[at];
     Clock { entries }
+}
+
+// A byte as a number.
+pub fn wide(x: u8) -> usize
+    ensures { λ r. ⌜ (r ≡ x) × (r < 256) ⌝ }
+{
+    x as usize
 }

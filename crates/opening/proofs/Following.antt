@@ -3,67 +3,36 @@ use Prim.Native.Nat.{ℕ}
 use mathlib.Core.Path.{_≡_, refl, ap, _∙_}
 use mathlib.Core.Bool.{Bool, true, false, cond, not}
 use mathlib.Core.List.{List}
-use lib.ListN.{length, replicate, length-replicate}
+use lib.ListN.{length}
 use lib.Dec.{eqb}
 use native.Mathlib.Omega.{arith}
-use Rattle.clock.specs.Clocks.{zeros}
-use Rattle.rules.specs.InOrder.{slotSize}
-use Rattle.rules.specs.Opening.{openingRefusal, rows, zeroClocks, zeroPages, opened}
-use Rattle.rules.specs.State.{mainframe}
-use Rattle.rules.proofs.OpenedInOrder.{opened-in-order, opening-counts}
-use Rattle.memory.specs.Areas.{lockRow, appliedRow, intervalRow, clockRow, copyRow, twinRow, arrivedPlace, holderPlace, dirtyPlace, clocksIn, pagesIn, recordsIn, marksIn, stateIn, Areas, areas, holding, rightSizes}
-use Rattle.memory.specs.Layout.{rowOf, tabulate, perProcessor}
+use Rattle.limits.specs.Limits.{fileRecordWidth}
+use Rattle.rules.specs.Opening.{openingRefusal, opened}
+use Rattle.rules.specs.State.{mainframe, State}
+use Rattle.rules.proofs.Facts.{Sized}
+use Rattle.rules.proofs.OpenedInOrder.{opened-sized, opened-in-order, opening-counts}
+use Rattle.memory.specs.Areas.{Areas, areas, holding, rightSizes}
 use Rattle.memory.specs.Needed.{Ready, Holds}
+use Rattle.memory.proofs.Decoding.{encoded-lent, decoded}
 use Rattle.opening.specs.Promises.{openingOf, openRefusal, areasOpened}
-use Rattle.opening.specs.Openings.{openedMarks}
-use Rattle.opening.proofs.Opening.{open-clocks, open-words, open-records, open-marks}
 
--- the state that the laid areas hold
-opened-state : (bs : List ℕ) → stateIn mainframe (replicate 4744 0) (replicate 4096 0) (replicate 17280 0) (openedMarks bs) ≡ opened mainframe (openingOf bs .counts)
-unfolding stateIn clocksIn pagesIn recordsIn marksIn opened zeroClocks zeroPages mainframe rows zeros slotSize openedMarks openingOf rowOf tabulate perProcessor clockRow lockRow appliedRow intervalRow copyRow twinRow arrivedPlace holderPlace dirtyPlace
-opened-state bs = refl
+-- the areas hold the opened state
+pub opened-holds : (bs c w r m : List ℕ) → areas c w r m ≡ holding (opened mainframe (openingOf bs .counts)) → Holds c w r m (opened mainframe (openingOf bs .counts))
+unfolding areas holding opened
+opened-holds bs c w r m e =
+    rw (ap (λ (a : Areas). a .clocks) e, ap (λ (a : Areas). a .words) e, ap (λ (a : Areas). a .records) e, ap (λ (a : Areas). a .marks) e)
+    (record { lent = encoded-lent s sized; is = decoded s sized refl })
+  where
+    s : State
+    s = opened mainframe (openingOf bs .counts)
 
-module _ (bs c w r m : List ℕ) (e : areas c w r m ≡ holding (opened mainframe (openingOf bs .counts))) where
-  same-clocks : c ≡ replicate 4744 0
-  unfolding areas holding opened
-  same-clocks = ap (λ (a : Areas). a .clocks) e ∙ open-clocks
-
-  same-words : w ≡ replicate 4096 0
-  unfolding areas holding opened
-  same-words = ap (λ (a : Areas). a .words) e ∙ open-words
-
-  same-records : r ≡ replicate 17280 0
-  unfolding areas holding
-  same-records = ap (λ (a : Areas). a .records) e ∙ open-records (openingOf bs .counts)
-
-  same-marks : m ≡ openedMarks bs
-  unfolding areas holding
-  same-marks = ap (λ (a : Areas). a .marks) e ∙ open-marks bs
-
-  -- the areas hold the opened state
-  pub opened-holds : Holds c w r m (opened mainframe (openingOf bs .counts))
-  unfolding openedMarks
-  opened-holds =
-      record {
-        lent =
-            record {
-              clocks = ap length same-clocks ∙ length-replicate {A = ℕ} 4744 0;
-              words = ap length same-words ∙ length-replicate {A = ℕ} 4096 0;
-              records = ap length same-records ∙ length-replicate {A = ℕ} 17280 0;
-              marks = ap length same-marks;
-            };
-        is =
-            ap (λ (x : List ℕ). stateIn mainframe x w r m) same-clocks
-            ∙ ap (λ (x : List ℕ). stateIn mainframe (replicate 4744 0) x r m) same-words
-            ∙ ap (λ (x : List ℕ). stateIn mainframe (replicate 4744 0) (replicate 4096 0) x m) same-records
-            ∙ ap (λ (x : List ℕ). stateIn mainframe (replicate 4744 0) (replicate 4096 0) (replicate 17280 0) x) same-marks
-            ∙ opened-state bs;
-      }
+    sized : Sized mainframe s
+    sized = opened-sized mainframe (openingOf bs .counts)
 
 -- an accepted opening is one that the rules accept
 pub accepted-opening : (bs : List ℕ) (a : Areas) → openRefusal bs a ≡ 0 → openingRefusal mainframe (openingOf bs) ≡ 0
 unfolding openRefusal
-accepted-opening bs a e = go (rightSizes a) (eqb (length bs) 8) (openingRefusal mainframe (openingOf bs)) e
+accepted-opening bs a e = go (rightSizes a) (eqb (length bs) fileRecordWidth) (openingRefusal mainframe (openingOf bs)) e
   where
     go : (s l : Bool) (n : ℕ) → cond (not s) 1 (cond (not l) 2 n) ≡ 0 → n ≡ 0
     go true true n z = z

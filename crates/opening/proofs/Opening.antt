@@ -9,6 +9,8 @@ use lib.Seq.{length-take-le, take-all, take-at, sets, length-sets, sets-eq}
 use lib.Dec.{eqb}
 use borrow.Author.Tests.{eqb-true, not-false}
 use borrow.Author.Needs.{needs}
+use Rattle.limits.specs.Limits.{fileRecordWidth}
+use Rattle.limits.specs.Sizes.{clockArea, markArea, partLimit, recordArea, wordArea, wordLimit}
 use Rattle.clock.specs.Clocks.{zeros}
 use Rattle.rules.specs.InOrder.{slotSize, countsInRange}
 use Rattle.rules.specs.Opening.{openingRefusal, rows, zeroClocks, zeroPages, opened}
@@ -32,23 +34,23 @@ wrong-size c w r m h = record { is = go (sizesRight mainframe c w r m) refl }
 
 module _ (c w r m : List ℕ) where
   -- clocks of another size
-  pub clocks-of-other-size : (length c ≡ 4744 → ⊥) → SizesAre false c w r m
+  pub clocks-of-other-size : (length c ≡ clockArea → ⊥) → SizesAre false c w r m
   clocks-of-other-size h = wrong-size c w r m (λ p. h (p .clocks))
 
   -- words
-  pub words-of-other-size : (length w ≡ 4096 → ⊥) → SizesAre false c w r m
+  pub words-of-other-size : (length w ≡ wordArea → ⊥) → SizesAre false c w r m
   words-of-other-size h = wrong-size c w r m (λ p. h (p .words))
 
   -- records
-  pub records-of-other-size : (length r ≡ 17280 → ⊥) → SizesAre false c w r m
+  pub records-of-other-size : (length r ≡ recordArea → ⊥) → SizesAre false c w r m
   records-of-other-size h = wrong-size c w r m (λ p. h (p .records))
 
   -- marks
-  pub marks-of-other-size : (length m ≡ 93 → ⊥) → SizesAre false c w r m
+  pub marks-of-other-size : (length m ≡ markArea → ⊥) → SizesAre false c w r m
   marks-of-other-size h = wrong-size c w r m (λ p. h (p .marks))
 
   -- all four of the fixed sizes
-  pub fixed-sizes : length c ≡ 4744 → length w ≡ 4096 → length r ≡ 17280 → length m ≡ 93 → SizesAre true c w r m
+  pub fixed-sizes : length c ≡ clockArea → length w ≡ wordArea → length r ≡ recordArea → length m ≡ markArea → SizesAre true c w r m
   unfolding rightSizes areas
   fixed-sizes a b d e = record { is = sym (lent-right c w r m (record { clocks = a; words = b; records = d; marks = e })) }
 
@@ -66,48 +68,48 @@ zeros-behind i n w v h e f =
 
 -- the first k parts of 256 words are 0
 pub record CopiesLaid (w₀ w copy : List ℕ) (k : ℕ) : Type 0 where
-  pub long : length w ≡ 4096
+  pub long : length w ≡ wordArea
   pub as-long : length w ≡ length w₀
   pub fresh : copy ≡ freshCopy
-  pub upto : k ≤ 16
-  pub first : take (256 * k) w ≡ replicate (256 * k) 0
+  pub upto : k ≤ partLimit
+  pub first : take (wordLimit * k) w ≡ replicate (wordLimit * k) 0
 
 -- none is laid yet
-pub copies-begin : (w copy : List ℕ) → length w ≡ 4096 → copy ≡ freshCopy → CopiesLaid w w copy 0
+pub copies-begin : (w copy : List ℕ) → length w ≡ wordArea → copy ≡ freshCopy → CopiesLaid w w copy 0
 copies-begin w copy h e = record { long = h; as-long = refl; fresh = e; upto = omega arith; first = refl }
 
 module _ (w₀ w copy : List ℕ) (k : ℕ) (h : CopiesLaid w₀ w copy k) where
   -- the next part lies within the area
-  pub copy-there : k < 16 → RowThere 256 w k
+  pub copy-there : k < partLimit → RowThere wordLimit w k
   copy-there l = record { within = omega (arith, h .long, l) }
 
   -- one more is laid
-  pub copies-more : (w′ : List ℕ) → k < 16 → w′ ≡ sets w (256 * k) copy → CopiesLaid w₀ w′ copy (k + 1)
+  pub copies-more : (w′ : List ℕ) → k < partLimit → w′ ≡ sets w (wordLimit * k) copy → CopiesLaid w₀ w′ copy (k + 1)
   unfolding freshCopy
   copies-more w′ l e =
-      let at : 256 * (k + 1) ≡ 256 * k + 256 = omega arith in
+      let at : wordLimit * (k + 1) ≡ wordLimit * k + wordLimit = omega arith in
       record {
-        long = ap length e ∙ length-sets w (256 * k) copy ∙ h .long;
-        as-long = ap length e ∙ length-sets w (256 * k) copy ∙ h .as-long;
+        long = ap length e ∙ length-sets w (wordLimit * k) copy ∙ h .long;
+        as-long = ap length e ∙ length-sets w (wordLimit * k) copy ∙ h .as-long;
         fresh = h .fresh;
         upto = omega (arith, l);
         first =
-            ap (λ (j : ℕ). take j w′) at ∙ ap (λ (x : List ℕ). take (256 * k + 256) x) e
-            ∙ zeros-behind (256 * k) 256 w copy (omega (arith, h .long, l)) (h .fresh) (h .first)
+            ap (λ (j : ℕ). take j w′) at ∙ ap (λ (x : List ℕ). take (wordLimit * k + wordLimit) x) e
+            ∙ zeros-behind (wordLimit * k) wordLimit w copy (omega (arith, h .long, l)) (h .fresh) (h .first)
             ∙ ap (λ (j : ℕ). replicate j 0) (sym at);
       }
 
   -- all are
-  pub copies-all : 16 ≤ k → w ≡ freshWords
+  pub copies-all : partLimit ≤ k → w ≡ freshWords
   unfolding freshWords
   copies-all l =
-      let e : 256 * k ≡ 4096 = omega (arith, l, h .upto) in
-      sym (take-all (256 * k) w (omega (arith, h .long, e))) ∙ h .first ∙ ap (λ (j : ℕ). replicate j 0) e
+      let e : wordLimit * k ≡ wordArea = omega (arith, l, h .upto) in
+      sym (take-all (wordLimit * k) w (omega (arith, h .long, e))) ∙ h .first ∙ ap (λ (j : ℕ). replicate j 0) e
 
 -- ---- the marks
 
 module _ (bs m m′ : List ℕ) (h : MarksOpenable bs m) (e : m′ ≡ replicate (length m) 0) where
-  long-cleared : length m′ ≡ 93
+  long-cleared : length m′ ≡ markArea
   long-cleared = ap length e ∙ length-replicate (length m) 0 ∙ h .marks
 
   pub first-count-there : 0 < length m′
@@ -124,20 +126,20 @@ module _ (bs m m′ : List ℕ) (h : MarksOpenable bs m) (e : m′ ≡ replicate
   unfolding openedMarks
   marks-laid = ap (λ (l : List ℕ). set (set (set l 0 (getD bs 1 0)) 1 (getD bs 2 0)) 2 (getD bs 3 0)) (e ∙ ap (λ (n : ℕ). replicate n 0) (h .marks))
 
-pub marks-cleared : (bs m : List ℕ) → MarksOpenable bs m → length bs ≡ 8
+pub marks-cleared : (bs m : List ℕ) → MarksOpenable bs m → length bs ≡ fileRecordWidth
 marks-cleared bs m h = h .opening
 
 -- ---- the opened state laid out
 
-pub open-clocks : clockBytes (zeroClocks mainframe) ≡ replicate 4744 0
+pub open-clocks : clockBytes (zeroClocks mainframe) ≡ replicate clockArea 0
 unfolding clockBytes zeroClocks mainframe rows zeros joinRows
 open-clocks = refl
 
-pub open-words : pageWords (zeroPages mainframe) ≡ replicate 4096 0
+pub open-words : pageWords (zeroPages mainframe) ≡ replicate wordArea 0
 unfolding pageWords zeroPages mainframe rows joinRows
 open-words = refl
 
-pub open-records : (k : Counts) → recordBytes (opened mainframe k .records) ≡ replicate 17280 0
+pub open-records : (k : Counts) → recordBytes (opened mainframe k .records) ≡ replicate recordArea 0
 unfolding recordBytes opened mainframe joinRows slotSize
 open-records k = refl
 
@@ -149,7 +151,7 @@ open-marks bs = refl
 
 module _ (bs c w r m : List ℕ) (h : Openable bs c w r m) where
   -- what the words and the marks ask
-  pub words-openable : length w ≡ 4096
+  pub words-openable : length w ≡ wordArea
   words-openable = h .lent .words
 
   pub marks-openable : MarksOpenable bs m
@@ -177,7 +179,7 @@ module _ (bs c w r m : List ℕ) (h : Openable bs c w r m) where
 refusal-by-tests : (bs : List ℕ) (a : Areas) → openRefusal bs a ≡ cond (rightSizes a) (cond (openingFits bs) 0 2) 1
 unfolding openRefusal openingFits openingRefusal
 refusal-by-tests bs a =
-    go (rightSizes a) (eqb (length bs) 8)
+    go (rightSizes a) (eqb (length bs) fileRecordWidth)
     (eqb (openingOf bs .first) 0 && countsInRange mainframe (openingOf bs .counts) && eqb (openingOf bs .rest) 0)
   where
     go : (s l t : Bool) → _≡_ {A = ℕ} (cond (not s) 1 (cond (not l) 2 (cond t 0 2))) (cond s (cond (l && eqb (cond t 0 2) 0) 0 2) 1)
@@ -225,8 +227,8 @@ module _ (bs c w r m : List ℕ) where
       pub openable : not f ≡ false → Openable bs c w r m
       unfolding openingFits rightSizes areas
       openable z =
-          let both = and-eq-true-iff (eqb (length bs) 8) (eqb (openingRefusal mainframe (openingOf bs)) 0) .0 (sym (o .is) ∙ not-false f z) in
-          record { lent = right-lent c w r m (sym (s .is) ∙ not-false b sized); opening = eqb-true (length bs) 8 (both .0) }
+          let both = and-eq-true-iff (eqb (length bs) fileRecordWidth) (eqb (openingRefusal mainframe (openingOf bs)) 0) .0 (sym (o .is) ∙ not-false f z) in
+          record { lent = right-lent c w r m (sym (s .is) ∙ not-false b sized); opening = eqb-true (length bs) fileRecordWidth (both .0) }
 
       -- 0
       pub opening-accepted : not f ≡ false → 0 ≡ openRefusal bs (areas c w r m)
@@ -237,7 +239,7 @@ module _ (bs c w r m : List ℕ) where
       opening-done c′ w′ r′ m′ z h = h .is ∙ opened-by 0 (opening-accepted z)
 
 -- the fresh copy
-pub fresh-copy-is : replicate {A = ℕ} 256 0 ≡ freshCopy
+pub fresh-copy-is : replicate {A = ℕ} wordLimit 0 ≡ freshCopy
 unfolding freshCopy
 fresh-copy-is = refl
 

@@ -9,6 +9,7 @@ use lib.ListN.{length, getD}
 use lib.Dec.{eqb}
 use borrow.Author.Tests.{eqb-true, eq-eqb, ne-eqb, le-leb, not-false}
 use borrow.Author.Needs.{needs}
+use Rattle.limits.specs.Limits.{fileRecordWidth, lockLimit, pageLimit, processorLimit}
 use Rattle.rules.specs.InOrder.{inRange, countsInRange}
 use Rattle.rules.specs.Opening.{openingRefusal}
 use Rattle.rules.specs.State.{mainframe}
@@ -75,20 +76,20 @@ module _ (bs : List ℕ) where
 
 -- each count is at least 1 and at most its limit
 record AllInRange (bs : List ℕ) : Type 0 where
-  processors : (1 ≤ getD bs 1 0) × (getD bs 1 0 ≤ 8)
-  pages : (1 ≤ getD bs 2 0) × (getD bs 2 0 ≤ 8)
-  locks : (1 ≤ getD bs 3 0) × (getD bs 3 0 ≤ 16)
+  processors : (1 ≤ getD bs 1 0) × (getD bs 1 0 ≤ processorLimit)
+  pages : (1 ≤ getD bs 2 0) × (getD bs 2 0 ≤ pageLimit)
+  locks : (1 ≤ getD bs 3 0) × (getD bs 3 0 ≤ lockLimit)
 
 module _ (bs : List ℕ) where
   counts-say : countsInRange mainframe (openingOf bs .counts) ≡ true → AllInRange bs
   unfolding countsInRange openingOf mainframe
   counts-say e =
-      let two = and-eq-true-iff (inRange 8 (getD bs 1 0) && inRange 8 (getD bs 2 0)) (inRange 16 (getD bs 3 0)) .0 e in
-      let one = and-eq-true-iff (inRange 8 (getD bs 1 0)) (inRange 8 (getD bs 2 0)) .0 (two .0) in
+      let two = and-eq-true-iff (inRange processorLimit (getD bs 1 0) && inRange pageLimit (getD bs 2 0)) (inRange lockLimit (getD bs 3 0)) .0 e in
+      let one = and-eq-true-iff (inRange processorLimit (getD bs 1 0)) (inRange pageLimit (getD bs 2 0)) .0 (two .0) in
       record {
-        processors = in-range-says 8 (getD bs 1 0) (one .0);
-        pages = in-range-says 8 (getD bs 2 0) (one .1);
-        locks = in-range-says 16 (getD bs 3 0) (two .1);
+        processors = in-range-says processorLimit (getD bs 1 0) (one .0);
+        pages = in-range-says pageLimit (getD bs 2 0) (one .1);
+        locks = in-range-says lockLimit (getD bs 3 0) (two .1);
       }
 
   no-range : (AllInRange bs → ⊥) → CountsAre false bs
@@ -102,23 +103,23 @@ module _ (bs : List ℕ) where
   pub no-processors : getD bs 1 0 ≡ 0 → CountsAre false bs
   no-processors h = no-range (λ z. omega (arith, h, z .processors))
 
-  pub many-processors : 8 < getD bs 1 0 → CountsAre false bs
+  pub many-processors : processorLimit < getD bs 1 0 → CountsAre false bs
   many-processors h = no-range (λ z. omega (arith, h, z .processors))
 
   pub no-pages : getD bs 2 0 ≡ 0 → CountsAre false bs
   no-pages h = no-range (λ z. omega (arith, h, z .pages))
 
-  pub many-pages : 8 < getD bs 2 0 → CountsAre false bs
+  pub many-pages : pageLimit < getD bs 2 0 → CountsAre false bs
   many-pages h = no-range (λ z. omega (arith, h, z .pages))
 
   pub no-locks : getD bs 3 0 ≡ 0 → CountsAre false bs
   no-locks h = no-range (λ z. omega (arith, h, z .locks))
 
-  pub many-locks : 16 < getD bs 3 0 → CountsAre false bs
+  pub many-locks : lockLimit < getD bs 3 0 → CountsAre false bs
   many-locks h = no-range (λ z. omega (arith, h, z .locks))
 
   -- all are in range
-  pub all-in-range : (getD bs 1 0 ≡ 0 → ⊥) → getD bs 1 0 ≤ 8 → (getD bs 2 0 ≡ 0 → ⊥) → getD bs 2 0 ≤ 8 → (getD bs 3 0 ≡ 0 → ⊥) → getD bs 3 0 ≤ 16
+  pub all-in-range : (getD bs 1 0 ≡ 0 → ⊥) → getD bs 1 0 ≤ processorLimit → (getD bs 2 0 ≡ 0 → ⊥) → getD bs 2 0 ≤ pageLimit → (getD bs 3 0 ≡ 0 → ⊥) → getD bs 3 0 ≤ lockLimit
       → CountsAre true bs
   unfolding countsInRange inRange openingOf mainframe
   all-in-range a b c d e f =
@@ -126,11 +127,11 @@ module _ (bs : List ℕ) where
         is =
             rw (
               le-leb 1 (getD bs 1 0) (omega (arith, a)),
-              le-leb (getD bs 1 0) 8 b,
+              le-leb (getD bs 1 0) processorLimit b,
               le-leb 1 (getD bs 2 0) (omega (arith, c)),
-              le-leb (getD bs 2 0) 8 d,
+              le-leb (getD bs 2 0) pageLimit d,
               le-leb 1 (getD bs 3 0) (omega (arith, e)),
-              le-leb (getD bs 3 0) 16 f,
+              le-leb (getD bs 3 0) lockLimit f,
             );
       }
 
@@ -138,15 +139,15 @@ module _ (bs : List ℕ) where
 
 module _ (bs : List ℕ) where
   -- not eight bytes
-  pub not-eight-bytes : (length bs ≡ 8 → ⊥) → OpeningIs false bs
+  pub not-eight-bytes : (length bs ≡ fileRecordWidth → ⊥) → OpeningIs false bs
   unfolding openingFits
-  not-eight-bytes h = record { is = rw (ne-eqb (length bs) 8 h) }
+  not-eight-bytes h = record { is = rw (ne-eqb (length bs) fileRecordWidth h) }
 
-  fits-in-parts : length bs ≡ 8
+  fits-in-parts : length bs ≡ fileRecordWidth
       → openingFits bs ≡ ((eqb (openingOf bs .first) 0 && eqb (openingOf bs .rest) 0) && countsInRange mainframe (openingOf bs .counts))
   unfolding openingFits openingRefusal
   fits-in-parts e =
-      rw (eq-eqb (length bs) 8 e) (go (eqb (openingOf bs .first) 0) (countsInRange mainframe (openingOf bs .counts)) (eqb (openingOf bs .rest) 0))
+      rw (eq-eqb (length bs) fileRecordWidth e) (go (eqb (openingOf bs .first) 0) (countsInRange mainframe (openingOf bs .counts)) (eqb (openingOf bs .rest) 0))
     where
       go : (a b d : Bool) → eqb (cond (a && b && d) 0 2) 0 ≡ ((a && d) && b)
       go true true true = refl
@@ -156,7 +157,7 @@ module _ (bs : List ℕ) where
       go false b d = refl
 
   -- a byte that must be 0 is not
-  pub opening-not-zero : (z : Bool) → length bs ≡ 8 → ZerosAre z bs → not z ≡ true → OpeningIs false bs
+  pub opening-not-zero : (z : Bool) → length bs ≡ fileRecordWidth → ZerosAre z bs → not z ≡ true → OpeningIs false bs
   opening-not-zero z e s n =
       record { is = sym (fits-in-parts e ∙ ap (λ (x : Bool). x && countsInRange mainframe (openingOf bs .counts)) (sym (s .is) ∙ go z n)) }
     where
@@ -165,7 +166,7 @@ module _ (bs : List ℕ) where
       go false y = refl
 
   -- else the counts decide
-  pub counts-decide : (z b : Bool) → length bs ≡ 8 → ZerosAre z bs → not z ≡ false → CountsAre b bs → OpeningIs b bs
+  pub counts-decide : (z b : Bool) → length bs ≡ fileRecordWidth → ZerosAre z bs → not z ≡ false → CountsAre b bs → OpeningIs b bs
   counts-decide z b e s n k =
       record {
         is =

@@ -1,10 +1,12 @@
 -- The parts of an opening: which records are accepted, and what is laid into the areas. Assumes nothing.
-use Prim.Native.Nat.{ℕ}
+use Prim.Native.Nat.{ℕ, _-_}
 use mathlib.Core.Path.{_≡_}
 use mathlib.Core.Bool.{Bool, _&&_}
 use mathlib.Core.List.{List, _∷_}
 use lib.ListN.{length, getD, replicate}
 use lib.Dec.{eqb}
+use Rattle.limits.specs.Limits.{fileRecordWidth, standingPlace}
+use Rattle.limits.specs.Sizes.{markArea, wordArea, wordLimit}
 use Rattle.rules.specs.InOrder.{countsInRange}
 use Rattle.rules.specs.State.{mainframe}
 use Rattle.rules.specs.Opening.{openingRefusal, opened}
@@ -14,31 +16,31 @@ use Rattle.opening.specs.Promises.{openingOf}
 
 -- eight bytes that row 2 does not refuse
 unfoldable pub openingFits : List ℕ → Bool
-openingFits bytes = eqb (length bytes) 8 && eqb (openingRefusal mainframe (openingOf bytes)) 0
+openingFits bytes = eqb (length bytes) fileRecordWidth && eqb (openingRefusal mainframe (openingOf bytes)) 0
 
 -- "Each card starts with a copy of 256 words, all 0"
 unfoldable pub freshCopy : List ℕ
-freshCopy = replicate 256 0
+freshCopy = replicate wordLimit 0
 
 -- the copies and twins of eight processors, all 0
 unfoldable pub freshWords : List ℕ
-freshWords = replicate 4096 0
+freshWords = replicate wordArea 0
 
 -- the marks of an opened mainframe: the three counts, all else 0
 unfoldable pub openedMarks : List ℕ → List ℕ
-openedMarks bytes = getD bytes 1 0 ∷ getD bytes 2 0 ∷ getD bytes 3 0 ∷ replicate 90 0
+openedMarks bytes = getD bytes 1 0 ∷ getD bytes 2 0 ∷ getD bytes 3 0 ∷ replicate (markArea - standingPlace) 0
 
 -- ---- what the parts of an opening ask
 
 -- the areas have their sizes, and the opening its eight bytes
 pub record Openable (bytes c w r m : List ℕ) : Type 0 where
   pub lent : Lent c w r m
-  pub opening : length bytes ≡ 8
+  pub opening : length bytes ≡ fileRecordWidth
 
 -- the area of the marks, and the opening
 pub record MarksOpenable (bytes m : List ℕ) : Type 0 where
-  pub marks : length m ≡ 93
-  pub opening : length bytes ≡ 8
+  pub marks : length m ≡ markArea
+  pub opening : length bytes ≡ fileRecordWidth
 
 -- ---- what they answer and leave
 

@@ -4,6 +4,7 @@ use mathlib.Core.Bool.{cond, not}
 use mathlib.Core.List.{List}
 use lib.ListN.{length, getD}
 use lib.Dec.{eqb}
+use Rattle.limits.specs.Limits.{fileRecordWidth}
 use Rattle.rules.specs.Opening.{Opening, openingRefusal, opened}
 use Rattle.rules.specs.State.{mainframe}
 use Rattle.memory.specs.Areas.{Areas, holding, rightSizes}
@@ -21,7 +22,7 @@ openingOf bytes =
 unfoldable pub openRefusal : List ℕ → Areas → ℕ
 openRefusal bytes a =
     cond (not (rightSizes a)) 1
-    (cond (not (eqb (length bytes) 8)) 2
+    (cond (not (eqb (length bytes) fileRecordWidth)) 2
     (openingRefusal mainframe (openingOf bytes)))
 
 -- the areas after an opening: exactly the opened state, whatever they held

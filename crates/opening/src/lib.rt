@@ -4,11 +4,33 @@ ghost use mathlib.Core.Path.{_≡_};
 ghost use Prim.Native.Nat.{_*_};
 ghost use lib.ListN.{length};
 ghost use lib.Seq.{sets};
+ghost use Rattle.limits.specs.Limits.{fileRecordWidth};
+ghost use Rattle.limits.specs.Sizes.{wordArea, wordLimit};
 ghost use Rattle.memory.specs.Areas.{areas};
 ghost use Rattle.memory.specs.Needed.{RowThere};
 ghost use Rattle.opening.specs.Promises.{openRefusal, areasOpened};
 ghost use Rattle.opening.specs.Openings.{freshCopy, freshWords, openedMarks, Openable, MarksOpenable, SizesAre, ZerosAre, CountsAre, OpeningIs, HoldsOpened};
+use limits::CLOCK_AREA;
+use limits::FILE_RECORD_WIDTH;
+use limits::LOCK_LIMIT;
+use limits::LOCKS_PLACE;
+use limits::MARK_AREA;
+use limits::PAGE_LIMIT;
+use limits::PAGES_PLACE;
+use limits::PART_LIMIT;
+use limits::PROCESSOR_LIMIT;
+use limits::PROCESSORS_PLACE;
+use limits::RECORD_AREA;
+use limits::WORD_AREA;
+use limits::WORD_LIMIT;
 use memory::clear;
+
+// The limits as bytes, as an opening has its counts.
+const MOST_PROCESSORS: u8 = PROCESSOR_LIMIT as u8;
+
+const MOST_PAGES: u8 = PAGE_LIMIT as u8;
+
+const MOST_LOCKS: u8 = LOCK_LIMIT as u8;
 
 // Opens a mainframe: 1 for areas of a wrong size, 2 for an opening that is not eight bytes or does not fit, else 0, and the areas are
 // exactly the opened state, whatever they held.
@@ -36,16 +58,16 @@ pub fn open_mainframe(
 fn right_sizes(clocks: &[u8], words: &[u32], records: &[u8], marks: &[u8]) -> bool
     ensures { λ r. ⌜ SizesAre r (now (clocks .entry)) (now (words .entry)) (now (records .entry)) (now (marks .entry)) ⌝ }
 {
-    if clocks.len() != 4744 {
+    if clocks.len() != CLOCK_AREA {
         return false;
     }
-    if words.len() != 4096 {
+    if words.len() != WORD_AREA {
         return false;
     }
-    if records.len() != 17280 {
+    if records.len() != RECORD_AREA {
         return false;
     }
-    if marks.len() != 93 {
+    if marks.len() != MARK_AREA {
         return false;
     }
     true
@@ -55,7 +77,7 @@ fn right_sizes(clocks: &[u8], words: &[u32], records: &[u8], marks: &[u8]) -> bo
 fn opening_fits(opening: &[u8]) -> bool
     ensures { λ r. ⌜ OpeningIs r (now (opening .entry)) ⌝ }
 {
-    if opening.len() != 8 {
+    if opening.len() != FILE_RECORD_WIDTH {
         return false;
     }
     if !zeros_fit(opening) {
@@ -66,7 +88,7 @@ fn opening_fits(opening: &[u8]) -> bool
 
 // Whether the first byte and the last four are 0.
 fn zeros_fit(opening: &[u8]) -> bool
-    requires { ⌜ length (now opening) ≡ 8 ⌝ }
+    requires { ⌜ length (now opening) ≡ fileRecordWidth ⌝ }
     ensures { λ r. ⌜ ZerosAre r (now (opening .entry)) ⌝ }
 {
     if opening[0] != 0 {
@@ -89,25 +111,25 @@ fn zeros_fit(opening: &[u8]) -> bool
 
 // Whether the counts of processors, pages and locks are in range.
 fn counts_fit(opening: &[u8]) -> bool
-    requires { ⌜ length (now opening) ≡ 8 ⌝ }
+    requires { ⌜ length (now opening) ≡ fileRecordWidth ⌝ }
     ensures { λ r. ⌜ CountsAre r (now (opening .entry)) ⌝ }
 {
     if opening[1] == 0 {
         return false;
     }
-    if 8 < opening[1] {
+    if MOST_PROCESSORS < opening[1] {
         return false;
     }
     if opening[2] == 0 {
         return false;
     }
-    if 8 < opening[2] {
+    if MOST_PAGES < opening[2] {
         return false;
     }
     if opening[3] == 0 {
         return false;
     }
-    if 16 < opening[3] {
+    if MOST_LOCKS < opening[3] {
         return false;
     }
     true
@@ -132,32 +154,32 @@ fn lay_opened(
 
 // A fresh copy for each processor, and the same for its twin.
 fn lay_copies(words: &mut [u32])
-    requires { ⌜ length (now words) ≡ 4096 ⌝ }
+    requires { ⌜ length (now words) ≡ wordArea ⌝ }
     ensures { λ _. ⌜ now (words .exit) ≡ freshWords ⌝ }
 {
     let copy = fresh_copy();
     let mut k: usize = 0;
-    while k < 16 {
+    while k < PART_LIMIT {
         put_copy(words, k, copy);
         k = k + 1;
     }
 }
 
 // A fresh copy: 256 words, all 0.
-fn fresh_copy() -> [u32; 256]
+fn fresh_copy() -> [u32; WORD_LIMIT]
     ensures { λ r. ⌜ r ≡ freshCopy ⌝ }
 {
-    [0; 256]
+    [0; WORD_LIMIT]
 }
 
 // A copy of 256 words laid into its part.
-fn put_copy(words: &mut [u32], part: usize, copy: [u32; 256])
-    requires { ⌜ RowThere 256 (now words) part ⌝ }
-    ensures { λ _. ⌜ now (words .exit) ≡ sets (now (words .entry)) (256 * part) copy ⌝ }
+fn put_copy(words: &mut [u32], part: usize, copy: [u32; WORD_LIMIT])
+    requires { ⌜ RowThere wordLimit (now words) part ⌝ }
+    ensures { λ _. ⌜ now (words .exit) ≡ sets (now (words .entry)) (wordLimit * part) copy ⌝ }
 {
-    let at = 256 * part;
+    let at = WORD_LIMIT * part;
     let mut i: usize = 0;
-    while i < 256 {
+    while i < WORD_LIMIT {
         words[at + i] = copy[i];
         i = i + 1;
     }
@@ -169,7 +191,7 @@ fn lay_marks(opening: &[u8], marks: &mut [u8])
     ensures { λ _. ⌜ now (marks .exit) ≡ openedMarks (now (opening .entry)) ⌝ }
 {
     clear(marks);
-    marks[0] = opening[1];
-    marks[1] = opening[2];
-    marks[2] = opening[3];
+    marks[PROCESSORS_PLACE] = opening[1];
+    marks[PAGES_PLACE] = opening[2];
+    marks[LOCKS_PLACE] = opening[3];
 }

@@ -8,6 +8,7 @@ use lib.ListN.{length, take, drop, length-append, take-append-drop}
 use lib.Seq.{drop-drop, length-take-le}
 use lib.Dec.{eqb}
 use borrow.Author.Tests.{ne-eqb, eq-eqb}
+use Rattle.limits.specs.Limits.{fileRecordWidth}
 use Rattle.taking.specs.Records.{Feed, openingTaken, stepTaken, tooManyTaken, recordTaken}
 use Rattle.passing.specs.Bytes.{heldOn, byteTaken, bytesTaken}
 
@@ -48,7 +49,7 @@ module _ (f : Feed) (b : ℕ) (e : f .stopped ≡ false) where
       ∙ ap (λ (t : Bool). cond t (recordTaken f (f .held ++ b ∷ [])) (heldOn f (f .held ++ b ∷ []))) (eq-eqb (length (f .held)) 7 n)
 
 -- too few bytes for a record are held
-pub taken-held : (f : Feed) (xs : List ℕ) → f .stopped ≡ false → length (f .held) + length xs < 8 → bytesTaken f xs ≡ heldOn f (f .held ++ xs)
+pub taken-held : (f : Feed) (xs : List ℕ) → f .stopped ≡ false → length (f .held) + length xs < fileRecordWidth → bytesTaken f xs ≡ heldOn f (f .held ++ xs)
 unfolding bytesTaken heldOn
 taken-held f [] e h = rw (append-nil (f .held), ← e)
 taken-held f (x ∷ xs) e h =
@@ -57,7 +58,7 @@ taken-held f (x ∷ xs) e h =
     ∙ ap (λ (y : List ℕ). heldOn f y) (append-assoc (f .held) (x ∷ []) xs)
 
 -- the bytes that complete a record
-pub taken-record : (f : Feed) (xs : List ℕ) → f .stopped ≡ false → length (f .held) < 8 → length (f .held) + length xs ≡ 8
+pub taken-record : (f : Feed) (xs : List ℕ) → f .stopped ≡ false → length (f .held) < fileRecordWidth → length (f .held) + length xs ≡ fileRecordWidth
     → bytesTaken f xs ≡ recordTaken f (f .held ++ xs)
 unfolding bytesTaken heldOn
 taken-record f [] e h n = absurd (omega (arith, h, n))
@@ -69,16 +70,16 @@ taken-record f (x ∷ y ∷ xs) e h n =
     ∙ ap (λ (z : List ℕ). recordTaken f z) (append-assoc (f .held) (x ∷ []) (y ∷ xs))
 
 -- eight bytes at once, where none is held
-pub eight-first : (f : Feed) (xs : List ℕ) → f .held ≡ [] → f .stopped ≡ false → 8 ≤ length xs → bytesTaken f xs ≡ bytesTaken (recordTaken f (take 8 xs)) (drop 8 xs)
+pub eight-first : (f : Feed) (xs : List ℕ) → f .held ≡ [] → f .stopped ≡ false → fileRecordWidth ≤ length xs → bytesTaken f xs ≡ bytesTaken (recordTaken f (take fileRecordWidth xs)) (drop fileRecordWidth xs)
 eight-first f xs e s h =
-    ap (λ (ys : List ℕ). bytesTaken f ys) (sym (take-append-drop 8 xs))
-    ∙ taken-together f (take 8 xs) (drop 8 xs)
-    ∙ ap (λ (g : Feed). bytesTaken g (drop 8 xs))
-    (taken-record f (take 8 xs) s (omega (arith, ap length e)) (omega (arith, ap length e, length-take-le 8 xs h))
-    ∙ ap (λ (l : List ℕ). recordTaken f (l ++ take 8 xs)) e)
+    ap (λ (ys : List ℕ). bytesTaken f ys) (sym (take-append-drop fileRecordWidth xs))
+    ∙ taken-together f (take fileRecordWidth xs) (drop fileRecordWidth xs)
+    ∙ ap (λ (g : Feed). bytesTaken g (drop fileRecordWidth xs))
+    (taken-record f (take fileRecordWidth xs) s (omega (arith, ap length e)) (omega (arith, ap length e, length-take-le fileRecordWidth xs h))
+    ∙ ap (λ (l : List ℕ). recordTaken f (l ++ take fileRecordWidth xs)) e)
 
 -- the same from a place of a chunk on
-pub eight-taken : (f : Feed) (chunk : List ℕ) (i : ℕ) → f .held ≡ [] → f .stopped ≡ false → 8 ≤ length (drop i chunk)
-    → bytesTaken f (drop i chunk) ≡ bytesTaken (recordTaken f (take 8 (drop i chunk))) (drop (i + 8) chunk)
+pub eight-taken : (f : Feed) (chunk : List ℕ) (i : ℕ) → f .held ≡ [] → f .stopped ≡ false → fileRecordWidth ≤ length (drop i chunk)
+    → bytesTaken f (drop i chunk) ≡ bytesTaken (recordTaken f (take fileRecordWidth (drop i chunk))) (drop (i + fileRecordWidth) chunk)
 eight-taken f chunk i e s h =
-    eight-first f (drop i chunk) e s h ∙ ap (λ (xs : List ℕ). bytesTaken (recordTaken f (take 8 (drop i chunk))) xs) (drop-drop 8 i chunk)
+    eight-first f (drop i chunk) e s h ∙ ap (λ (xs : List ℕ). bytesTaken (recordTaken f (take fileRecordWidth (drop i chunk))) xs) (drop-drop fileRecordWidth i chunk)

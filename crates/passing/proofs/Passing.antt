@@ -7,6 +7,7 @@ use mathlib.Core.List.{List}
 use lib.ListN.{drop, length, length-drop, take}
 use lib.Seq.{drop-drop}
 use borrow.Author.Needs.{needs}
+use Rattle.limits.specs.Limits.{fileRecordWidth}
 use Rattle.memory.specs.Areas.{Areas, areas}
 use Rattle.taking.specs.Records.{Feed, recordTaken}
 use Rattle.taking.specs.Needed.{Kept, Takeable, Took, standsAt}
@@ -75,14 +76,14 @@ module _ (s₀ : Stand) (chunk : List ℕ) (from : ℕ) (out₀ c₀ w₀ r₀ m
   pub place-within : i ≤ length chunk
   place-within = h .able .within
 
-  pub record-takeable : 8 ≤ length chunk - i → Takeable s chunk i out c w r m
+  pub record-takeable : fileRecordWidth ≤ length chunk - i → Takeable s chunk i out c w r m
   record-takeable l =
       record { few = h .able .few; there = omega (arith, l); room = omega (arith, l, h .able .room); order = h .able .order }
 
-  pub passing-more : (s′ : Stand) (out′ c′ w′ r′ m′ : List ℕ) → 8 ≤ length chunk - i → s .stopped ≡ false
-      → Took (recordTaken (standsAt s out (areas c w r m)) (take 8 (drop i chunk))) s out s′ out′ c′ w′ r′ m′
+  pub passing-more : (s′ : Stand) (out′ c′ w′ r′ m′ : List ℕ) → fileRecordWidth ≤ length chunk - i → s .stopped ≡ false
+      → Took (recordTaken (standsAt s out (areas c w r m)) (take fileRecordWidth (drop i chunk))) s out s′ out′ c′ w′ r′ m′
       → length c′ ≡ length c → length w′ ≡ length w → length r′ ≡ length r → length m′ ≡ length m
-      → Passing s₀ chunk from out₀ c₀ w₀ r₀ m₀ s′ (i + 8) out′ c′ w′ r′ m′
+      → Passing s₀ chunk from out₀ c₀ w₀ r₀ m₀ s′ (i + fileRecordWidth) out′ c′ w′ r′ m′
   unfolding standsAt
   passing-more s′ out′ c′ w′ r′ m′ l z d ec ew er em =
       record {
@@ -94,7 +95,7 @@ module _ (s₀ : Stand) (chunk : List ℕ) (from : ℕ) (out₀ c₀ w₀ r₀ m
               order = d .order;
             };
         is =
-            ap (λ (f : Feed). bytesTaken f (drop (i + 8) chunk)) (d .is)
+            ap (λ (f : Feed). bytesTaken f (drop (i + fileRecordWidth) chunk)) (d .is)
             ∙ sym (eight-taken (standsAt s out (areas c w r m)) chunk i refl z (omega (arith, l, length-drop i chunk)))
             ∙ h .is;
         kept = kept-again out₀ (s₀ .at) out (s .at) out′ (s′ .at) (h .kept) (d .kept);
@@ -110,7 +111,7 @@ module _ (s₀ : Stand) (chunk : List ℕ) (from : ℕ) (out₀ c₀ w₀ r₀ m
       record { is = h .is; within = h .able .within; few-left = λ e. absurd (true≢false (sym z ∙ e)); kept = h .kept }
 
   -- fewer than eight bytes are left
-  pub passing-ends : length chunk - i < 8 → Passes s₀ chunk from out₀ (areas c₀ w₀ r₀ m₀) (record { stand = s; next = i }) out (areas c w r m)
+  pub passing-ends : length chunk - i < fileRecordWidth → Passes s₀ chunk from out₀ (areas c₀ w₀ r₀ m₀) (record { stand = s; next = i }) out (areas c w r m)
   passing-ends l = record { is = h .is; within = h .able .within; few-left = λ e. omega (arith, l); kept = h .kept }
 
 -- a run of steps is taken, then the other records

@@ -10,6 +10,8 @@ use borrow.Author.Tests.{not-false}
 use mir.Syntax.{w32, w64}
 use mir.Val.{Fits}
 use borrow.Author.Needs.{needs}
+use Rattle.limits.specs.Limits.{fileRecordWidth, lineLimit, stepLimit}
+use Rattle.limits.specs.Sizes.{copyLimit, rankArea, rankCounts}
 use Rattle.rules.specs.State.{mainframe}
 use Rattle.memory.specs.Areas.{stateIn, areas}
 use Rattle.acting.specs.declared.Outcome.{Outcome}
@@ -40,7 +42,7 @@ module _ (s : Stand) (chunk : List ℕ) (from end : ℕ) (out c w r m : List ℕ
 
   module _ (h : Runnable s chunk from end out c w r m) where
     -- none is taken yet
-    pub running-begins : (l n lim : List ℕ) → l ≡ replicate 1024 0 → n ≡ replicate 9 0 → lim ≡ replicate 64 0
+    pub running-begins : (l n lim : List ℕ) → l ≡ replicate rankArea 0 → n ≡ replicate rankCounts 0 → lim ≡ replicate copyLimit 0
         → Running (s .number) (s .at) chunk from end out c w r m (s .number) (s .at) from out c w r m l n lim
     running-begins l n lim el en ei =
         record {
@@ -54,7 +56,7 @@ module _ (s : Stand) (chunk : List ℕ) (from end : ℕ) (out c w r m : List ℕ
               });
           ahead = h .ahead;
           opened = h .opened;
-          kept = rw en (none-kept c r m l lim (ap length el ∙ length-replicate {A = ℕ} 1024 0) (ap length ei ∙ length-replicate {A = ℕ} 64 0));
+          kept = rw en (none-kept c r m l lim (ap length el ∙ length-replicate {A = ℕ} rankArea 0) (ap length ei ∙ length-replicate {A = ℕ} copyLimit 0));
         }
 
     -- the steps so far lead from the first stand to this one
@@ -83,10 +85,10 @@ module _ (number₀ at₀ : ℕ) (chunk : List ℕ) (from end : ℕ) (out₀ c�
 
   module _ (b : i < end) where
     -- the next record stands in the chunk, and is a step
-    next-within : i + 8 ≤ length chunk
+    next-within : i + fileRecordWidth ≤ length chunk
     next-within = omega (arith, b, h .ahead .whole, h .ahead .within)
 
-    next-numbered : number ≤ 1000000
+    next-numbered : number ≤ stepLimit
     next-numbered = omega (arith, b, h .ahead .whole, h .ahead .few)
 
     -- the next number is one of 32 bits
@@ -94,7 +96,7 @@ module _ (number₀ at₀ : ℕ) (chunk : List ℕ) (from end : ℕ) (out₀ c�
     next-fits = omega (arith, next-numbered)
 
     -- and its place one of 64
-    pub next-place : Fits w64 end → Fits w64 (i + 8)
+    pub next-place : Fits w64 end → Fits w64 (i + fileRecordWidth)
     next-place e = omega (arith, e, b, h .ahead .whole)
 
     next-steppable : Steppable true chunk i c w r m
@@ -104,7 +106,7 @@ module _ (number₀ at₀ : ℕ) (chunk : List ℕ) (from end : ℕ) (out₀ c�
     pub next-there : StepKept chunk i c w r m l n lim
     next-there = record { there = step-there true chunk i c w r m next-steppable refl; kept = h .kept }
 
-    pub room-for-next : Room out at 44
+    pub room-for-next : Room out at lineLimit
     room-for-next = record { room = omega (arith, next-within, h .passing .able .room) }
 
     -- the digits of its number may be counted on
@@ -116,12 +118,12 @@ module _ (number₀ at₀ : ℕ) (chunk : List ℕ) (from end : ℕ) (out₀ c�
         → SteppedKept (stateIn mainframe c w r m) (stepFrom (drop i chunk)) o c′ w′ r′ m′ l′ n′ lim′
         → LinePut out at (outcomeLine number o) out′ at′
         → length c′ ≡ length c → length w′ ≡ length w → length r′ ≡ length r → length m′ ≡ length m
-        → Running number₀ at₀ chunk from end out₀ c₀ w₀ r₀ m₀ (number + 1) at′ (i + 8) out′ c′ w′ r′ m′ l′ n′ lim′
+        → Running number₀ at₀ chunk from end out₀ c₀ w₀ r₀ m₀ (number + 1) at′ (i + fileRecordWidth) out′ c′ w′ r′ m′ l′ n′ lim′
     running-more o c′ w′ r′ m′ l′ n′ lim′ out′ at′ d k ec ew er em =
         let s₀ : Stand = record { number = number₀; stopped = false; ready = true; at = at₀ } in
         let s : Stand = record { number = number; stopped = false; ready = true; at = at } in
         let s′ : Stand = record { number = number + 1; stopped = false; ready = true; at = at′ } in
-        let left : 8 ≤ length chunk - i = omega (arith, next-within) in
+        let left : fileRecordWidth ≤ length chunk - i = omega (arith, next-within) in
         let able : Takeable s chunk i out c w r m = record-takeable s₀ chunk from out₀ c₀ w₀ r₀ m₀ s i out c w r m (h .passing) left in
         let answered = step-in-order true chunk i c w r m next-steppable refl o c′ w′ r′ m′ (d .stepped) in
         let taken = step-taken s chunk i out c w r m o c′ w′ r′ m′ out′ at′ (record { takeable = able; fewer = next-numbered }) answered k in

@@ -1,7 +1,10 @@
 // The records that lie whole in a chunk of a step file, taken one after the other.
 ghost use Prim.Native.Nat.{_≤_};
+ghost use Rattle.limits.specs.Sizes.{fileRecordLimit};
 ghost use Rattle.memory.specs.Areas.{areas};
 ghost use Rattle.passing.specs.Needed.{Passable, Passing, Ahead, Runnable, Passes};
+use limits::FILE_RECORD_LIMIT;
+use limits::FILE_RECORD_WIDTH;
 use taking::Stand;
 
 // What stands behind the last whole record of a chunk, and the place in the chunk behind it.
@@ -77,15 +80,15 @@ fn take_run(
 
 // The place behind the steps from a place on: behind the last record that lies whole in a chunk of so many bytes, or the 1,000,000th step.
 fn run_end(number: u32, from: usize, chunk: usize) -> usize
-    requires { ⌜ (number ≤ 1000001) × (from ≤ chunk) ⌝ }
+    requires { ⌜ (number ≤ fileRecordLimit) × (from ≤ chunk) ⌝ }
     ensures { λ r. ⌜ Ahead number from r chunk ⌝ }
 {
-    let whole = (chunk - from) / 8;
-    let numbers = (1000001 - number) as usize;
+    let whole = (chunk - from) / FILE_RECORD_WIDTH;
+    let numbers = (FILE_RECORD_LIMIT - number) as usize;
     if whole < numbers {
-        return from + 8 * whole;
+        return from + FILE_RECORD_WIDTH * whole;
     }
-    from + 8 * numbers
+    from + FILE_RECORD_WIDTH * numbers
 }
 
 // Takes the steps from a place on to another, on areas in order: the inner loop of the run program. The records are ranked once for all of them.
@@ -126,7 +129,7 @@ fn take_steps(
         at = taking::put_next(lines, at, digits, len, number, outcome);
         len = lines::count_on(&mut digits, len, number);
         number = number + 1;
-        i = i + 8;
+        i = i + FILE_RECORD_WIDTH;
     }
     let last = Stand {
         number,
@@ -156,12 +159,12 @@ fn take_records(
 {
     let mut s = stand;
     let mut i = from;
-    while 8 <= chunk.len() - i {
+    while FILE_RECORD_WIDTH <= chunk.len() - i {
         if s.stopped {
             return Passed { stand: s, next: i };
         }
         s = taking::take_record(s, chunk, i, lines, clocks, words, records, marks);
-        i = i + 8;
+        i = i + FILE_RECORD_WIDTH;
     }
     Passed { stand: s, next: i }
 }

@@ -3,11 +3,16 @@ ghost use mathlib.Core.Path.{_≡_};
 ghost use mathlib.Core.Bool.{cond};
 ghost use Prim.Native.Nat.{_+_, _-_, _*_, _<_, _≤_};
 ghost use lib.ListN.{length};
+ghost use Rattle.limits.specs.Sizes.{slotWidth};
 ghost use Rattle.pending.specs.Pending.{placeOf, among, dueAmong};
 ghost use Rattle.pending.specs.Needed.{Listable, Listed, Firsts, Spannable, Spanned, SlotRead, Windows, Scannable, Scanned};
 use clock::Clock;
 use clock::PageId;
 use clock::ProcessorId;
+use limits::CLOCK_WIDTH;
+use memory::slots::slot_interval;
+use memory::slots::slot_page;
+use memory::slots::slot_processor;
 
 // Lists the slots of the pending records among the first `standing`, upwards, and yields how many. Every record is judged alike, without
 // a branch.
@@ -33,8 +38,8 @@ pub fn list_due(
 fn list_among(
     records: &[u8],
     standing: usize,
-    from: &[u32; 8],
-    span: &[u32; 8],
+    from: &[u32; CLOCK_WIDTH],
+    span: &[u32; CLOCK_WIDTH],
     slots: &mut [u8],
 ) -> usize
     requires { ⌜ Scannable (now records) standing (now from) (now span) (now slots) ⌝ }
@@ -51,22 +56,29 @@ fn list_among(
 }
 
 // 1 where the place of the record in a slot is news of its processor, else 0.
-fn due_flag(records: &[u8], slot: usize, from: &[u32; 8], span: &[u32; 8]) -> usize
+fn due_flag(
+    records: &[u8],
+    slot: usize,
+    from: &[u32; CLOCK_WIDTH],
+    span: &[u32; CLOCK_WIDTH],
+) -> usize
     requires { ⌜ SlotRead (now records) slot ⌝ }
     requires { ⌜ Windows (now from) (now span) ⌝ }
     ensures { λ r. ⌜ r ≡ cond (dueAmong (now (records .entry)) (now (from .entry)) (now (span .entry)) slot) 1 0 ⌝ }
 {
-    let q = wide(records[135 * slot]) - 1;
+    let processor = slot_processor(records, slot);
+    let q = processor.0 - 1;
     flag_among(place_at(records, slot), from[q], span[q])
 }
 
 // The interval and the page of the record in a slot as one number.
 fn place_at(records: &[u8], slot: usize) -> u32
-    requires { ⌜ 135 * slot + 135 ≤ length (now records) ⌝ }
+    requires { ⌜ slotWidth * slot + slotWidth ≤ length (now records) ⌝ }
     ensures { λ r. ⌜ (r ≡ placeOf (now (records .entry)) slot) × (r < 65536) ⌝ }
 {
-    let at = 135 * slot;
-    wide32(records[at + 1]) + 256 * wide32(records[at + 2])
+    let interval = slot_interval(records, slot);
+    let page = slot_page(records, slot);
+    interval.0 as u32 + 256 * page.0 as u32
 }
 
 // 1 where a number is one of the next `span` from `from` on, else 0: one comparison, since below `from` the difference wraps.
@@ -85,14 +97,14 @@ fn flag(x: bool) -> usize
 }
 
 // For each processor the place of its first interval that the applied clock does not know; `first` is that of interval 1.
-fn firsts(applied: Clock, first: u32) -> [u32; 8]
+fn firsts(applied: Clock, first: u32) -> [u32; CLOCK_WIDTH]
     requires { ⌜ first ≤ 65536 ⌝ }
     ensures { λ r. ⌜ Firsts (applied .entries) first r ⌝ }
 {
     let lo = applied.entries;
-    let mut out = [0; 8];
+    let mut out = [0; CLOCK_WIDTH];
     let mut q: usize = 0;
-    while q < 8 {
+    while q < CLOCK_WIDTH {
         out[q] = first + wide32(lo[q]);
         q = q + 1;
     }
@@ -100,27 +112,21 @@ fn firsts(applied: Clock, first: u32) -> [u32; 8]
 }
 
 // How many intervals of each processor are news to processor p: the known entry less the applied one, and of itself none.
-fn spans(applied: Clock, known: Clock, p: ProcessorId) -> [u32; 8]
+fn spans(applied: Clock, known: Clock, p: ProcessorId) -> [u32; CLOCK_WIDTH]
     requires { ⌜ Spannable (applied .entries) (known .entries) (p .0) ⌝ }
     ensures { λ r. ⌜ Spanned (applied .entries) (known .entries) (p .0) r ⌝ }
 {
     let lo = applied.entries;
     let hi = known.entries;
-    let mut out = [0; 8];
+    let mut out = [0; CLOCK_WIDTH];
     let mut q: usize = 0;
-    while q < 8 {
+    while q < CLOCK_WIDTH {
         out[q] = wide32(hi[q]) - wide32(lo[q]);
         q = q + 1;
     }
     let own = p.0 - 1;
     out[own] = 0;
     out
-}
-
-fn wide(x: u8) -> usize
-    ensures { λ r. ⌜ (r ≡ x) × (r < 256) ⌝ }
-{
-    x as usize
 }
 
 fn wide32(x: u8) -> u32

@@ -8,6 +8,8 @@ use lib.ListN.{length, getD, take, drop}
 use lib.Dec.{eqb}
 use borrow.Author.Needs.{needs}
 use borrow.Author.Tests.{eq-eqb, ne-eqb, eqb-true}
+use Rattle.limits.specs.Limits.{pageWidth}
+use Rattle.limits.specs.Sizes.{runLimit}
 use Rattle.diff.specs.Format.{Run}
 use Rattle.diff.specs.Reading.{runCount, mostRuns, runsAt, runsIn, wordsPlace, wordCount, readRefusal}
 use Rattle.reader.specs.Pairs.{pairAmong, pairAt, wordsOf, Readable}
@@ -18,7 +20,7 @@ use Rattle.diff.proofs.Checking.{runs-left}
 
 -- after some pairs: the place looked for is none of theirs, and `left` pairs stand from the place `first` on
 pub record Finding (bytes : List ℕ) (at n first left words : ℕ) : Type 0 where
-  pub few : n ≤ 16
+  pub few : n ≤ runLimit
   pub pairs-whole : 1 + 2 * n ≤ length bytes
   pub place : first + 2 * left ≡ 1 + 2 * n
   pub exact : length bytes ≡ words + 4 * wordCount (runsAt bytes first left)
@@ -27,7 +29,7 @@ pub record Finding (bytes : List ℕ) (at n first left words : ℕ) : Type 0 whe
 pub finding-begins : (bytes : List ℕ) (at n : ℕ) → Readable bytes → n ≡ getD bytes 0 0 → Finding bytes at n 1 n (1 + 2 * n)
 unfolding runCount runsIn wordsPlace mostRuns
 finding-begins bytes at n a e =
-    let p = legal-when-read 32 bytes (a .accepted) in
+    let p = legal-when-read pageWidth bytes (a .accepted) in
     record {
       few = omega (arith, p .few-runs);
       pairs-whole = omega (arith, p .pairs-whole);
@@ -37,7 +39,7 @@ finding-begins bytes at n a e =
     }
 
 pub has-first-byte : (bytes : List ℕ) → Readable bytes → 0 < length bytes
-has-first-byte bytes a = omega (arith, legal-when-read 32 bytes (a .accepted) .not-empty)
+has-first-byte bytes a = omega (arith, legal-when-read pageWidth bytes (a .accepted) .not-empty)
 
 module _ (bytes : List ℕ) (at n first left words offset len : ℕ) where
   -- what the pairs that are left say, the first of them told apart
@@ -77,17 +79,17 @@ no-pair-left bytes at n first left words p none = let e : left ≡ 0 = omega ari
 
 -- ---- the pair at a place of any byte string
 
-module _ (bytes : List ℕ) (at r : ℕ) (is : r ≡ readRefusal 32 bytes) where
-  pub no-diff-no-pair : (r ≡ 0 → ⊥) → Nothing ≡ pairAt 32 bytes at
+module _ (bytes : List ℕ) (at r : ℕ) (is : r ≡ readRefusal pageWidth bytes) where
+  pub no-diff-no-pair : (r ≡ 0 → ⊥) → Nothing ≡ pairAt pageWidth bytes at
   unfolding pairAt
-  no-diff-no-pair h = rw (ne-eqb (readRefusal 32 bytes) 0 (rw is at h))
+  no-diff-no-pair h = rw (ne-eqb (readRefusal pageWidth bytes) 0 (rw is at h))
 
   pub readable : r ≡ 0 → Readable bytes
   readable z = record { accepted = sym is ∙ z }
 
-  pub pair-of-diff : (p : Pair) → r ≡ 0 → p ≡ pairAmong (runsIn bytes) 1 (wordsPlace bytes) at → p ≡ pairAt 32 bytes at
+  pub pair-of-diff : (p : Pair) → r ≡ 0 → p ≡ pairAmong (runsIn bytes) 1 (wordsPlace bytes) at → p ≡ pairAt pageWidth bytes at
   unfolding pairAt
-  pair-of-diff p z e = e ∙ rw (eq-eqb (readRefusal 32 bytes) 0 (sym is ∙ z))
+  pair-of-diff p z e = e ∙ rw (eq-eqb (readRefusal pageWidth bytes) 0 (sym is ∙ z))
 
 -- ---- the words of the run at a place
 
@@ -106,16 +108,16 @@ among-within [] first words at m h = omega arith
 among-within (r ∷ rs) first words at m h =
     pick-below (eqb at first) _ _ m (omega arith) (among-within rs (first + 2) (words + 4 * r .len) at m (omega arith))
 
-pair-within : (bytes : List ℕ) (at : ℕ) → lastWord (pairAt 32 bytes at) ≤ length bytes
+pair-within : (bytes : List ℕ) (at : ℕ) → lastWord (pairAt pageWidth bytes at) ≤ length bytes
 unfolding pairAt
-pair-within bytes at = go (eqb (readRefusal 32 bytes) 0) refl
+pair-within bytes at = go (eqb (readRefusal pageWidth bytes) 0) refl
   where
-    go : (t : Bool) → eqb (readRefusal 32 bytes) 0 ≡ t → lastWord (cond t (pairAmong (runsIn bytes) 1 (wordsPlace bytes) at) Nothing) ≤ length bytes
-    go true e = among-within (runsIn bytes) 1 (wordsPlace bytes) at (length bytes) (omega (arith, legal-when-read 32 bytes (eqb-true _ _ e) .exact))
+    go : (t : Bool) → eqb (readRefusal pageWidth bytes) 0 ≡ t → lastWord (cond t (pairAmong (runsIn bytes) 1 (wordsPlace bytes) at) Nothing) ≤ length bytes
+    go true e = among-within (runsIn bytes) 1 (wordsPlace bytes) at (length bytes) (omega (arith, legal-when-read pageWidth bytes (eqb-true _ _ e) .exact))
     go false e = omega arith
 
-module _ (bytes : List ℕ) (at : ℕ) (p : Pair) (is : p ≡ pairAt 32 bytes at) where
-  pub nothing-handed-out : p ≡ Nothing → [] ≡ wordsOf (pairAt 32 bytes at) bytes
+module _ (bytes : List ℕ) (at : ℕ) (p : Pair) (is : p ≡ pairAt pageWidth bytes at) where
+  pub nothing-handed-out : p ≡ Nothing → [] ≡ wordsOf (pairAt pageWidth bytes at) bytes
   unfolding wordsOf
   nothing-handed-out e = rw (← is, e)
 
@@ -123,7 +125,7 @@ module _ (bytes : List ℕ) (at : ℕ) (p : Pair) (is : p ≡ pairAt 32 bytes at
     pub run-within : words + 4 * len ≤ length bytes
     run-within = rw (← is, there) at (pair-within bytes at)
 
-    pub run-handed-out : (part : List ℕ) → part ≡ take (4 * len) (drop words bytes) → part ≡ wordsOf (pairAt 32 bytes at) bytes
+    pub run-handed-out : (part : List ℕ) → part ≡ take (4 * len) (drop words bytes) → part ≡ wordsOf (pairAt pageWidth bytes at) bytes
     unfolding wordsOf
     run-handed-out part e = e ∙ rw (← is, there)
 

@@ -5,6 +5,7 @@ use mathlib.Core.Bool.{cond}
 use mathlib.Core.List.{List, [], _∷_}
 use lib.ListN.{take, drop}
 use lib.Dec.{eqb}
+use Rattle.limits.specs.Limits.{pageWidth}
 use Rattle.diff.specs.Format.{Run}
 use Rattle.diff.specs.Reading.{readRefusal, runsIn, wordsPlace}
 use Rattle.reader.specs.declared.Pair.{Pair}
@@ -29,4 +30,4 @@ wordsOf Nothing bytes = []
 
 -- the bytes are a diff
 pub record Readable (bytes : List ℕ) : Type 0 where
-  pub accepted : readRefusal 32 bytes ≡ 0
+  pub accepted : readRefusal pageWidth bytes ≡ 0

@@ -3,6 +3,7 @@
 ghost use mathlib.Core.Path.{_≡_};
 ghost use Prim.Native.Nat.{_+_, _*_, _<_, _≤_};
 ghost use lib.ListN.{length, take, drop};
+ghost use Rattle.limits.specs.Limits.{pageWidth};
 ghost use Rattle.diff.specs.Reading.{runsIn, wordsPlace};
 ghost use Rattle.reader.specs.Pairs.{pairAmong, pairAt, wordsOf, Readable};
 use diff::check;
@@ -20,7 +21,7 @@ pub enum Pair {
 
 // The pair at a place of a diff, or that there is none.
 pub fn pair_at(bytes: &[u8], at: usize) -> Pair
-    ensures { λ r. ⌜ r ≡ pairAt 32 (now (bytes .entry)) at ⌝ }
+    ensures { λ r. ⌜ r ≡ pairAt pageWidth (now (bytes .entry)) at ⌝ }
 {
     if check(bytes) != 0 {
         return Pair::Nothing;
@@ -70,21 +71,21 @@ pub fn stand<'a>(bytes: &'a [u8], at: usize) -> Reader<'a>
 
 // The pair at which a reader stands, with the place of the next, or that there is none.
 pub fn next<'a>(r: Reader<'a>) -> Pair
-    ensures { λ p. ⌜ p ≡ pairAt 32 (now (r .entry .bytes)) (r .entry .at) ⌝ }
+    ensures { λ p. ⌜ p ≡ pairAt pageWidth (now (r .entry .bytes)) (r .entry .at) ⌝ }
 {
     pair_at(r.bytes, r.at)
 }
 
 // The same on plain parameters, for every other caller.
 pub fn read_pair(bytes: &[u8], at: usize) -> Pair
-    ensures { λ r. ⌜ r ≡ pairAt 32 (now (bytes .entry)) at ⌝ }
+    ensures { λ r. ⌜ r ≡ pairAt pageWidth (now (bytes .entry)) at ⌝ }
 {
     next(stand(bytes, at))
 }
 
 // The words of the run at a place, as that part of the caller's bytes; no bytes where there is no pair.
 pub fn words_at(bytes: &[u8], at: usize) -> &[u8]
-    ensures { λ r. ⌜ now r ≡ wordsOf (pairAt 32 (now (bytes .entry)) at) (now (bytes .entry)) ⌝ }
+    ensures { λ r. ⌜ now r ≡ wordsOf (pairAt pageWidth (now (bytes .entry)) at) (now (bytes .entry)) ⌝ }
 {
     let Pair::At {
         offset: _,

@@ -12,30 +12,33 @@ use lib.Seq.{getD-set-same, getD-set-other}
 use lib.Dec.{eqb}
 use borrow.Author.Tests.{leb-true, not-false, eq-eqb, ne-eqb}
 use borrow.Author.Needs.{needs}
+use Rattle.limits.specs.Limits.{intervalLimit, pageLimit, processorLimit}
+use Rattle.limits.specs.Sizes.{noticeRow, noticeTable}
 use Rattle.rules.specs.Tables.{every}
 use Rattle.rules.proofs.Everywhere.{and-left, and-both}
 use Rattle.rules.proofs.Tables.{every-at, every-holds}
+use Rattle.memory.specs.Marks.{slotInterval, slotPage, slotProcessor}
 use Rattle.marktests.proofs.Passing.{fail-one, and-fails, and-goes-on}
 use Rattle.recordtests.specs.Tests.{ownFits, noticeHolds, diffHolds, recordHolds, differ, unlike, noticePlace}
 use Rattle.recordtests.specs.Needed.{OwnFit, NoticeFits, NoticesFit, Blank}
-use Rattle.recordtests.proofs.RecordTests.{Notice, notice-says, slot-one, records-is}
+use Rattle.recordtests.proofs.RecordTests.{Notice, notice-says, slot-places, slot-one, records-is}
 
 -- ---- the numbers of sound records have their place
 
 -- a record that passes has numbers in range
-notice-fits : (own r : List ℕ) (processors pages i : ℕ) → processors ≤ 8 → pages ≤ 8 → OwnFit own → recordHolds own r processors pages i ≡ true → NoticeFits r i
+notice-fits : (own r : List ℕ) (processors pages i : ℕ) → processors ≤ processorLimit → pages ≤ pageLimit → OwnFit own → recordHolds own r processors pages i ≡ true → NoticeFits r i
 unfolding recordHolds ownFits
 notice-fits own r processors pages i a b o e =
-    go (notice-says own processors pages (getD r (135 * i) 0) (getD r (135 * i + 1) 0) (getD r (135 * i + 2) 0)
-    (and-left (noticeHolds own processors pages (getD r (135 * i) 0) (getD r (135 * i + 1) 0) (getD r (135 * i + 2) 0)) (diffHolds r (135 * i)) e))
+    go (notice-says own processors pages (slotProcessor r i) (slotInterval r i) (slotPage r i)
+    (and-left (noticeHolds own processors pages (slotProcessor r i) (slotInterval r i) (slotPage r i)) (diffHolds r i) e))
   where
-    go : Notice own processors pages (getD r (135 * i) 0) (getD r (135 * i + 1) 0) (getD r (135 * i + 2) 0) → NoticeFits r i
+    go : Notice own processors pages (slotProcessor r i) (slotInterval r i) (slotPage r i) → NoticeFits r i
     go z =
-        let most : getD own (getD r (135 * i) 0 - 1) 0 ≤ 63 = leb-true _ _ (every-at 8 (ownFits own) (getD r (135 * i) 0 - 1) (o .fit) (omega (arith, z .from, z .to))) in
+        let most : getD own (slotProcessor r i - 1) 0 ≤ intervalLimit = leb-true _ _ (every-at processorLimit (ownFits own) (slotProcessor r i - 1) (o .fit) (omega (arith, z .from, z .to))) in
         record { processor = omega (arith, z .to); interval = omega (arith, z .made-interval); page = omega (arith, z .page) }
 
 -- so have all records that pass
-pub notices-fit : (own r : List ℕ) (processors pages n : ℕ) (t : Bool) → processors ≤ 8 → pages ≤ 8 → OwnFit own
+pub notices-fit : (own r : List ℕ) (processors pages n : ℕ) (t : Bool) → processors ≤ processorLimit → pages ≤ pageLimit → OwnFit own
     → t ≡ every n (recordHolds own r processors pages) → not t ≡ false → NoticesFit r n
 notices-fit own r processors pages n t a b o e k =
     record { at = λ i h. notice-fits own r processors pages i a b o (every-at n (recordHolds own r processors pages) i (sym e ∙ not-false t k) h) }
@@ -45,8 +48,8 @@ pub notice-one : (r : List ℕ) (n i : ℕ) → NoticesFit r n → i < n → Not
 notice-one r n i p h = p .at i h
 
 -- its place
-pub notice-place-is : (r : List ℕ) (i p n g : ℕ) → (p ≡ getD r (135 * i) 0) × (p < 256) → (n ≡ getD r (135 * i + 1) 0) × (n < 256)
-    → (g ≡ getD r (135 * i + 2) 0) × (g < 256) → 512 * p + 8 * n + g ≡ noticePlace r i
+pub notice-place-is : (r : List ℕ) (i p n g : ℕ) → (p ≡ slotProcessor r i) × (p < 256) → (n ≡ slotInterval r i) × (n < 256)
+    → (g ≡ slotPage r i) × (g < 256) → noticeRow * p + pageLimit * n + g ≡ noticePlace r i
 unfolding noticePlace
 notice-place-is r i p n g a b d = rw (← a .0, ← b .0, ← d .0)
 
@@ -55,14 +58,14 @@ notice-place-is r i p n g a b d = rw (← a .0, ← b .0, ← d .0)
 same-place : (r : List ℕ) (i j : ℕ) → NoticeFits r i → NoticeFits r j → noticePlace r j ≡ noticePlace r i → differ r i j ≡ false
 unfolding differ noticePlace
 same-place r i j a b e =
-    rw (eq-eqb (getD r (135 * i) 0) (getD r (135 * j) 0) (omega (arith, e, a .interval, a .page, b .interval, b .page)), eq-eqb (getD r (135 * i + 1) 0) (getD r (135 * j + 1) 0) (omega (arith, e, a .interval, a .page, b .interval, b .page)), eq-eqb (getD r (135 * i + 2) 0) (getD r (135 * j + 2) 0) (omega (arith, e, a .interval, a .page, b .interval, b .page)))
+    rw (eq-eqb (slotProcessor r i) (slotProcessor r j) (omega (arith, e, a .interval, a .page, b .interval, b .page)), eq-eqb (slotInterval r i) (slotInterval r j) (omega (arith, e, a .interval, a .page, b .interval, b .page)), eq-eqb (slotPage r i) (slotPage r j) (omega (arith, e, a .interval, a .page, b .interval, b .page)))
 
 other-place : (r : List ℕ) (i j : ℕ) → (noticePlace r j ≡ noticePlace r i → ⊥) → differ r i j ≡ true
 unfolding differ noticePlace
-other-place r i j h = go (ℕ-discrete (getD r (135 * i) 0) (getD r (135 * j) 0)) (ℕ-discrete (getD r (135 * i + 1) 0) (getD r (135 * j + 1) 0)) (ℕ-discrete (getD r (135 * i + 2) 0) (getD r (135 * j + 2) 0))
+other-place r i j h = go (ℕ-discrete (slotProcessor r i) (slotProcessor r j)) (ℕ-discrete (slotInterval r i) (slotInterval r j)) (ℕ-discrete (slotPage r i) (slotPage r j))
   where
-    go : Dec (getD r (135 * i) 0 ≡ getD r (135 * j) 0) → Dec (getD r (135 * i + 1) 0 ≡ getD r (135 * j + 1) 0) → Dec (getD r (135 * i + 2) 0 ≡ getD r (135 * j + 2) 0)
-        → not (eqb (getD r (135 * i) 0) (getD r (135 * j) 0) && eqb (getD r (135 * i + 1) 0) (getD r (135 * j + 1) 0) && eqb (getD r (135 * i + 2) 0) (getD r (135 * j + 2) 0)) ≡ true
+    go : Dec (slotProcessor r i ≡ slotProcessor r j) → Dec (slotInterval r i ≡ slotInterval r j) → Dec (slotPage r i ≡ slotPage r j)
+        → not (eqb (slotProcessor r i) (slotProcessor r j) && eqb (slotInterval r i) (slotInterval r j) && eqb (slotPage r i) (slotPage r j)) ≡ true
     go (yes a) (yes b) (yes d) = absurd (h (omega (arith, a, b, d)))
     go (yes a) (yes b) (no d) = rw (eq-eqb _ _ a, eq-eqb _ _ b, ne-eqb _ _ d)
     go (yes a) (no b) d = rw (eq-eqb _ _ a, ne-eqb _ _ b)
@@ -87,13 +90,13 @@ pub record Marked (r : List ℕ) (i x : ℕ) : Type 0 where
 -- the first i records differ and are marked, and nothing else is
 pub record Seen (r : List ℕ) (n : ℕ) (seen : List ℕ) (i : ℕ) : Type 0 where
   pub upto : i ≤ n
-  pub long : length seen ≡ 4608
+  pub long : length seen ≡ noticeTable
   pub passed : every i (unlike r) ≡ true
   pub marked : (j : ℕ) → j < i → getD seen (noticePlace r j) 0 ≡ 1
   pub only : (x : ℕ) → (getD seen x 0 ≡ 0 → ⊥) → Marked r i x
 
 -- none is marked
-pub seen-none : (r : List ℕ) (n : ℕ) (seen : List ℕ) → Blank 4608 seen → Seen r n seen 0
+pub seen-none : (r : List ℕ) (n : ℕ) (seen : List ℕ) → Blank noticeTable seen → Seen r n seen 0
 unfolding every
 seen-none r n seen b =
     record { upto = omega arith; long = b .long; passed = refl; marked = λ j h. absurd (omega arith); only = λ x h. absurd (h (b .zero x)) }
@@ -110,7 +113,7 @@ seen-twice r n seen i place p f h e k = go (p .only place k)
         (sym (fail-one i (differ r i) (z .at) (z .below) (same-place r i (z .at) (f .at i h) (f .at (z .at) (omega (arith, z .below))) (z .is ∙ e))))
 
 -- a record whose place is not is unlike them, and is marked
-pub seen-new : (r : List ℕ) (n : ℕ) (seen : List ℕ) (i place : ℕ) → Seen r n seen i → i < n → place ≡ noticePlace r i → place < 4608 → getD seen place 0 ≡ 0
+pub seen-new : (r : List ℕ) (n : ℕ) (seen : List ℕ) (i place : ℕ) → Seen r n seen i → i < n → place ≡ noticePlace r i → place < noticeTable → getD seen place 0 ≡ 0
     → Seen r n (set seen place 1) (i + 1)
 unfolding every unlike
 seen-new r n seen i place p h e b k =
@@ -149,4 +152,4 @@ seen-new r n seen i place p h e b k =
 pub seen-all : (r : List ℕ) (n : ℕ) (seen : List ℕ) (i : ℕ) → Seen r n seen i → n ≤ i → true ≡ every n (unlike r)
 seen-all r n seen i p h = let e : i ≡ n = omega (arith, p .upto) in rw (← e) (sym (p .passed))
 
-pub ruleset notices-checked = (and-fails, and-goes-on, records-is, notices-fit, notice-one, notice-place-is, slot-one, blank, seen-none, seen-twice, seen-new, seen-all, needs)
+pub ruleset notices-checked = (and-fails, and-goes-on, records-is, notices-fit, notice-one, notice-place-is, slot-places, slot-one, blank, seen-none, seen-twice, seen-new, seen-all, needs)

@@ -1,17 +1,20 @@
 -- What the functions on records leave to show, one law for each way of the code. Assumes nothing.
-use Prim.Native.Nat.{ℕ, _+_, _-_, _*_, _≤_, _<_}
+use Prim.Native.Nat.{ℕ, _-_, _≤_, _<_}
 use native.Mathlib.Omega.{arith}
 use mathlib.Core.Path.{_≡_}
 use mathlib.Core.Bool.{Bool, true, false, not, _&&_}
 use mathlib.Core.List.{List}
-use lib.ListN.{getD, take, drop}
+use lib.ListN.{getD}
 use lib.Dec.{leb, ltb, eqb}
 use borrow.Author.Tests.{ltb-true, leb-true, not-true, not-false, lt-ltb, le-ltb, le-leb, lt-leb}
 use borrow.Author.Needs.{needs}
+use Rattle.limits.specs.Limits.{pageWidth}
+use Rattle.limits.specs.Sizes.{diffLimit, slotWidth}
 use Rattle.diff.specs.Reading.{readRefusal}
 use Rattle.rules.specs.Tables.{every}
 use Rattle.rules.proofs.Everywhere.{and-left, and-right}
-use Rattle.marktests.specs.Needed.{PlacesThere}
+use Rattle.memory.specs.Marks.{slotProcessor, slotInterval, slotPage, slotLength, slotDiff}
+use Rattle.memory.specs.Needed.{RowThere, DiffIn}
 use Rattle.marktests.proofs.Passing.{passed-none, passed-more, passed-broken, passed-all, and-fails, and-goes-on}
 use Rattle.recordtests.specs.Tests.{noticeHolds, diffHolds, recordHolds, unlike, recordsHoldWith}
 use Rattle.recordtests.specs.Needed.{SlotThere, SlotsThere}
@@ -71,31 +74,33 @@ notice-says own processors pages p n g e =
 -- ---- its diff
 
 -- a diff longer than its slot
-pub diff-too-long : (r : List ℕ) (at len : ℕ) → (len ≡ getD r (at + 3) 0) × (len < 256) → 131 < len → false ≡ diffHolds r at
+pub diff-too-long : (r : List ℕ) (i len : ℕ) → (len ≡ slotLength r i) × (len < 256) → diffLimit < len → false ≡ diffHolds r i
 unfolding diffHolds
-diff-too-long r at len e h = rw (← e .0, lt-leb len 131 h)
+diff-too-long r i len e h = rw (← e .0, lt-leb len diffLimit h)
 
--- otherwise the diff's own test decides
-pub diff-decides : (r : List ℕ) (at len refusal : ℕ) → (len ≡ getD r (at + 3) 0) × (len < 256) → len ≤ 131
-    → refusal ≡ readRefusal 32 (take (at + 4 + len - (at + 4)) (drop (at + 4) r)) → eqb refusal 0 ≡ diffHolds r at
-unfolding diffHolds
-diff-decides r at len refusal e h f =
-    let z : at + 4 + len - (at + 4) ≡ len = omega arith in
-    rw (f, z, ← e .0, le-leb len 131 h)
+module _ (r : List ℕ) (i len : ℕ) (e : (len ≡ slotLength r i) × (len < 256)) (h : len ≤ diffLimit) where
+  -- another lies within its slot
+  pub diff-there : RowThere slotWidth r i → DiffIn r i
+  diff-there p = record { there = p; length-fits = omega (arith, e .0) }
+
+  -- and its own test decides
+  pub diff-decides : (refusal : ℕ) (bytes : List ℕ) → bytes ≡ slotDiff r i → refusal ≡ readRefusal pageWidth bytes → eqb refusal 0 ≡ diffHolds r i
+  unfolding diffHolds
+  diff-decides refusal bytes d f = rw (f, d, ← e .0, le-leb len diffLimit h)
 
 -- ---- a record
 
 -- a slot lies within the area
-pub slot-places : (r : List ℕ) (i : ℕ) → SlotThere r i → PlacesThere r (135 * i) 135
+pub slot-places : (r : List ℕ) (i : ℕ) → SlotThere r i → RowThere slotWidth r i
 slot-places r i p = record { within = omega (arith, p .records, p .slot) }
 
-pub record-broken : (own r : List ℕ) (processors pages i p n g : ℕ) (t : Bool) → (p ≡ getD r (135 * i) 0) × (p < 256) → (n ≡ getD r (135 * i + 1) 0) × (n < 256)
-    → (g ≡ getD r (135 * i + 2) 0) × (g < 256) → t ≡ noticeHolds own processors pages p n g → not t ≡ true → false ≡ recordHolds own r processors pages i
+pub record-broken : (own r : List ℕ) (processors pages i p n g : ℕ) (t : Bool) → (p ≡ slotProcessor r i) × (p < 256) → (n ≡ slotInterval r i) × (n < 256)
+    → (g ≡ slotPage r i) × (g < 256) → t ≡ noticeHolds own processors pages p n g → not t ≡ true → false ≡ recordHolds own r processors pages i
 unfolding recordHolds
 record-broken own r processors pages i p n g t a b d e k = rw (← a .0, ← b .0, ← d .0, ← e, not-true t k)
 
-pub record-decides : (own r : List ℕ) (processors pages i p n g : ℕ) (t x : Bool) → (p ≡ getD r (135 * i) 0) × (p < 256) → (n ≡ getD r (135 * i + 1) 0) × (n < 256)
-    → (g ≡ getD r (135 * i + 2) 0) × (g < 256) → t ≡ noticeHolds own processors pages p n g → not t ≡ false → x ≡ diffHolds r (135 * i)
+pub record-decides : (own r : List ℕ) (processors pages i p n g : ℕ) (t x : Bool) → (p ≡ slotProcessor r i) × (p < 256) → (n ≡ slotInterval r i) × (n < 256)
+    → (g ≡ slotPage r i) × (g < 256) → t ≡ noticeHolds own processors pages p n g → not t ≡ false → x ≡ diffHolds r i
     → x ≡ recordHolds own r processors pages i
 unfolding recordHolds
 record-decides own r processors pages i p n g t x a b d e k f = rw (← a .0, ← b .0, ← d .0, ← e, not-false t k, f)
@@ -109,4 +114,4 @@ pub records-is : (own r : List ℕ) (processors pages standing : ℕ) (t : Bool)
 unfolding recordsHoldWith
 records-is own r processors pages standing t e = e
 
-pub ruleset records-checked = (passed-none, passed-more, passed-broken, passed-all, and-fails, and-goes-on, nobody's, absent-processor's, absent-page's, no-interval's, interval-decides, diff-too-long, diff-decides, slot-places, record-broken, record-decides, slot-one, records-is, needs)
+pub ruleset records-checked = (passed-none, passed-more, passed-broken, passed-all, and-fails, and-goes-on, nobody's, absent-processor's, absent-page's, no-interval's, interval-decides, diff-too-long, diff-there, diff-decides, slot-places, record-broken, record-decides, slot-one, records-is, needs)

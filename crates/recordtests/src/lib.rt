@@ -2,24 +2,37 @@
 // Each contract is an equation with a definition of specs/Tests.antt.
 ghost use mathlib.Core.Path.{_≡_};
 ghost use Prim.Native.Nat.{_<_, _≤_};
+ghost use Rattle.limits.specs.Limits.{pageLimit, processorLimit};
+ghost use Rattle.limits.specs.Sizes.{noticeTable, slotWidth};
 ghost use Rattle.rules.specs.Tables.{every};
-ghost use Rattle.marktests.specs.Needed.{PlacesThere};
+ghost use Rattle.memory.specs.Needed.{RowThere};
 ghost use Rattle.recordtests.specs.Tests.{noticeHolds, diffHolds, recordHolds, unlike, noticePlace, recordsHoldWith};
 ghost use Rattle.recordtests.specs.Needed.{OwnFit, SlotThere, SlotsThere, NoticeFits, NoticesFit, Blank};
 use clock::IntervalId;
 use clock::PageId;
 use clock::ProcessorId;
 use diff::check;
+use limits::CLOCK_WIDTH;
+use limits::DIFF_LIMIT;
+use limits::NOTICE_ROW;
+use limits::NOTICE_TABLE;
+use limits::PAGE_LIMIT;
+use memory::slots::slot_diff;
+use memory::slots::slot_interval;
+use memory::slots::slot_length;
+use memory::slots::slot_page;
+use memory::slots::slot_processor;
+use memory::wide;
 
 // Whether all records are in order.
 pub fn records_hold(
     records: &[u8],
-    own: [u8; 8],
+    own: [u8; CLOCK_WIDTH],
     processors: usize,
     pages: usize,
     standing: usize,
 ) -> bool
-    requires { ⌜ (SlotsThere (now records) standing) × (processors ≤ 8) × (pages ≤ 8) × (OwnFit own) ⌝ }
+    requires { ⌜ (SlotsThere (now records) standing) × (processors ≤ processorLimit) × (pages ≤ pageLimit) × (OwnFit own) ⌝ }
     ensures { λ r. ⌜ r ≡ recordsHoldWith own (now (records .entry)) processors pages standing ⌝ }
 {
     if !records_sound(records, own, processors, pages, standing) {
@@ -30,14 +43,14 @@ pub fn records_hold(
 
 // Whether a record's numbers are those of a present processor and page and of an interval that was made.
 fn notice_holds(
-    own: [u8; 8],
+    own: [u8; CLOCK_WIDTH],
     processors: usize,
     pages: usize,
     p: ProcessorId,
     n: IntervalId,
     g: PageId,
 ) -> bool
-    requires { ⌜ processors ≤ 8 ⌝ }
+    requires { ⌜ processors ≤ processorLimit ⌝ }
     ensures { λ r. ⌜ r ≡ noticeHolds own processors pages (p .0) (n .0) (g .0) ⌝ }
 {
     if p.0 == 0 {
@@ -55,48 +68,50 @@ fn notice_holds(
     n.0 <= wide(own[p.0 - 1])
 }
 
-// Whether the diff of the slot at a place fits the slot and is legal.
-fn diff_holds(records: &[u8], at: usize) -> bool
-    requires { ⌜ PlacesThere (now records) at 135 ⌝ }
-    ensures { λ r. ⌜ r ≡ diffHolds (now (records .entry)) at ⌝ }
+// Whether the diff in a slot fits the slot and is legal.
+fn diff_holds(records: &[u8], i: usize) -> bool
+    requires { ⌜ RowThere slotWidth (now records) i ⌝ }
+    ensures { λ r. ⌜ r ≡ diffHolds (now (records .entry)) i ⌝ }
 {
-    let len = wide(records[at + 3]);
-    if 131 < len {
+    if DIFF_LIMIT < slot_length(records, i) {
         return false;
     }
-    let from = at + 4;
-    let end = from + len;
-    check(&records[from..end]) == 0
+    check(slot_diff(records, i)) == 0
 }
 
 // Whether the record in a slot is sound.
-fn record_holds(records: &[u8], own: [u8; 8], processors: usize, pages: usize, i: usize) -> bool
-    requires { ⌜ (SlotThere (now records) i) × (processors ≤ 8) ⌝ }
+fn record_holds(
+    records: &[u8],
+    own: [u8; CLOCK_WIDTH],
+    processors: usize,
+    pages: usize,
+    i: usize,
+) -> bool
+    requires { ⌜ (SlotThere (now records) i) × (processors ≤ processorLimit) ⌝ }
     ensures { λ r. ⌜ r ≡ recordHolds own (now (records .entry)) processors pages i ⌝ }
 {
-    let at = 135 * i;
     if !notice_holds(
         own,
         processors,
         pages,
-        ProcessorId(wide(records[at])),
-        IntervalId(wide(records[at + 1])),
-        PageId(wide(records[at + 2])),
+        slot_processor(records, i),
+        slot_interval(records, i),
+        slot_page(records, i),
     ) {
         return false;
     }
-    diff_holds(records, at)
+    diff_holds(records, i)
 }
 
 // Whether every record that stands is.
 fn records_sound(
     records: &[u8],
-    own: [u8; 8],
+    own: [u8; CLOCK_WIDTH],
     processors: usize,
     pages: usize,
     standing: usize,
 ) -> bool
-    requires { ⌜ (SlotsThere (now records) standing) × (processors ≤ 8) ⌝ }
+    requires { ⌜ (SlotsThere (now records) standing) × (processors ≤ processorLimit) ⌝ }
     ensures { λ r. ⌜ r ≡ every standing (recordHolds own (now (records .entry)) processors pages) ⌝ }
 {
     let mut i: usize = 0;
@@ -110,23 +125,22 @@ fn records_sound(
 }
 
 // A table in which no record is marked.
-fn none_seen() -> [u8; 4608]
-    ensures { λ r. ⌜ Blank 4608 r ⌝ }
+fn none_seen() -> [u8; NOTICE_TABLE]
+    ensures { λ r. ⌜ Blank noticeTable r ⌝ }
 {
-    [0; 4608]
+    [0; NOTICE_TABLE]
 }
 
 // The place of a record's processor, interval and page in such a table.
 fn notice_place(records: &[u8], i: usize) -> usize
     requires { ⌜ (SlotThere (now records) i) × (NoticeFits (now records) i) ⌝ }
     ensures { λ r. ⌜ r ≡ noticePlace (now (records .entry)) i ⌝ }
-    ensures { λ r. ⌜ r < 4608 ⌝ }
+    ensures { λ r. ⌜ r < noticeTable ⌝ }
 {
-    let at = 135 * i;
-    let p = ProcessorId(wide(records[at]));
-    let n = IntervalId(wide(records[at + 1]));
-    let g = PageId(wide(records[at + 2]));
-    512 * p.0 + 8 * n.0 + g.0
+    let p = slot_processor(records, i);
+    let n = slot_interval(records, i);
+    let g = slot_page(records, i);
+    NOTICE_ROW * p.0 + PAGE_LIMIT * n.0 + g.0
 }
 
 // Whether no two records that stand are of one processor, interval and page: each is marked in the table.
@@ -145,10 +159,4 @@ fn records_unlike(records: &[u8], standing: usize) -> bool
         i = i + 1;
     }
     true
-}
-
-fn wide(x: u8) -> usize
-    ensures { λ r. ⌜ (r ≡ x) × (r < 256) ⌝ }
-{
-    x as usize
 }

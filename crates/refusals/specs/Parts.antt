@@ -1,39 +1,43 @@
--- The parts of the table of refusals that the crate's functions answer, in the words of the rules. No row from 3 to 10 looks at words or
--- at slots, so the parts are those of the state that clocks and marks alone show. Assumes nothing.
+-- The parts of the table of refusals that the crate's functions answer, in the words of the rules. No row from 3 to 10 looks at words, at
+-- slots or, but for the own entry, at clocks, so the parts are those of the state that the marks alone show. Assumes nothing.
 use Prim.Native.Nat.{ℕ, _+_, _*_}
-use mathlib.Core.Bool.{Bool, cond, not, _||_}
+use mathlib.Core.Bool.{Bool, cond, not, _&&_, _||_}
 use mathlib.Core.List.{List, []}
-use lib.Dec.{ltb, eqb}
+use lib.Dec.{leb, ltb, eqb}
 use Rattle.rules.specs.State.{mainframe, dirtyAt, State, hasArrived}
 use Rattle.rules.specs.InOrder.{present, dirtyPages}
 use Rattle.rules.specs.Tables.{total}
-use Rattle.rules.specs.Refusals.{stepOf, actionOf, fits, lateRefusal}
+use Rattle.rules.specs.Refusals.{Write, Acquire, Release, usesValue, lateRefusal}
 use Rattle.memory.specs.Areas.{stateIn}
 
--- the state of the mainframe with these clocks and marks, its words and slots left out
-unfoldable pub seen : List ℕ → List ℕ → State
-seen clocks marks = stateIn mainframe clocks [] [] marks
+-- the state of the mainframe with these marks, its clocks, words and slots left out
+unfoldable pub seen : List ℕ → State
+seen marks = stateIn mainframe [] [] [] marks
 
--- 5: whether object and value fit the kind, whatever the processor
+-- of 5: below which number the object of a known kind is
+unfoldable pub boundOf : State → ℕ → ℕ
+boundOf s kind = cond (leb kind 2) (s .counts .pages * mainframe .words) (cond (leb kind 4) (s .counts .locks) 1)
+
+-- 5: whether object and value fit a known kind
 unfoldable pub fieldsFit : State → ℕ → ℕ → ℕ → Bool
-fieldsFit s kind object value = fits mainframe s (stepOf kind 0 object value) (actionOf (stepOf kind 0 object value))
+fieldsFit s kind object value = ltb object (boundOf s kind) && (usesValue kind || eqb value 0)
 
--- of 5: only a write uses its value
-unfoldable pub valueFits : ℕ → ℕ → Bool
-valueFits kind value = eqb kind 2 || eqb value 0
-
--- the rows 7 to 10, by the step's kind; none looks at the value
-unfoldable pub refusalOfKind : State → ℕ → ℕ → ℕ → ℕ
-refusalOfKind s kind processor object = lateRefusal mainframe s processor (actionOf (stepOf kind processor object 0))
+-- the rows 7 to 10, by the step's kind; none looks at the value, and 7 and 8 not at the own entry
+unfoldable pub refusalOfKind : State → ℕ → ℕ → ℕ → ℕ → ℕ
+refusalOfKind s own kind processor object =
+    cond (eqb kind 2) (lateRefusal mainframe s own processor (Write object 0))
+    (cond (eqb kind 3) (lateRefusal mainframe s 0 0 (Acquire object))
+    (cond (eqb kind 4) (lateRefusal mainframe s 0 processor (Release object))
+    0))
 
 -- the rows 5 to 10
-unfoldable pub refusalOfFields : State → ℕ → ℕ → ℕ → ℕ → ℕ
-refusalOfFields s kind processor object value =
-    cond (not (fieldsFit s kind object value)) 5 (cond (hasArrived s processor) 6 (refusalOfKind s kind processor object))
+unfoldable pub refusalOfFields : State → ℕ → ℕ → ℕ → ℕ → ℕ → ℕ
+refusalOfFields s own kind processor object value =
+    cond (not (fieldsFit s kind object value)) 5 (cond (hasArrived s processor) 6 (refusalOfKind s own kind processor object))
 
 -- the rows 4 to 10
-unfoldable pub refusalOfKnown : State → ℕ → ℕ → ℕ → ℕ → ℕ
-refusalOfKnown s kind processor object value = cond (not (present s processor)) 4 (refusalOfFields s kind processor object value)
+unfoldable pub refusalOfKnown : State → ℕ → ℕ → ℕ → ℕ → ℕ → ℕ
+refusalOfKnown s own kind processor object value = cond (not (present s processor)) 4 (refusalOfFields s own kind processor object value)
 
 -- the dirty pages of one processor
 unfoldable pub dirtyPagesOf : State → ℕ → ℕ

@@ -1,64 +1,55 @@
-// The refusals 3 to 10 of a step, in the order of document 01's table, for a state in order that lies in lent memory.
-// Every contract is an equation over the state that the areas hold, with a definition of the rules or of specs/Parts.antt.
+// The refusals 3 to 10 of a step, in the order of document 01's table: from the marks of a state in order and the own entry of the step's
+// processor, and from nothing else. Every contract is an equation over the state that the marks alone show, with a definition of the rules
+// or of specs/Parts.antt.
 ghost use mathlib.Core.Path.{_≡_};
-ghost use mathlib.Core.List.{[]};
-ghost use Prim.Native.Nat.{_≤_, _<_};
-ghost use lib.ListN.{length, getD};
-ghost use Rattle.rules.specs.State.{mainframe, dirtyAt, own, holder, hasArrived};
+ghost use Prim.Native.Nat.{_≤_};
+ghost use Rattle.limits.specs.Limits.{pageLimit};
+ghost use Rattle.limits.specs.Sizes.{copyLimit};
+ghost use Rattle.rules.specs.State.{mainframe};
 ghost use Rattle.rules.specs.InOrder.{present, dirtyPages};
-ghost use Rattle.rules.specs.Refusals.{stepOf, Write, Acquire, Release, lateRefusal, refusalInOrder};
-ghost use Rattle.memory.specs.Areas.{stateIn};
-ghost use Rattle.memory.specs.Needed.{ClocksOf, Ready};
-ghost use Rattle.refusals.specs.Parts.{seen, fieldsFit, valueFits, refusalOfKind, refusalOfFields, refusalOfKnown, dirtyPagesOf, recordsToCome, roomIfAllDirty};
-ghost use Rattle.refusals.specs.Needed.{Shown, ShownKind, Counted, KnownStep, FittingStep, KnownKind, MarkOf, LockThere, PagesOf, PageOf, WriteOf};
+ghost use Rattle.rules.specs.Refusals.{stepOf, Write, Acquire, Release, knownKind, usesValue, lateRefusal, refusalBy};
+ghost use Rattle.memory.specs.Needed.{LockMark};
+ghost use Rattle.refusals.specs.Parts.{seen, boundOf, fieldsFit, refusalOfKind, refusalOfFields, refusalOfKnown, dirtyPagesOf, recordsToCome, roomIfAllDirty};
+ghost use Rattle.refusals.specs.Needed.{Counted, KnownKind, KnownStep, FittingStep, PagesOf, WriteOf};
 use clock::PageId;
 use clock::ProcessorId;
-use memory::clock_at;
-use memory::dirty_place;
+use limits::LAST_INTERVAL;
+use limits::PAGE_WIDTH;
+use limits::RECORD_LIMIT;
+use memory::marks::has_arrived;
+use memory::marks::holder_of;
+use memory::marks::is_dirty;
+use memory::marks::lock_count;
+use memory::marks::page_count;
+use memory::marks::processor_count;
+use memory::marks::standing_count;
 
-// The number of the first row from 3 to 10 that refuses a step, or 0. Words and records are lent with the rest of the state and not looked at.
-pub fn refusal(
-    kind: u32,
-    processor: u32,
-    object: u32,
-    value: u32,
-    clocks: &[u8],
-    words: &[u32],
-    records: &[u8],
-    marks: &[u8],
-) -> u8
-    requires { ⌜ Ready (now clocks) (now words) (now records) (now marks) ⌝ }
-    ensures { λ r. ⌜ r ≡ refusalInOrder mainframe (stateIn mainframe (now (clocks .entry)) (now (words .entry)) (now (records .entry)) (now (marks .entry))) (stepOf kind processor object value) ⌝ }
+// The number of the first row from 3 to 10 that refuses a step, or 0: row 3, then the others.
+pub fn refusal(kind: u32, processor: u32, object: u32, value: u32, own: u8, marks: &[u8]) -> u8
+    requires { ⌜ Counted (now marks) ⌝ }
+    ensures { λ r. ⌜ r ≡ refusalBy mainframe (seen (now (marks .entry))) own (stepOf kind processor object value) ⌝ }
 {
-    refusal_of_step(
+    if !is_known(kind) {
+        return 3;
+    }
+    refusal_of_known(
         kind,
         ProcessorId(processor as usize),
         object as usize,
         value,
-        clocks,
+        own,
         marks,
     )
 }
 
-// The same from clocks and marks alone: row 3, then the others.
-fn refusal_of_step(
-    kind: u32,
-    processor: ProcessorId,
-    object: usize,
-    value: u32,
-    clocks: &[u8],
-    marks: &[u8],
-) -> u8
-    requires { ⌜ Shown (now clocks) (now marks) ⌝ }
-    ensures { λ r. ⌜ r ≡ refusalInOrder mainframe (seen (now (clocks .entry)) (now (marks .entry))) (stepOf kind (processor .0) object value) ⌝ }
+// Row 3: whether a kind is known.
+fn is_known(kind: u32) -> bool
+    ensures { λ r. ⌜ r ≡ knownKind kind ⌝ }
 {
     if kind == 0 {
-        return 3;
+        return false;
     }
-    if 6 < kind {
-        return 3;
-    }
-    refusal_of_known(kind, processor, object, value, clocks, marks)
+    kind <= 6
 }
 
 // Rows 4 to 10, for a known kind.
@@ -67,27 +58,27 @@ fn refusal_of_known(
     processor: ProcessorId,
     object: usize,
     value: u32,
-    clocks: &[u8],
+    own: u8,
     marks: &[u8],
 ) -> u8
-    requires { ⌜ ShownKind (now clocks) (now marks) kind ⌝ }
-    ensures { λ r. ⌜ r ≡ refusalOfKnown (seen (now (clocks .entry)) (now (marks .entry))) kind (processor .0) object value ⌝ }
+    requires { ⌜ KnownKind (now marks) kind ⌝ }
+    ensures { λ r. ⌜ r ≡ refusalOfKnown (seen (now (marks .entry))) own kind (processor .0) object value ⌝ }
 {
     if !is_present(processor, marks) {
         return 4;
     }
-    refusal_of_fields(kind, processor, object, value, clocks, marks)
+    refusal_of_fields(kind, processor, object, value, own, marks)
 }
 
 // Row 4: whether a processor is one of those that the opening gave.
 fn is_present(processor: ProcessorId, marks: &[u8]) -> bool
     requires { ⌜ Counted (now marks) ⌝ }
-    ensures { λ r. ⌜ r ≡ present (seen [] (now (marks .entry))) (processor .0) ⌝ }
+    ensures { λ r. ⌜ r ≡ present (seen (now (marks .entry))) (processor .0) ⌝ }
 {
     if processor.0 == 0 {
         return false;
     }
-    processor.0 <= mark(marks, 0)
+    processor.0 <= processor_count(marks)
 }
 
 // Rows 5 to 10, for a known kind and a present processor.
@@ -96,77 +87,63 @@ fn refusal_of_fields(
     processor: ProcessorId,
     object: usize,
     value: u32,
-    clocks: &[u8],
+    own: u8,
     marks: &[u8],
 ) -> u8
-    requires { ⌜ KnownStep (now clocks) (now marks) kind (processor .0) ⌝ }
-    ensures { λ r. ⌜ r ≡ refusalOfFields (seen (now (clocks .entry)) (now (marks .entry))) kind (processor .0) object value ⌝ }
+    requires { ⌜ KnownStep (now marks) kind (processor .0) ⌝ }
+    ensures { λ r. ⌜ r ≡ refusalOfFields (seen (now (marks .entry))) own kind (processor .0) object value ⌝ }
 {
     if !fields_fit(kind, object, value, marks) {
         return 5;
     }
-    if has_arrived(processor, marks) {
+    if has_arrived(marks, processor) {
         return 6;
     }
-    refusal_of_kind(kind, processor, object, clocks, marks)
+    refusal_of_kind(kind, processor, object, own, marks)
 }
 
-// Row 5: whether the word or lock is there and the fields that the kind does not use are 0.
+// Row 5: whether the object is below the bound of the kind, and the value is 0 unless the kind uses it.
 fn fields_fit(kind: u32, object: usize, value: u32, marks: &[u8]) -> bool
     requires { ⌜ KnownKind (now marks) kind ⌝ }
-    ensures { λ r. ⌜ r ≡ fieldsFit (seen [] (now (marks .entry))) kind object value ⌝ }
+    ensures { λ r. ⌜ r ≡ fieldsFit (seen (now (marks .entry))) kind object value ⌝ }
 {
-    if !value_fits(kind, value) {
+    if object_bound(kind, marks) <= object {
         return false;
     }
-    object_fits(kind, object, marks)
-}
-
-// Of row 5: whether the value is 0 unless the kind is a write.
-fn value_fits(kind: u32, value: u32) -> bool
-    ensures { λ r. ⌜ r ≡ valueFits kind value ⌝ }
-{
-    if kind == 2 {
+    if uses_value(kind) {
         return true;
     }
     value == 0
 }
 
-// Of row 5: whether the word of a read or write, or the lock of an acquire or release, is there; for the other kinds, whether it is 0.
-fn object_fits(kind: u32, object: usize, marks: &[u8]) -> bool
+// Of row 5: the words for a read or write, the locks for an acquire or release, and 1 where no object is used.
+fn object_bound(kind: u32, marks: &[u8]) -> usize
     requires { ⌜ KnownKind (now marks) kind ⌝ }
-    ensures { λ r. ⌜ r ≡ fieldsFit (seen [] (now (marks .entry))) kind object 0 ⌝ }
+    ensures { λ r. ⌜ r ≡ boundOf (seen (now (marks .entry))) kind ⌝ }
 {
     if kind <= 2 {
-        return object < mark(marks, 1) * 32;
+        return page_count(marks) * PAGE_WIDTH;
     }
     if kind <= 4 {
-        return object < mark(marks, 2);
+        return lock_count(marks);
     }
-    object == 0
+    1
 }
 
-// Row 6: whether a processor has arrived in the open round.
-fn has_arrived(processor: ProcessorId, marks: &[u8]) -> bool
-    requires { ⌜ MarkOf (now marks) (processor .0) ⌝ }
-    ensures { λ r. ⌜ r ≡ hasArrived (seen [] (now (marks .entry))) (processor .0) ⌝ }
+// Of row 5: whether a kind uses its value.
+fn uses_value(kind: u32) -> bool
+    ensures { λ r. ⌜ r ≡ usesValue kind ⌝ }
 {
-    mark(marks, 4 + processor.0) != 0
+    kind == 2
 }
 
 // Rows 7 to 10, each for its kind.
-fn refusal_of_kind(
-    kind: u32,
-    processor: ProcessorId,
-    object: usize,
-    clocks: &[u8],
-    marks: &[u8],
-) -> u8
-    requires { ⌜ FittingStep (now clocks) (now marks) kind (processor .0) object ⌝ }
-    ensures { λ r. ⌜ r ≡ refusalOfKind (seen (now (clocks .entry)) (now (marks .entry))) kind (processor .0) object ⌝ }
+fn refusal_of_kind(kind: u32, processor: ProcessorId, object: usize, own: u8, marks: &[u8]) -> u8
+    requires { ⌜ FittingStep (now marks) kind (processor .0) object ⌝ }
+    ensures { λ r. ⌜ r ≡ refusalOfKind (seen (now (marks .entry))) own kind (processor .0) object ⌝ }
 {
     if kind == 2 {
-        return refusal_of_write(processor, object, clocks, marks);
+        return refusal_of_write(processor, object, own, marks);
     }
     if kind == 3 {
         return refusal_of_acquire(object, marks);
@@ -179,10 +156,10 @@ fn refusal_of_kind(
 
 // Row 7: the lock is held, by this processor or another.
 fn refusal_of_acquire(lock: usize, marks: &[u8]) -> u8
-    requires { ⌜ LockThere (now marks) lock ⌝ }
-    ensures { λ r. ⌜ r ≡ lateRefusal mainframe (seen [] (now (marks .entry))) 0 (Acquire lock) ⌝ }
+    requires { ⌜ LockMark (now marks) lock ⌝ }
+    ensures { λ r. ⌜ r ≡ lateRefusal mainframe (seen (now (marks .entry))) 0 0 (Acquire lock) ⌝ }
 {
-    let holder = holder_of(lock, marks);
+    let holder = holder_of(marks, lock);
     if holder.0 == 0 {
         return 0;
     }
@@ -191,76 +168,59 @@ fn refusal_of_acquire(lock: usize, marks: &[u8]) -> u8
 
 // Row 8: this processor is not the holder.
 fn refusal_of_release(processor: ProcessorId, lock: usize, marks: &[u8]) -> u8
-    requires { ⌜ LockThere (now marks) lock ⌝ }
-    ensures { λ r. ⌜ r ≡ lateRefusal mainframe (seen [] (now (marks .entry))) (processor .0) (Release lock) ⌝ }
+    requires { ⌜ LockMark (now marks) lock ⌝ }
+    ensures { λ r. ⌜ r ≡ lateRefusal mainframe (seen (now (marks .entry))) 0 (processor .0) (Release lock) ⌝ }
 {
-    let holder = holder_of(lock, marks);
+    let holder = holder_of(marks, lock);
     if holder.0 == processor.0 {
         return 0;
     }
     8
 }
 
-// The holder of a lock; 0 is nobody.
-fn holder_of(lock: usize, marks: &[u8]) -> ProcessorId
-    requires { ⌜ LockThere (now marks) lock ⌝ }
-    ensures { λ r. ⌜ r .0 ≡ holder (seen [] (now (marks .entry))) lock ⌝ }
-{
-    ProcessorId(mark(marks, 13 + lock))
-}
-
 // Rows 9 and 10, for a clean page: no interval is left, or no room for one record more.
-fn refusal_of_write(processor: ProcessorId, word: usize, clocks: &[u8], marks: &[u8]) -> u8
-    requires { ⌜ WriteOf (now clocks) (now marks) (processor .0) word ⌝ }
-    ensures { λ r. ⌜ r ≡ lateRefusal mainframe (seen (now (clocks .entry)) (now (marks .entry))) (processor .0) (Write word 0) ⌝ }
+fn refusal_of_write(processor: ProcessorId, word: usize, own: u8, marks: &[u8]) -> u8
+    requires { ⌜ WriteOf (now marks) (processor .0) word ⌝ }
+    ensures { λ r. ⌜ r ≡ lateRefusal mainframe (seen (now (marks .entry))) own (processor .0) (Write word 0) ⌝ }
 {
-    if is_dirty(processor, PageId(word / 32), marks) {
+    if is_dirty(marks, processor, PageId(word / PAGE_WIDTH)) {
         return 0;
     }
-    if own_entry(processor, clocks) == 63 {
+    if own == LAST_INTERVAL {
         return 9;
     }
     if room_if_all_dirty(marks) {
         return 0;
     }
-    if records_to_come(marks) == 128 {
+    if records_to_come(marks) == RECORD_LIMIT {
         return 10;
     }
     0
 }
 
-// The entry of a processor for itself in its clock.
-fn own_entry(processor: ProcessorId, clocks: &[u8]) -> u8
-    requires { ⌜ ClocksOf (now clocks) (processor .0) ⌝ }
-    ensures { λ r. ⌜ r ≡ own (seen (now (clocks .entry)) []) (processor .0) ⌝ }
-{
-    let clock = clock_at(clocks, processor.0);
-    clock.entry(processor)
-}
-
 // Whether one record more has room whatever is dirty. Three marks say so, and mostly it is so: then no dirty page is counted.
 fn room_if_all_dirty(marks: &[u8]) -> bool
     requires { ⌜ Counted (now marks) ⌝ }
-    ensures { λ r. ⌜ r ≡ roomIfAllDirty (seen [] (now (marks .entry))) ⌝ }
+    ensures { λ r. ⌜ r ≡ roomIfAllDirty (seen (now (marks .entry))) ⌝ }
 {
-    mark(marks, 3) + mark(marks, 0) * mark(marks, 1) < 128
+    standing_count(marks) + processor_count(marks) * page_count(marks) < RECORD_LIMIT
 }
 
 // The records that stand and those that closing may make: one for each dirty page.
 fn records_to_come(marks: &[u8]) -> usize
     requires { ⌜ Counted (now marks) ⌝ }
-    ensures { λ r. ⌜ r ≡ recordsToCome (seen [] (now (marks .entry))) ⌝ }
+    ensures { λ r. ⌜ r ≡ recordsToCome (seen (now (marks .entry))) ⌝ }
 {
-    mark(marks, 3) + dirty_pages(marks)
+    standing_count(marks) + dirty_pages(marks)
 }
 
 // The dirty pages of all processors.
 fn dirty_pages(marks: &[u8]) -> usize
     requires { ⌜ Counted (now marks) ⌝ }
-    ensures { λ r. ⌜ r ≡ dirtyPages (seen [] (now (marks .entry))) ⌝ }
-    ensures { λ r. ⌜ r ≤ 64 ⌝ }
+    ensures { λ r. ⌜ r ≡ dirtyPages (seen (now (marks .entry))) ⌝ }
+    ensures { λ r. ⌜ r ≤ copyLimit ⌝ }
 {
-    let processors = mark(marks, 0);
+    let processors = processor_count(marks);
     let mut sum: usize = 0;
     let mut k: usize = 0;
     while k < processors {
@@ -273,14 +233,14 @@ fn dirty_pages(marks: &[u8]) -> usize
 // The dirty pages of one processor.
 fn dirty_pages_of(processor: ProcessorId, marks: &[u8]) -> usize
     requires { ⌜ PagesOf (now marks) (processor .0) ⌝ }
-    ensures { λ r. ⌜ r ≡ dirtyPagesOf (seen [] (now (marks .entry))) (processor .0) ⌝ }
-    ensures { λ r. ⌜ r ≤ 8 ⌝ }
+    ensures { λ r. ⌜ r ≡ dirtyPagesOf (seen (now (marks .entry))) (processor .0) ⌝ }
+    ensures { λ r. ⌜ r ≤ pageLimit ⌝ }
 {
-    let pages = mark(marks, 1);
+    let pages = page_count(marks);
     let mut sum: usize = 0;
     let mut g: usize = 0;
     while g < pages {
-        if is_dirty(processor, PageId(g), marks) {
+        if is_dirty(marks, processor, PageId(g)) {
             sum = sum + 1;
             g = g + 1;
         } else {
@@ -288,28 +248,4 @@ fn dirty_pages_of(processor: ProcessorId, marks: &[u8]) -> usize
         }
     }
     sum
-}
-
-// Whether a processor's copy of a page is dirty.
-fn is_dirty(processor: ProcessorId, page: PageId, marks: &[u8]) -> bool
-    requires { ⌜ PageOf (now marks) (processor .0) (page .0) ⌝ }
-    ensures { λ r. ⌜ r ≡ dirtyAt (seen [] (now (marks .entry)) .pages) (processor .0) (page .0) ⌝ }
-{
-    mark(marks, dirty_place(processor, page)) != 0
-}
-
-// The mark at a place, as a number.
-fn mark(marks: &[u8], at: usize) -> usize
-    requires { ⌜ at < length (now marks) ⌝ }
-    ensures { λ r. ⌜ r ≡ getD (now (marks .entry)) at 0 ⌝ }
-    ensures { λ r. ⌜ r < 256 ⌝ }
-{
-    wide(marks[at])
-}
-
-// A byte as a number.
-fn wide(x: u8) -> usize
-    ensures { λ r. ⌜ (r ≡ x) × (r < 256) ⌝ }
-{
-    x as usize
 }

@@ -119,8 +119,8 @@ kind-value w k x v h = go (ℕ-discrete k 2)
 
 -- ---- the events
 
--- a read and a write are no acquire
-isAcquire : Action → Bool
+-- whether an action is an acquire
+unfoldable pub isAcquire : Action → Bool
 isAcquire (Read x) = false
 isAcquire (Write x v) = false
 isAcquire (Acquire l) = true
@@ -129,6 +129,7 @@ isAcquire Arrive = false
 isAcquire Want = false
 isAcquire Unknown = false
 
+-- a read and a write are none
 pub write-no-acquire : (x v l : ℕ) → Write x v ≡ Acquire l → ⊥
 unfolding isAcquire
 write-no-acquire x v l e = false≢true (ap isAcquire e)

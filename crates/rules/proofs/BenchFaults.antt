@@ -1,8 +1,9 @@
 -- Runs, computed, each of which answers otherwise under one fault of the rules: document 01, "Faults that pass on a two-card bench" and
 -- line 3 of "Four lines every contract here is held to". Assumes nothing.
-use Prim.Native.Nat.{ℕ}
+use Prim.Native.Nat.{ℕ, _-_}
 use mathlib.Core.Path.{_≡_, refl}
 use mathlib.Core.List.{List, [], _∷_}
+use Rattle.limits.specs.Limits.{processorLimit}
 use Rattle.clock.specs.Clocks.{zeros}
 use Rattle.rules.specs.State.{Limits, mainframe, Interval, clockOf, State, clock}
 use Rattle.rules.specs.Opening.{opened}
@@ -28,7 +29,7 @@ pub computed-C : answersInOrder mainframe (start 3 1 2) stepsC
 unfolding start stepsC
 computed-C = refl
 
-pub computed-clock-of-3 : clock (stateInOrder mainframe (start 3 1 2) stepsC) 3 ≡ 1 ∷ 0 ∷ 0 ∷ zeros 5
+pub computed-clock-of-3 : clock (stateInOrder mainframe (start 3 1 2) stepsC) 3 ≡ 1 ∷ 0 ∷ 0 ∷ zeros (processorLimit - 3)
 unfolding start stepsC
 computed-clock-of-3 = refl
 
@@ -99,7 +100,7 @@ storeThenAcquire =
     acquires 2 0 ∷ writes 2 0 5 ∷ releases 2 0 ∷ writes 1 0 6 ∷ acquires 1 0 ∷ releases 1 0 ∷ acquires 3 0 ∷ reads 3 0 ∷ []
 
 -- 1's interval closes when 1 takes the lock, before 1 learns of 2's: its clock is 1, 0, 0, for its store had not seen 2's
-pub closed-before-learning : clockOf (stateInOrder mainframe (start 3 1 1) storeThenAcquire .clocks) (Interval 1 1) ≡ 1 ∷ 0 ∷ 0 ∷ zeros 5
+pub closed-before-learning : clockOf (stateInOrder mainframe (start 3 1 1) storeThenAcquire .clocks) (Interval 1 1) ≡ 1 ∷ 0 ∷ 0 ∷ zeros (processorLimit - 3)
 unfolding start storeThenAcquire
 closed-before-learning = refl
 

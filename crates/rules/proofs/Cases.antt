@@ -1,10 +1,11 @@
 -- Document 01, "Bench cases (starred ones proved)": one table, a field for each starred case, and the theorem that they all hold of the rules.
 -- Assumes nothing.
-use Prim.Native.Nat.{ℕ}
+use Prim.Native.Nat.{ℕ, _-_}
 use mathlib.Core.Path.{_≡_, refl, ap, _∙_}
 use mathlib.Core.Bool.{Bool, true, false}
 use mathlib.Core.List.{List, [], _∷_, _++_}
 use lib.ListN.{length}
+use Rattle.limits.specs.Limits.{processorLimit}
 use Rattle.clock.specs.Clocks.{zeros}
 use Rattle.diff.specs.Format.{written}
 use Rattle.diff.specs.Reading.{readRefusal}
@@ -32,7 +33,7 @@ stepsF = acquires 1 0 ∷ writes 1 0 0 ∷ releases 1 0 ∷ []
 pub record CaseC : Type 0 where
   pub answered : answers mainframe (start 3 1 2) stepsC
       ≡ accepted ∷ accepted ∷ accepted ∷ accepted ∷ accepted ∷ accepted ∷ accepted ∷ accepted ∷ answering 0 5 1 ∷ []
-  pub clock-of-3 : clock (stateAfter mainframe (start 3 1 2) stepsC) 3 ≡ 1 ∷ 0 ∷ 0 ∷ zeros 5
+  pub clock-of-3 : clock (stateAfter mainframe (start 3 1 2) stepsC) 3 ≡ 1 ∷ 0 ∷ 0 ∷ zeros (processorLimit - 3)
 
 -- "F: storing 0 over 0 and releasing makes no interval": from the opening, and in any state where the processor's pages are clean and it
 -- would read 0 in the word

@@ -12,7 +12,7 @@ use Rattle.diff.specs.Format.{wordBytes, wordsBytes, written}
 use Rattle.diff.specs.Reading.{wordAt, wordsAt}
 use Rattle.diff.proofs.Words.{words-read, below-cons}
 use Rattle.rules.specs.Tables.{any}
-use Rattle.rules.specs.State.{mainframe, Clocks, copyOf, twinOf, dirtyAt, Records, appended, State, own}
+use Rattle.rules.specs.State.{mainframe, Clocks, copyOf, twinOf, dirtyAt, Records, appended, State, withClocks, withPages, withRecords, own}
 use Rattle.rules.specs.Close.{differ, changed, anyChanged, ticked, newRecord, recorded, cleaned, closed}
 use Rattle.rules.specs.Steps.{acquire, release, atBarrier, arrive}
 use Rattle.rules.specs.Refusals.{Step, Action, Read, Write, Acquire, Release, Arrive, Want, Unknown, actionOf, fits, refusalInOrder, effect, answerInOrder, nextInOrder}
@@ -64,13 +64,8 @@ onePage twin copy = record { pages = 1; dirty = true; twin = twin; copy = copy }
 -- a state of one page after processor p's close, where word k has changed to x
 unfoldable pub closedWith : State → ℕ → ℕ → ℕ → State
 closedWith s p k x =
-    record {
-      counts = s .counts;
-      clocks = ticked s p;
-      pages = cleaned (s .pages) p;
-      records = appended (s .records) (record { processor = p; interval = own s p + 1; page = 0; diff = 1 ∷ k ∷ 1 ∷ wordBytes x });
-      marks = s .marks;
-    }
+    let s₁ = withClocks (withPages s (cleaned (s .pages) p)) (ticked s p) in
+    withRecords s₁ (appended (s .records) (record { processor = p; interval = own s p + 1; page = 0; diff = 1 ∷ k ∷ 1 ∷ wordBytes x }))
 
 close-of-one-word : (s : State) (p k x : ℕ) (twin copy : List ℕ) → found s p ≡ onePage twin copy → OneWord twin copy k x → closed s p ≡ closedWith s p k x
 unfolding closed closedWith recorded newRecord anyChanged any found changed
@@ -78,7 +73,7 @@ close-of-one-word s p k x twin copy f h =
     let one : s .counts .pages ≡ 1 = ap (λ (y : Found). y .pages) f in
     let test : changed s p 0 ≡ true = ap (λ (y : Found). y .dirty && differ (y .twin) (y .copy)) f ∙ h .differs in
     let bytes : written (twinOf (s .pages) p 0) (copyOf (s .pages) p 0) ≡ 1 ∷ k ∷ 1 ∷ wordBytes x = ap (λ (y : Found). written (y .twin) (y .copy)) f ∙ h .diff in
-    ap₂ (λ (c : Clocks) (r : Records). record { counts = s .counts; clocks = c; pages = cleaned (s .pages) p; records = r; marks = s .marks })
+    ap₂ (λ (c : Clocks) (r : Records). withRecords (withClocks (withPages s (cleaned (s .pages) p)) c) r)
     (ap (λ (n : ℕ). cond (any n (changed s p)) (ticked s p) (s .clocks)) one ∙ ap (λ (b : Bool). cond b (ticked s p) (s .clocks)) test)
     (ap (recorded s p) one
     ∙ ap₂ (λ (b : Bool) (d : List ℕ). cond b (appended (s .records) (record { processor = p; interval = own s p + 1; page = 0; diff = d })) (s .records)) test bytes)

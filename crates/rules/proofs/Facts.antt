@@ -6,6 +6,7 @@ use mathlib.Core.Bool.{true, false, not}
 use mathlib.Core.Logic.{_⊎_}
 use mathlib.Core.List.{[]}
 use lib.ListN.{length, getD}
+use Rattle.limits.specs.Limits.{slotHead}
 use Rattle.clock.specs.Clocks.{entryOf}
 use Rattle.diff.specs.Reading.{readRefusal}
 use Rattle.rules.specs.State.{Limits, Holder, Processor, Lock, Barrier, Applied, Interval, clockOf, copyOf, twinOf, dirtyAt, State, clock, own, holder, hasArrived}
@@ -56,7 +57,7 @@ pub record RecordSound (lim : Limits) (s : State) (i : ℕ) : Type 0 where
   pub page : recordAt s i .page < s .counts .pages
   pub some-interval : 1 ≤ recordAt s i .interval
   pub made-interval : recordAt s i .interval ≤ own s (recordAt s i .processor)
-  pub fits : 4 + getD (getD (s .records .slots) i []) 3 0 ≤ slotSize lim
+  pub fits : slotHead + getD (getD (s .records .slots) i []) 3 0 ≤ slotSize lim
   pub legal : readRefusal (lim .words) (recordAt s i .diff) ≡ 0
 
 pub record InOrder (lim : Limits) (s : State) : Type 0 where

@@ -31,6 +31,10 @@ noGhost = record { writes = 0; last = 0; base = 0; writer = 0; known = λ h. 0 }
 unfoldable pub withNumber : (Holder → ℕ) → Holder → ℕ → Holder → ℕ
 withNumber f h n k = cond (sameHolder h k) n (f k)
 
+-- the numbers once `to` has learned what `from` knows
+abbrev pub learnedNumbers : (Holder → ℕ) → Holder → Holder → Holder → ℕ
+learnedNumbers f to from = withNumber f to (max (f to) (f from))
+
 -- after a completed round each processor knows what the barrier knew, and the barrier knows nothing
 unfoldable pub roundNumbers : (Holder → ℕ) → Holder → ℕ
 roundNumbers f (Processor p) = max (f (Processor p)) (f Barrier)
@@ -55,7 +59,7 @@ unfoldable pub closedGhost : Ghost → ℕ → Ghost
 closedGhost γ p = record { writes = γ .writes; last = γ .last; base = γ .base; writer = writerClosed γ p; known = γ .known }
 
 unfoldable pub arrivedNumbers : Ghost → ℕ → Holder → ℕ
-arrivedNumbers γ p = withNumber (γ .known) Barrier (max (γ .known Barrier) (γ .known (Processor p)))
+arrivedNumbers γ p = learnedNumbers (γ .known) Barrier (Processor p)
 
 -- what an accepted step of processor p, taken in the state s, does to the counts for the word w
 unfoldable pub ghostAfter : ℕ → State → ℕ → Action → Ghost → Ghost
@@ -69,13 +73,7 @@ ghostAfter w s p (Write x v) γ =
       known = cond (eqb x w) (withNumber (γ .known) (Processor p) (γ .writes + 1)) (γ .known);
     }
 ghostAfter w s p (Acquire l) γ =
-    record {
-      writes = γ .writes;
-      last = γ .last;
-      base = γ .base;
-      writer = writerClosed γ p;
-      known = withNumber (γ .known) (Processor p) (max (γ .known (Processor p)) (γ .known (Lock l)));
-    }
+    record { writes = γ .writes; last = γ .last; base = γ .base; writer = writerClosed γ p; known = learnedNumbers (γ .known) (Processor p) (Lock l) }
 ghostAfter w s p (Release l) γ =
     record { writes = γ .writes; last = γ .last; base = γ .base; writer = writerClosed γ p; known = withNumber (γ .known) (Lock l) (γ .known (Processor p)) }
 ghostAfter w s p Arrive γ =

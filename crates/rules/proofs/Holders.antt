@@ -1,5 +1,5 @@
--- Laws of clock holders: what clock each holder has after one of them changed, after an entry was raised and after all were cleared. Rests
--- on Tables. Assumes nothing.
+-- Laws of clock holders: which of them carry news, what clock each holder has after one of them changed, after an entry was raised and
+-- after all were cleared. Rests on Tables. Assumes nothing.
 use Prim.Native.Nat.{ℕ, zero, suc, _+_, _≤_, _<_}
 use native.Mathlib.Omega.{arith}
 use mathlib.Core.Path.{_≡_, refl, sym, ap, ap₂, _∙_}
@@ -10,7 +10,7 @@ use lib.Dec.{eqb}
 use borrow.Author.Tests.{eqb-true, eq-eqb}
 use Rattle.clock.specs.Clocks.{entryOf, sumOf}
 use Rattle.rules.specs.Tables.{put}
-use Rattle.rules.specs.State.{Holder, Processor, Lock, Barrier, Applied, Interval, Clocks, clockOf, withClock, cleared}
+use Rattle.rules.specs.State.{Counts, Holder, Processor, Lock, Barrier, Applied, Interval, Clocks, clockOf, withClock, cleared}
 use Rattle.rules.specs.Close.{raised}
 use Rattle.rules.specs.Steps.{allCleared}
 use Rattle.rules.proofs.Tables.{get-put-same, get-put-other, get-put, length-put-within, cell-put, get-map}
@@ -80,6 +80,13 @@ same-holder (Interval p₁ i₁) Barrier e = absurd (false≢true e)
 same-holder (Interval p₁ i₁) (Applied p₂ g₂) e = absurd (false≢true e)
 same-holder (Interval p₁ i₁) (Interval p₂ i₂) e = let t = and-eq-true-iff (eqb p₂ p₁) (eqb i₂ i₁) .0 e in ap₂ Interval (sym (eqb-true p₂ p₁ (t .0))) (sym (eqb-true i₂ i₁ (t .1)))
 
+pub other-holder : (h k : Holder) → (h ≡ k → ⊥) → sameHolder h k ≡ false
+other-holder h k d = go (sameHolder h k) refl
+  where
+    go : (b : Bool) → sameHolder h k ≡ b → b ≡ false
+    go true e = absurd (d (same-holder h k e))
+    go false e = refl
+
 -- ---- one clock replaced
 
 pub clock-of-with : (c : Clocks) (h : Holder) (v : List ℕ) (k : Holder) → clockOf (withClock c h v) k ≡ cond (sameHolder h k) v (clockOf c k)
@@ -115,6 +122,41 @@ clock-of-with-same c h v = clock-of-with c h v h ∙ ap (λ (b : Bool). cond b v
 
 pub clock-of-with-other : (c : Clocks) (h : Holder) (v : List ℕ) (k : Holder) → sameHolder h k ≡ false → clockOf (withClock c h v) k ≡ clockOf c k
 clock-of-with-other c h v k e = clock-of-with c h v k ∙ ap (λ (b : Bool). cond b v (clockOf c k)) e
+
+-- ---- the holders whose clocks carry news
+
+-- present processors and locks, and the barrier
+unfoldable pub Knows : Counts → Holder → Type 0
+Knows n (Processor p) = (1 ≤ p) × (p ≤ n .processors)
+Knows n (Lock l) = l < n .locks
+Knows n Barrier = Unit
+Knows n (Applied p g) = ⊥
+Knows n (Interval p i) = ⊥
+
+-- none of them is an applied clock
+pub knows-no-applied : (n : Counts) (h : Holder) (p g : ℕ) → Knows n h → h ≡ Applied p g → ⊥
+unfolding Knows
+knows-no-applied n h p g k e = rw e at k
+
+-- nor an interval's
+pub knows-no-interval : (n : Counts) (h : Holder) (p i : ℕ) → Knows n h → h ≡ Interval p i → ⊥
+unfolding Knows
+knows-no-interval n h p i k e = rw e at k
+
+-- a carrier: one of them that is no processor
+pub record Carrier (n : Counts) (h : Holder) : Type 0 where
+  pub knows : Knows n h
+  pub no-processor : (q : ℕ) → sameHolder h (Processor q) ≡ false
+
+-- a present lock is one
+pub lock-carries : (n : Counts) (l : ℕ) → l < n .locks → Carrier n (Lock l)
+unfolding Knows sameHolder
+lock-carries n l h = record { knows = h; no-processor = λ q. refl }
+
+-- and the barrier
+pub barrier-carries : (n : Counts) → Carrier n Barrier
+unfolding Knows sameHolder
+barrier-carries n = record { knows = tt; no-processor = λ q. refl }
 
 -- ---- one entry raised
 

@@ -9,6 +9,7 @@ use mathlib.Core.List.{List, []}
 use lib.ListN.{getD}
 use lib.Dec.{leb, ltb, eqb}
 use borrow.Author.Tests.{ltb-true, leb-true, eqb-true, not-true, lt-leb}
+use Rattle.limits.specs.Limits.{slotHead}
 use Rattle.clock.specs.Clocks.{entryOf}
 use Rattle.diff.specs.Reading.{readRefusal}
 use Rattle.rules.specs.Tables.{every}
@@ -149,7 +150,7 @@ module _ (lim : Limits) (s : State) where
   record-sound-says i e d = go (λ k. conjoined-at (recordTests s (recordAt s i)) k (sym (record-tests lim s (recordAt s i)) ∙ e))
     where
       fitting : Bool
-      fitting = leb (4 + getD (getD (s .records .slots) i []) 3 0) (slotSize lim)
+      fitting = leb (slotHead + getD (getD (s .records .slots) i []) 3 0) (slotSize lim)
 
       legal : Bool
       legal = eqb (readRefusal (lim .words) (recordAt s i .diff)) 0

@@ -7,6 +7,7 @@ use mathlib.Core.List.{[]}
 use lib.ListN.{getD}
 use lib.Dec.{leb, eqb}
 use borrow.Author.Tests.{leb-false, not-false, lt-ltb, le-leb, eq-eqb}
+use Rattle.limits.specs.Limits.{slotHead}
 use Rattle.clock.specs.Clocks.{entryOf}
 use Rattle.diff.specs.Reading.{readRefusal}
 use Rattle.rules.specs.Tables.{every}
@@ -100,7 +101,7 @@ module _ (lim : Limits) (s : State) (o : InOrder lim s) where
   diff-legal-when : (i : ℕ) → RecordSound lim s i → diffLegal lim s i ≡ true
   unfolding diffLegal
   diff-legal-when i r =
-      and-both (leb (4 + getD (getD (s .records .slots) i []) 3 0) (slotSize lim)) (eqb (readRefusal (lim .words) (recordAt s i .diff)) 0)
+      and-both (leb (slotHead + getD (getD (s .records .slots) i []) 3 0) (slotSize lim)) (eqb (readRefusal (lim .words) (recordAt s i .diff)) 0)
       (le-leb _ _ (r .fits)) (eq-eqb _ _ (r .legal))
 
   records-sound-when : recordsSound lim s ≡ true

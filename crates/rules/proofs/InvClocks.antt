@@ -9,12 +9,12 @@ use mathlib.Core.List.{List}
 use lib.ListN.{length}
 use Rattle.clock.specs.Clocks.{joined, entryOf, sumOf}
 use Rattle.clock.proofs.Laws.{join-covers-left, join-covers-right, entryOf-joined, sum-covered}
-use Rattle.rules.specs.State.{Counts, Holder, Processor, Lock, Barrier, Applied, Interval, Clocks, clockOf, withClock, cleared, Record}
+use Rattle.rules.specs.State.{Counts, Holder, Processor, Applied, Interval, Clocks, clockOf, withClock, cleared, Record}
 use Rattle.rules.specs.Fetch.{sumAt}
-use Rattle.rules.proofs.Holders.{sameHolder, same-holder-refl, same-holder, clock-of-with, clock-of-with-other, entry-cleared}
+use Rattle.rules.proofs.Holders.{sameHolder, other-holder, clock-of-with, clock-of-with-other, Knows, knows-no-applied, knows-no-interval, entry-cleared}
 use Rattle.rules.proofs.Ghosts.{withNumber}
 use Rattle.rules.proofs.WordOfRecords.{nth, HitAt}
-use Rattle.rules.proofs.Invariant.{Knows, Covered, Informed, ClockInv}
+use Rattle.rules.proofs.Invariant.{Covered, Informed, ClockInv}
 
 module _ (words g o : ℕ) where
   -- ---- what each kind of move makes of clocks that are informed
@@ -70,21 +70,14 @@ module _ (words g o : ℕ) where
 
   -- the sums of the intervals' clocks do not change
   pub sum-at-with : (n : Counts) (c : Clocks) (h : Holder) (v : List ℕ) (r : Record) → Knows n h → sumAt (withClock c h v) r ≡ sumAt c r
-  unfolding sumAt Knows sameHolder
-  sum-at-with n c (Processor p) v r k = ap sumOf (clock-of-with-other c (Processor p) v (Interval (r .processor) (r .interval)) refl)
-  sum-at-with n c (Lock l) v r k = ap sumOf (clock-of-with-other c (Lock l) v (Interval (r .processor) (r .interval)) refl)
-  sum-at-with n c Barrier v r k = ap sumOf (clock-of-with-other c Barrier v (Interval (r .processor) (r .interval)) refl)
-  sum-at-with n c (Applied p g) v r k = absurd k
-  sum-at-with n c (Interval p i) v r k = absurd k
+  unfolding sumAt
+  sum-at-with n c h v r k =
+      let i = Interval (r .processor) (r .interval) in
+      ap sumOf (clock-of-with-other c h v i (other-holder h i (knows-no-interval n h (r .processor) (r .interval) k)))
 
   -- nor does an applied clock
   pub applied-with : (n : Counts) (c : Clocks) (h : Holder) (v : List ℕ) (p g₁ : ℕ) → Knows n h → clockOf (withClock c h v) (Applied p g₁) ≡ clockOf c (Applied p g₁)
-  unfolding Knows sameHolder
-  applied-with n c (Processor q) v p g₁ k = clock-of-with-other c (Processor q) v (Applied p g₁) refl
-  applied-with n c (Lock l) v p g₁ k = clock-of-with-other c (Lock l) v (Applied p g₁) refl
-  applied-with n c Barrier v p g₁ k = clock-of-with-other c Barrier v (Applied p g₁) refl
-  applied-with n c (Applied q h) v p g₁ k = absurd k
-  applied-with n c (Interval q i) v p g₁ k = absurd k
+  applied-with n c h v p g₁ k = clock-of-with-other c h v (Applied p g₁) (other-holder h (Applied p g₁) (knows-no-applied n h p g₁ k))
 
   -- clocks that agree on the intervals inform alike
   pub informed-same-sums : (c d : Clocks) (l : List Record) (writes : ℕ) (v : List ℕ) (k : ℕ) → ((r : Record) → sumAt d r ≡ sumAt c r)
@@ -96,22 +89,21 @@ module _ (words g o : ℕ) where
         downward = λ i j h₁ h₂ less w. p .downward i j h₁ h₂ (omega (arith, less, same (nth l i), same (nth l j))) w;
       }
 
-  -- the invariant of the clocks, with holder h's clock v and its number k
+  -- the invariant of the clocks, with the clock v and its number k for a holder h that is not the writer
   pub clock-moved : (n : Counts) (c : Clocks) (l : List Record) (writes writer : ℕ) (known : Holder → ℕ) (h : Holder) (v : List ℕ) (k : ℕ)
       → ClockInv words g o n c l writes writer known → Knows n h → Informed words g o c l writes v k
-      → ((writer ≡ 0 → ⊥) → sameHolder (Processor writer) h ≡ true → k ≡ writes)
-      → ((writer ≡ 0 → ⊥) → sameHolder (Processor writer) h ≡ false → k < writes)
+      → ((writer ≡ 0 → ⊥) → sameHolder h (Processor writer) ≡ false) → ((writer ≡ 0 → ⊥) → k < writes)
       → ClockInv words g o n (withClock c h v) l writes writer (withNumber known h k)
   unfolding withNumber
-  clock-moved n c l writes writer known h v k inv there new mine behind =
+  clock-moved n c l writes writer known h v k inv there new other behind =
       record {
         none-yet = inv .none-yet;
         informed = λ x kx. informed-same-sums c (withClock c h v) l writes (clockOf (withClock c h v) x) (cond (sameHolder h x) k (known x)) same
             (holder x kx (sameHolder h x) refl);
         rising = record { rises = λ i j hi hj less. omega (arith, same (nth l i), same (nth l j), inv .rising .rises i j hi hj less) };
         writer-present = inv .writer-present;
-        writer-knows = λ some-writer. own-number some-writer (sameHolder h (Processor writer)) refl;
-        others-behind = λ some-writer x kx other. other-number some-writer x kx other (sameHolder h x) refl;
+        writer-knows = λ some-writer. rw (other some-writer) (inv .writer-knows some-writer);
+        others-behind = λ some-writer x kx apart. number some-writer x kx apart (sameHolder h x);
       }
     where
       same : (r : Record) → sumAt (withClock c h v) r ≡ sumAt c r
@@ -121,11 +113,6 @@ module _ (words g o : ℕ) where
       holder x kx true e = rw (clock-of-with c h v x, e) new
       holder x kx false e = rw (clock-of-with c h v x, e) (inv .informed x kx)
 
-      own-number : (writer ≡ 0 → ⊥) → (b : Bool) → sameHolder h (Processor writer) ≡ b → cond (sameHolder h (Processor writer)) k (known (Processor writer)) ≡ writes
-      own-number some-writer true e =
-          rw e (mine some-writer (rw (same-holder h (Processor writer) e) (same-holder-refl (Processor writer))))
-      own-number some-writer false e = rw e (inv .writer-knows some-writer)
-
-      other-number : (writer ≡ 0 → ⊥) → (x : Holder) → Knows n x → sameHolder (Processor writer) x ≡ false → (b : Bool) → sameHolder h x ≡ b → cond (sameHolder h x) k (known x) < writes
-      other-number some-writer x kx other true e = rw e (behind some-writer (rw (same-holder h x e) other))
-      other-number some-writer x kx other false e = rw e (inv .others-behind some-writer x kx other)
+      number : (writer ≡ 0 → ⊥) → (x : Holder) → Knows n x → sameHolder (Processor writer) x ≡ false → (b : Bool) → cond b k (known x) < writes
+      number some-writer x kx apart true = behind some-writer
+      number some-writer x kx apart false = inv .others-behind some-writer x kx apart

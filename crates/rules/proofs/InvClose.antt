@@ -12,21 +12,22 @@ use borrow.Author.Tests.{eqb-true, eqb-false, eq-eqb, ne-eqb}
 use Rattle.clock.specs.Clocks.{entryOf}
 use Rattle.diff.specs.Format.{Below}
 use Rattle.rules.specs.Tables.{select}
-use Rattle.rules.specs.State.{Limits, Holder, Processor, Applied, Clocks, clockOf, copyOf, twinOf, dirtyAt, Record, State, clock, own, standing, hasArrived}
+use Rattle.rules.specs.State.{Limits, Holder, Processor, Applied, Clocks, clockOf, copyOf, twinOf, dirtyAt, Record, State, clock, own, standing}
 use Rattle.rules.specs.Close.{newRecord, cleaned, closed}
 use Rattle.rules.specs.Fetch.{sumAt}
 use Rattle.rules.proofs.Selected.{select-append}
-use Rattle.rules.proofs.Holders.{sameHolder}
+use Rattle.rules.proofs.Holders.{sameHolder, Knows}
 use Rattle.rules.proofs.Slots.{newRecords, records-recorded}
 use Rattle.rules.proofs.Facts.{InOrder, slots-enough}
 use Rattle.rules.proofs.KeptClose.{closed-clean, closed-dirty}
 use Rattle.rules.proofs.Ghosts.{Ghost, writerClosed, closedGhost, writer-was, writer-stays}
+use Rattle.rules.proofs.MarksAfter.{rests}
 use Rattle.rules.proofs.WordOfRecords.{noRecord, nth, wordAfter, HitAt, word-after-append}
 use Rattle.rules.proofs.SortedRecords.{word-after-select-none}
 use Rattle.rules.proofs.SelectedRecords.{nth-first, all-selected, nothing-set}
 use Rattle.rules.proofs.FetchedWord.{above}
 use Rattle.rules.proofs.NewRecords.{new-hit}
-use Rattle.rules.proofs.Invariant.{Knows, Covered, seen, PageInv, Inv}
+use Rattle.rules.proofs.Invariant.{Covered, seen, PageInv, Inv}
 use Rattle.rules.proofs.InvSame.{above-says, above-when}
 use Rattle.rules.proofs.InvTicks.{Ticks, old-hit, covers-old, old-sum, new-above-old, ticks-keep-clocks}
 use Rattle.rules.proofs.InvCloseClocks.{new-word, new-is, closing-ticks}
@@ -202,20 +203,20 @@ module _ (lim : Limits) (g o : ℕ) (s : State) (γ : Ghost) (p : ℕ) (ord : In
           ∙ inv .closed-value z
 
   pub close-keeps : Inv (lim .words) g o (closed s p) (closedGhost γ p)
-  unfolding closedGhost writerClosed hasArrived closed
+  unfolding closedGhost writerClosed closed
   close-keeps =
       let e = closed-standing lim s p ord in
       record {
         clocks = rw e (ticks-keep-clocks (lim .words) g o (s .counts) (s .clocks) c′ p l (l ++ new) (γ .writes) (γ .writer) (γ .known) ticks here within (inv .clocks));
         page = λ q hq kq. rw e (whose q hq kq (ℕ-discrete q p));
         closed-value = λ z. rw e (value-closed z);
-        arrived-clean = λ q hq kq a. clean q hq kq a (ℕ-discrete q p);
+        resting-clean = λ q hq kq a. clean q hq kq a (ℕ-discrete q p);
       }
     where
       whose : (q : ℕ) → 1 ≤ q → q ≤ s .counts .processors → Dec (q ≡ p) → PageInv (lim .words) g o q c′ (closed s p .pages) (l ++ new) (writerClosed γ p) (γ .last) (γ .base)
       whose q hq kq (yes d) = rw d page-own
       whose q hq kq (no d) = page-other q hq kq d
 
-      clean : (q : ℕ) → 1 ≤ q → q ≤ s .counts .processors → hasArrived s q ≡ true → Dec (q ≡ p) → dirtyAt (closed s p .pages) q g ≡ false
+      clean : (q : ℕ) → 1 ≤ q → q ≤ s .counts .processors → rests s q ≡ true → Dec (q ≡ p) → dirtyAt (closed s p .pages) q g ≡ false
       clean q hq kq a (yes d) = rw d (closed-clean s p g)
-      clean q hq kq a (no d) = closed-dirty s p q g d ∙ inv .arrived-clean q hq kq a
+      clean q hq kq a (no d) = closed-dirty s p q g d ∙ inv .resting-clean q hq kq a

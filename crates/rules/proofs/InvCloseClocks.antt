@@ -14,11 +14,11 @@ use Rattle.clock.specs.Clocks.{sumOf}
 use Rattle.diff.specs.Format.{Below, setting, written}
 use Rattle.diff.specs.Reading.{settingAt}
 use Rattle.diff.proofs.Theorems.{exactly-the-differing-words}
-use Rattle.rules.specs.State.{Limits, Counts, Holder, Processor, Lock, Barrier, Applied, Interval, Clocks, clockOf, withClock, copyOf, twinOf, dirtyAt, Record, State, clock, own, standing}
+use Rattle.rules.specs.State.{Limits, Counts, Holder, Processor, Applied, Interval, Clocks, clockOf, withClock, copyOf, twinOf, dirtyAt, Record, State, clock, own, standing}
 use Rattle.rules.specs.Close.{differ, changed, anyChanged, raised, ticked, newRecord, closed}
 use Rattle.rules.specs.Fetch.{sumAt}
 use Rattle.rules.proofs.Tables.{any-holds}
-use Rattle.rules.proofs.Holders.{sameHolder, clock-of-with-same, clock-of-with-other, entry-raised-own, entry-raised-other, sum-raised}
+use Rattle.rules.proofs.Holders.{sameHolder, other-holder, clock-of-with-same, clock-of-with-other, Knows, knows-no-interval, entry-raised-own, entry-raised-other, sum-raised}
 use Rattle.rules.proofs.Slots.{newRecords}
 use Rattle.rules.proofs.Facts.{InOrder, whole-copy, whole-twin}
 use Rattle.rules.proofs.KeptNewRecords.{changed-is-dirty}
@@ -26,7 +26,7 @@ use Rattle.rules.proofs.Ghosts.{Ghost}
 use Rattle.rules.proofs.WordOfRecords.{nth, isSet, isHit, wordAfter, HitAt}
 use Rattle.rules.proofs.SelectedRecords.{nth-first, nth-second}
 use Rattle.rules.proofs.NewRecords.{differ-not, new-hit, one-new-hit, new-records-leave, page-record, new-records-set}
-use Rattle.rules.proofs.Invariant.{Knows, Covered, PageInv, Inv}
+use Rattle.rules.proofs.Invariant.{Covered, PageInv, Inv}
 use Rattle.rules.proofs.InvSame.{interval-known}
 use Rattle.rules.proofs.InvTicks.{Ticks}
 
@@ -52,12 +52,7 @@ module _ (s : State) (p : ℕ) where
   ticked-interval = clock-of-with-same (withClock (s .clocks) (Processor p) up) (Interval p (own s p + 1)) up
 
   pub ticked-knower : (n : Counts) (x : Holder) → Knows n x → sameHolder (Processor p) x ≡ false → clockOf (ticked s p) x ≡ clockOf (s .clocks) x
-  unfolding Knows sameHolder
-  ticked-knower n (Processor q) kx e = ticked-other (Processor q) e refl
-  ticked-knower n (Lock l) kx e = ticked-other (Lock l) refl refl
-  ticked-knower n Barrier kx e = ticked-other Barrier refl refl
-  ticked-knower n (Applied q g) kx e = absurd kx
-  ticked-knower n (Interval q i) kx e = absurd kx
+  ticked-knower n x kx e = ticked-other x e (other-holder (Interval p (own s p + 1)) x (λ d. knows-no-interval n x p (own s p + 1) kx (sym d)))
 
   -- the clocks after closing are the old or the ticked ones
   by-clocks : (P : Clocks → Type 0) → P (s .clocks) → P (ticked s p) → P (closed s p .clocks)

@@ -11,7 +11,7 @@ use Rattle.clock.specs.Clocks.{entryOf}
 use Rattle.rules.specs.State.{Limits, Counts, Processor, Applied, clockOf, copyOf, dirtyAt, Record, recordsOf, State, standing}
 use Rattle.rules.specs.Fetch.{withCopy, fetched}
 use Rattle.rules.specs.Steps.{pagesFetched, allFetched, emptied, collected}
-use Rattle.rules.proofs.Holders.{sameHolder}
+use Rattle.rules.proofs.Holders.{sameHolder, Knows}
 use Rattle.rules.proofs.Fetches.{all-fetched-keep}
 use Rattle.rules.proofs.Facts.{InOrder}
 use Rattle.rules.proofs.KeptParts.{among-when, Parts, in-order-of}
@@ -20,7 +20,7 @@ use Rattle.rules.proofs.Ghosts.{Ghost}
 use Rattle.rules.proofs.WordOfRecords.{nth, HitAt, hit-page}
 use Rattle.rules.proofs.SelectedRecords.{all-selected}
 use Rattle.rules.proofs.FetchedWord.{above, fetched-clock, fetched-current, fetched-applied-elsewhere}
-use Rattle.rules.proofs.Invariant.{Knows, seen, Inv}
+use Rattle.rules.proofs.Invariant.{seen, Inv}
 use Rattle.rules.proofs.InvEmpty.{inv-without-records}
 use Rattle.rules.proofs.InvSame.{nth-standing, above-says}
 use Rattle.rules.proofs.InvFetch.{fetch-keeps}

@@ -62,5 +62,5 @@ module _ (words g o : ℕ) (s : State) (γ : Ghost) (none-stands : standing s �
             };
         page = page-without-records;
         closed-value = λ e. all-base ∙ settled;
-        arrived-clean = λ q h k e. clean q h k;
+        resting-clean = λ q h k e. clean q h k;
       }

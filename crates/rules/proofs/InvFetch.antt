@@ -3,34 +3,29 @@ use Prim.Native.Nat.{ℕ, _≤_, _<_}
 use native.Mathlib.Omega.{arith}
 use native.Mathlib.Decide.{ℕ-discrete}
 use native.Mathlib.Nat.{lt-of-not-le}
-use mathlib.Core.Path.{_≡_, refl, ap, _∙_}
+use mathlib.Core.Path.{_≡_, refl, sym, ap, _∙_}
 use mathlib.Core.Bool.{Bool, true, not}
 use mathlib.Core.List.{List}
 use lib.ListN.{getD}
 use Rattle.clock.specs.Clocks.{entryOf}
 use Rattle.rules.specs.Tables.{select}
-use Rattle.rules.specs.State.{Limits, Counts, Holder, Processor, Lock, Barrier, Applied, Interval, clockOf, copyOf, twinOf, dirtyAt, Record, State, clock, own, standing, hasArrived}
+use Rattle.rules.specs.State.{Limits, Counts, Holder, Processor, Applied, clockOf, copyOf, twinOf, dirtyAt, Record, State, clock, own, standing}
 use Rattle.rules.specs.Fetch.{sumAt, appliedAll, withCopy, fetched}
-use Rattle.rules.proofs.Holders.{sameHolder}
+use Rattle.rules.proofs.Holders.{other-holder, Knows, knows-no-applied}
 use Rattle.rules.proofs.Facts.{InOrder, whole-copy}
 use Rattle.rules.proofs.Everywhere.{entries-covered}
 use Rattle.rules.proofs.Ghosts.{Ghost}
 use Rattle.rules.proofs.WordOfRecords.{nth, wordAfter, HitAt, FreshUp}
 use Rattle.rules.proofs.FetchedWord.{above, fetched-copy, fetched-elsewhere, fetched-sum, fetched-clock, fetched-applied, fetched-applied-elsewhere, fetched-word}
 use Rattle.rules.proofs.Fetching.{nothing-pending-when-covered}
-use Rattle.rules.proofs.Invariant.{Knows, Covered, seen, PageInv, Inv}
+use Rattle.rules.proofs.Invariant.{Covered, seen, PageInv, Inv}
 use Rattle.rules.proofs.InvSame.{interval-known, above-says, above-when, above-same, clock-inv-same, fresh-up-same, page-inv-same}
 
 -- ---- what a fetch leaves as it was
 
 module _ (lim : Limits) (s : State) (p g₁ : ℕ) where
   pub fetched-knower : (n : Counts) (h : Holder) → Knows n h → clockOf (fetched lim s p g₁ .clocks) h ≡ clockOf (s .clocks) h
-  unfolding Knows sameHolder
-  fetched-knower n (Processor q) k = fetched-clock lim s p g₁ (Processor q) refl
-  fetched-knower n (Lock l) k = fetched-clock lim s p g₁ (Lock l) refl
-  fetched-knower n Barrier k = fetched-clock lim s p g₁ Barrier refl
-  fetched-knower n (Applied q h) k = absurd k
-  fetched-knower n (Interval q i) k = absurd k
+  fetched-knower n h k = fetched-clock lim s p g₁ h (other-holder (Applied p g₁) h (λ d. knows-no-applied n h p g₁ k (sym d)))
 
 -- where the applied clock is the processor's, a fetch changes no copy
 pub fetch-of-current : (lim : Limits) (s : State) (p g : ℕ) → ((q : ℕ) → entryOf (clockOf (s .clocks) (Applied p g)) q ≡ entryOf (clock s p) q)
@@ -101,14 +96,14 @@ module _ (lim : Limits) (g o : ℕ) (s : State) (γ : Ghost) (ord : InOrder lim 
       (fetched-sum lim s p g₁) ea (λ e. fetched-knower lim s p g₁ (s .counts) (Processor q) (h, k)) (ap (λ (page : List ℕ). getD page o 0) ec) refl refl (inv .page q h k)
 
   pub fetch-keeps : (p g₁ : ℕ) → 1 ≤ p → p ≤ s .counts .processors → g₁ < s .counts .pages → Inv (lim .words) g o (fetched lim s p g₁) γ
-  unfolding standing fetched hasArrived withCopy dirtyAt
+  unfolding standing fetched withCopy dirtyAt
   fetch-keeps p g₁ h k l =
       record {
         clocks = clock-inv-same (lim .words) g o (s .counts) (s .clocks) (fetched lim s p g₁ .clocks) (standing s) (γ .writes) (γ .writer) (γ .known)
             (fetched-knower lim s p g₁ (s .counts)) (fetched-sum lim s p g₁) (inv .clocks);
         page = λ q hq kq. go q hq kq (ℕ-discrete q p) (ℕ-discrete g g₁);
         closed-value = inv .closed-value;
-        arrived-clean = inv .arrived-clean;
+        resting-clean = inv .resting-clean;
       }
     where
       go : (q : ℕ) → 1 ≤ q → q ≤ s .counts .processors → Dec (q ≡ p) → Dec (g ≡ g₁)

@@ -4,21 +4,22 @@ use Prim.Native.Nat.{ℕ, zero, suc, _≤_, _<_}
 use native.Mathlib.Omega.{arith}
 use native.Mathlib.Decide.{ℕ-discrete}
 use native.Mathlib.Nat.{mod-lt}
-use mathlib.Core.Path.{_≡_, refl, sym, ap, _∙_, subst}
-use mathlib.Core.Bool.{false, false≢true}
+use mathlib.Core.Path.{_≡_, refl, sym, ap, subst}
+use mathlib.Core.Bool.{false}
 use mathlib.Core.Logic.{inl, inr}
 use mathlib.Core.List.{List}
 use lib.ListN.{length}
 use borrow.Author.Tests.{eq-eqb, ne-eqb}
 use Rattle.clock.specs.Clocks.{entryOf}
-use Rattle.rules.specs.State.{Limits, Counts, Processor, Applied, clockOf, copyOf, recordsOf, State, standing, hasArrived}
+use Rattle.rules.specs.State.{Limits, Counts, Processor, Applied, clockOf, copyOf, recordsOf, State, standing}
 use Rattle.rules.specs.Opening.{opened}
 use Rattle.rules.specs.Close.{closed}
 use Rattle.rules.specs.Fetch.{fetched}
 use Rattle.rules.specs.Steps.{pageOfWord, offsetOfWord, read, write, want}
-use Rattle.rules.specs.Refusals.{Action, Read, Write, Acquire, Release, Arrive, Want, Unknown, known, effect}
+use Rattle.rules.specs.Refusals.{Action, Read, Write, Acquire, Release, Arrive, Want, Unknown, effect}
 use Rattle.rules.specs.Order.{Event, eventAt, Took, Before, program, Ordered}
 use Rattle.rules.specs.Demand.{valueField, EarlierWrite}
+use Rattle.rules.proofs.KindsOfSteps.{known-action}
 use Rattle.rules.proofs.Facts.{whole-copy}
 use Rattle.rules.proofs.OpenedInOrder.{opened-word, opened-clean}
 use Rattle.rules.proofs.Accepted.{Accepted, read-on-page, write-on-page, acquire-there, release-there}
@@ -26,6 +27,7 @@ use Rattle.rules.proofs.Timeline.{Timeline, Moment, Refused, Taken, mom
 use Rattle.rules.proofs.Ghosts.{Ghost, noGhost, closedGhost, ghostAfter, ghostAt, ghost-refused, ghost-taken}
 use Rattle.rules.proofs.StrictOrder.{before-goes-forward}
 use Rattle.rules.proofs.ActionKinds.{write-no-acquire}
+use Rattle.rules.proofs.MarksAfter.{restsIn, rests}
 use Rattle.rules.proofs.Allowed.{Allowed, took-allowed}
 use Rattle.rules.proofs.Numbers.{knowing, known-at-most-writes}
 use Rattle.rules.proofs.NumbersFollow.{knows-all-writes}
@@ -101,10 +103,10 @@ module _ (lim : Limits) (c : Counts) (es : List Event) (r : Timeline lim c es) (
     unfolding effect read ghostAfter
     read-keeps x l = fetch-keeps lim g o s (ghost t) (r .ordered t) in-page inv p (pageOfWord lim x) h k l
 
-    pub write-keeps : (x v : ℕ) → pageOfWord lim x < s .counts .pages → hasArrived s p ≡ false → (x ≡ w → ghost t .known (Processor p) ≡ ghost t .writes)
+    pub write-keeps : (x v : ℕ) → pageOfWord lim x < s .counts .pages → rests s p ≡ false → (x ≡ w → ghost t .known (Processor p) ≡ ghost t .writes)
         → Inv (lim .words) g o (effect lim s p (Write x v) .after) (ghostAfter w s p (Write x v) (ghost t))
-    unfolding effect write ghostAfter valueField fetched hasArrived
-    write-keeps x v l here all = go (ℕ-discrete x w)
+    unfolding effect write ghostAfter valueField fetched
+    write-keeps x v l awake all = go (ℕ-discrete x w)
       where
         after-fetch : Inv (lim .words) g o (fetched lim s p (pageOfWord lim x)) (ghost t)
         after-fetch = fetch-keeps lim g o s (ghost t) (r .ordered t) in-page inv p (pageOfWord lim x) h k l
@@ -120,13 +122,13 @@ module _ (lim : Limits) (c : Counts) (es : List Event) (r : Timeline lim c es) (
         go : Dec (x ≡ w) → Inv (lim .words) g o (write lim s p x v .after) (ghostAfter w s p (Write x v) (ghost t))
         go (yes e) =
             rw (eq-eqb x w e)
-            (store-there-keeps lim w (fetched lim s p (pageOfWord lim x)) (ghost t) p x v after-fetch h k here (current (pageOfWord lim x)) (all e) (known-at-most-writes lim c es r w t) e (long e))
+            (store-there-keeps lim w (fetched lim s p (pageOfWord lim x)) (ghost t) p x v after-fetch h k awake (current (pageOfWord lim x)) (all e) (known-at-most-writes lim c es r w t) e (long e))
         go (no d) =
-            rw (ne-eqb x w d) (store-elsewhere-keeps lim w (fetched lim s p (pageOfWord lim x)) (ghost t) p x v after-fetch h k here (current (pageOfWord lim x)) d)
+            rw (ne-eqb x w d) (store-elsewhere-keeps lim w (fetched lim s p (pageOfWord lim x)) (ghost t) p x v after-fetch h k awake (current (pageOfWord lim x)) d)
 
     pub want-keeps : Inv (lim .words) g o (effect lim s p Want .after) (ghostAfter w s p Want (ghost t))
-    unfolding effect want ghostAfter standing hasArrived
-    want-keeps = record { clocks = inv .clocks; page = inv .page; closed-value = inv .closed-value; arrived-clean = inv .arrived-clean }
+    unfolding effect want ghostAfter standing restsIn
+    want-keeps = record { clocks = inv .clocks; page = inv .page; closed-value = inv .closed-value; resting-clean = inv .resting-clean }
 
     -- the steps that close first
     module _ (l : g < s .counts .pages) where
@@ -148,17 +150,16 @@ module _ (lim : Limits) (c : Counts) (es : List Event) (r : Timeline lim c es) (
 
   by-action : (j t p : ℕ) (a : Action) → WritesOrdered j → g < r .state t .counts .pages → t < j → Took es t p a → Accepted lim (r .state t) (eventAt es t .step)
       → Allowed (r .state t .counts .processors) (r .state t) p a → InvAt t → Inv (lim .words) g o (effect lim (r .state t) p a .after) (ghostAfter w (r .state t) p a (ghost t))
-  unfolding known
   by-action j t p (Read x) ordered l less took acc ok ih =
       read-keeps t p (ok .from) (ok .to) ih x (read-on-page lim (r .state t) (eventAt es t .step) x (took .action) acc)
   by-action j t p (Write x v) ordered l less took acc ok ih =
-      write-keeps t p (ok .from) (ok .to) ih x v (write-on-page lim (r .state t) (eventAt es t .step) x v (took .action) acc) (ok .not-arrived)
+      write-keeps t p (ok .from) (ok .to) ih x v (write-on-page lim (r .state t) (eventAt es t .step) x v (took .action) acc) (ok .not-resting)
       (λ e. knows-all-writes lim c es r w t p (Write w v) (rw e at took) (write-no-acquire w v) (write-before-write j t p v ordered less (rw e at took)))
   by-action j t p (Acquire x) ordered l less took acc ok ih = acquire-kept t p (ok .from) (ok .to) ih l x (acquire-there lim (r .state t) (eventAt es t .step) x (took .action) acc)
   by-action j t p (Release x) ordered l less took acc ok ih = release-kept t p (ok .from) (ok .to) ih l x (release-there lim (r .state t) (eventAt es t .step) x (took .action) acc)
   by-action j t p Arrive ordered l less took acc ok ih = arrive-kept t p (ok .from) (ok .to) ih l
   by-action j t p Want ordered l less took acc ok ih = want-keeps t p (ok .from) (ok .to) ih
-  by-action j t p Unknown ordered l less took acc ok ih = absurd (false≢true (ap known (sym (took .action)) ∙ acc .known-kind))
+  by-action j t p Unknown ordered l less took acc ok ih = absurd (known-action (eventAt es t .step) (acc .known-kind) (took .action))
 
   pub inv-at : (j : ℕ) → WritesOrdered j → g < c .pages → (t : ℕ) → t ≤ j → InvAt t
   unfolding ghostAt

@@ -8,67 +8,66 @@ use mathlib.Core.Bool.{Bool, true, false, cond, false≢true}
 use lib.ListN.{length}
 use lib.Dec.{eqb}
 use borrow.Author.Tests.{eqb-true, eq-eqb, ne-eqb}
-use Rattle.clock.specs.Clocks.{joined}
-use Rattle.rules.specs.State.{Limits, Counts, Holder, Processor, Lock, Barrier, Applied, Interval, clockOf, cleared, dirtyAt, State, standing, hasArrived}
+use Rattle.rules.specs.State.{Limits, Counts, Holder, Processor, Lock, Barrier, Applied, Interval, cleared, dirtyAt, State, withClocks, standing, hasArrived}
 use Rattle.rules.specs.Close.{closed}
-use Rattle.rules.specs.Steps.{learned, atBarrier, allArrived, allLearned, roundDone}
+use Rattle.rules.specs.Steps.{atBarrier, allArrived, allLearned, roundDone}
 use Rattle.rules.proofs.Tables.{every-at}
-use Rattle.rules.proofs.Holders.{sameHolder}
+use Rattle.rules.proofs.Holders.{sameHolder, Knows, barrier-carries}
 use Rattle.rules.proofs.Facts.{InOrder}
 use Rattle.rules.proofs.Accepted.{present-when}
 use Rattle.rules.proofs.KeptClose.{closed-keeps}
-use Rattle.rules.proofs.KeptFetch.{withClocks, withMarks}
-use Rattle.rules.proofs.Ghosts.{Ghost, withNumber, roundNumbers, completes, writerClosed, closedGhost, arrivedNumbers}
-use Rattle.rules.proofs.MarksAfter.{arrived-at-barrier}
-use Rattle.rules.proofs.NumbersAfter.{Knowing}
+use Rattle.rules.proofs.Ghosts.{Ghost, withNumber, learnedNumbers, roundNumbers, completes, writerClosed, closedGhost, arrivedNumbers}
+use Rattle.rules.proofs.MarksAfter.{arrived-at-barrier, arrived-rests}
+use Rattle.rules.proofs.NumbersAfter.{learned-at-most, Knowing}
 use Rattle.rules.proofs.WordOfRecords.{nth}
-use Rattle.rules.proofs.Invariant.{Knows, Inv}
-use Rattle.rules.proofs.InvClocks.{informed-by-join, informed-when-cleared}
+use Rattle.rules.proofs.Invariant.{Inv}
+use Rattle.rules.proofs.InvClocks.{informed-when-cleared}
 use Rattle.rules.proofs.InvSame.{interval-made}
-use Rattle.rules.proofs.InvMoves.{withKnown, inv-same-numbers, clock-move-keeps}
+use Rattle.rules.proofs.InvMoves.{withKnown, clean-carrier, clean-processor, inv-same-numbers, clock-move-keeps, learn-keeps}
 use Rattle.rules.proofs.InvBarrier.{arrivedGhost, at-barrier-keeps}
 
 -- ---- the numbers while the processors learn the barrier's clock
 
 -- for the first n processors
-unfoldable pub learnedNumbers : (Holder → ℕ) → ℕ → Holder → ℕ
-learnedNumbers f zero = f
-learnedNumbers f (suc k) = withNumber (learnedNumbers f k) (Processor (suc k)) (max (learnedNumbers f k (Processor (suc k))) (learnedNumbers f k Barrier))
+unfoldable allLearnedNumbers : (Holder → ℕ) → ℕ → Holder → ℕ
+allLearnedNumbers f zero = f
+allLearnedNumbers f (suc k) = learnedNumbers (allLearnedNumbers f k) (Processor (suc k)) Barrier
+
+-- none comes above what none was above
+all-learned-at-most : (f : Holder → ℕ) (m : ℕ) → ((h : Holder) → f h ≤ m) → (n : ℕ) (h : Holder) → allLearnedNumbers f n h ≤ m
+unfolding allLearnedNumbers
+all-learned-at-most f m all zero = all
+all-learned-at-most f m all (suc k) = learned-at-most (allLearnedNumbers f k) (Processor (suc k)) Barrier m (all-learned-at-most f m all k)
 
 module _ (f : Holder → ℕ) where
-  -- the barrier's and a lock's number stay
-  pub learned-number-barrier : (n : ℕ) → learnedNumbers f n Barrier ≡ f Barrier
-  unfolding learnedNumbers withNumber sameHolder
-  learned-number-barrier zero = refl
-  learned-number-barrier (suc k) = learned-number-barrier k
-
-  pub learned-number-lock : (n l : ℕ) → learnedNumbers f n (Lock l) ≡ f (Lock l)
-  unfolding learnedNumbers withNumber sameHolder
-  learned-number-lock zero l = refl
-  learned-number-lock (suc k) l = learned-number-lock k l
+  -- the number of a holder that is no processor stays
+  all-learned-other : (n : ℕ) (h : Holder) → ((q : ℕ) → sameHolder (Processor q) h ≡ false) → allLearnedNumbers f n h ≡ f h
+  unfolding allLearnedNumbers withNumber
+  all-learned-other zero h e = refl
+  all-learned-other (suc k) h e = rw (e (suc k)) (all-learned-other k h e)
 
   -- a processor above n has not learned it yet
-  pub learned-number-not-yet : (n q : ℕ) → n < q → learnedNumbers f n (Processor q) ≡ f (Processor q)
-  unfolding learnedNumbers withNumber sameHolder
-  learned-number-not-yet zero q h = refl
-  learned-number-not-yet (suc k) q h = rw (ne-eqb q (suc k) (λ e. omega (arith, e, h))) (learned-number-not-yet k q (omega arith))
+  not-yet-learned : (n q : ℕ) → n < q → allLearnedNumbers f n (Processor q) ≡ f (Processor q)
+  unfolding allLearnedNumbers withNumber sameHolder
+  not-yet-learned zero q h = refl
+  not-yet-learned (suc k) q h = rw (ne-eqb q (suc k) (λ e. omega (arith, e, h))) (not-yet-learned k q (omega arith))
 
   -- the processors 1 to n have
-  pub learned-number : (n q : ℕ) → 1 ≤ q → q ≤ n → learnedNumbers f n (Processor q) ≡ max (f (Processor q)) (f Barrier)
-  unfolding learnedNumbers withNumber sameHolder
-  learned-number zero q h l = absurd (omega arith)
-  learned-number (suc k) q h l = go (ℕ-discrete q (suc k)) (learned-number k q h)
+  all-learned-processor : (n q : ℕ) → 1 ≤ q → q ≤ n → allLearnedNumbers f n (Processor q) ≡ max (f (Processor q)) (f Barrier)
+  unfolding allLearnedNumbers withNumber sameHolder
+  all-learned-processor zero q h l = absurd (omega arith)
+  all-learned-processor (suc k) q h l = go (ℕ-discrete q (suc k)) (all-learned-processor k q h)
     where
-      go : Dec (q ≡ suc k) → (q ≤ k → learnedNumbers f k (Processor q) ≡ max (f (Processor q)) (f Barrier))
-          → cond (eqb q (suc k)) (max (learnedNumbers f k (Processor (suc k))) (learnedNumbers f k Barrier)) (learnedNumbers f k (Processor q)) ≡ max (f (Processor q)) (f Barrier)
-      go (yes e) r = rw (eq-eqb q (suc k) e, e) (ap₂ max (learned-number-not-yet k (suc k) (omega arith)) (learned-number-barrier k))
+      go : Dec (q ≡ suc k) → (q ≤ k → allLearnedNumbers f k (Processor q) ≡ max (f (Processor q)) (f Barrier))
+          → cond (eqb q (suc k)) (max (allLearnedNumbers f k (Processor (suc k))) (allLearnedNumbers f k Barrier)) (allLearnedNumbers f k (Processor q)) ≡ max (f (Processor q)) (f Barrier)
+      go (yes e) r = rw (eq-eqb q (suc k) e, e) (ap₂ max (not-yet-learned k (suc k) (omega arith)) (all-learned-other k Barrier (λ i. refl)))
       go (no e) r = rw (ne-eqb q (suc k) e) (r (omega arith))
 
   -- with the barrier's number 0 they are those of the completed round
-  pub round-number : (n : Counts) (h : Holder) → Knows n h → roundNumbers f h ≡ withNumber (learnedNumbers f (n .processors)) Barrier 0 h
+  round-number : (n : Counts) (h : Holder) → Knows n h → roundNumbers f h ≡ withNumber (allLearnedNumbers f (n .processors)) Barrier 0 h
   unfolding roundNumbers withNumber sameHolder Knows
-  round-number n (Processor q) k = sym (learned-number (n .processors) q (k .0) (k .1))
-  round-number n (Lock l) k = sym (learned-number-lock (n .processors) l)
+  round-number n (Processor q) k = sym (all-learned-processor (n .processors) q (k .0) (k .1))
+  round-number n (Lock l) k = sym (all-learned-other (n .processors) (Lock l) (λ i. refl))
   round-number n Barrier k = refl
   round-number n (Applied p g) k = absurd k
   round-number n (Interval p i) k = absurd k
@@ -78,36 +77,31 @@ module _ (f : Holder → ℕ) where
 module _ (words g o : ℕ) (s : State) (γ : Ghost) (inv : Inv words g o s γ) (few : (h : Holder) → γ .known h ≤ γ .writes) (no-writer : γ .writer ≡ 0)
     (clean : (q : ℕ) → 1 ≤ q → q ≤ s .counts .processors → dirtyAt (s .pages) q g ≡ false) where
   -- the first k processors have learned the barrier's clock
-  learned-keeps : (k : ℕ) → k ≤ s .counts .processors → Inv words g o (withClocks s (allLearned (s .clocks) k)) (withKnown γ (learnedNumbers (γ .known) k))
-  unfolding withClocks withMarks withKnown allLearned learned learnedNumbers Knows sameHolder hasArrived standing
+  learned-keeps : (k : ℕ) → k ≤ s .counts .processors → Inv words g o (withClocks s (allLearned (s .clocks) k)) (withKnown γ (allLearnedNumbers (γ .known) k))
+  unfolding withKnown allLearned allLearnedNumbers standing
   learned-keeps zero h = inv
   learned-keeps (suc k) h = one-more (learned-keeps k (omega arith))
     where
-      one-more : Inv words g o (withClocks s (allLearned (s .clocks) k)) (withKnown γ (learnedNumbers (γ .known) k))
-          → Inv words g o (withClocks s (allLearned (s .clocks) (suc k))) (withKnown γ (learnedNumbers (γ .known) (suc k)))
+      one-more : Inv words g o (withClocks s (allLearned (s .clocks) k)) (withKnown γ (allLearnedNumbers (γ .known) k))
+          → Inv words g o (withClocks s (allLearned (s .clocks) (suc k))) (withKnown γ (allLearnedNumbers (γ .known) (suc k)))
       one-more before =
-          clock-move-keeps words g o (withClocks s (allLearned (s .clocks) k)) (withKnown γ (learnedNumbers (γ .known) k)) before (Processor (suc k))
-          (joined (clockOf (allLearned (s .clocks) k) (Processor (suc k))) (clockOf (allLearned (s .clocks) k) Barrier))
-          (max (learnedNumbers (γ .known) k (Processor (suc k))) (learnedNumbers (γ .known) k Barrier)) (s .marks) (omega arith, h)
-          (informed-by-join words g o (allLearned (s .clocks) k) (standing s) (γ .writes) (clockOf (allLearned (s .clocks) k) (Processor (suc k)))
-          (clockOf (allLearned (s .clocks) k) Barrier) (learnedNumbers (γ .known) k (Processor (suc k))) (learnedNumbers (γ .known) k Barrier)
-          (rw (learned-number-not-yet (γ .known) k (suc k) (omega arith)) (few (Processor (suc k)))) (rw (learned-number-barrier (γ .known) k) (few Barrier))
-          (before .clocks .informed (Processor (suc k)) (omega arith, h)) (before .clocks .informed Barrier tt))
-          (λ e. absurd (e no-writer)) (λ e. absurd (e no-writer))
-          (λ q d. rw (eqb-true q (suc k) d) (clean (suc k) (omega arith) h))
-          (inv .arrived-clean)
+          let s₁ : State = withClocks s (allLearned (s .clocks) k) in
+          learn-keeps words g o s₁ (withKnown γ (allLearnedNumbers (γ .known) k)) before (Processor (suc k)) Barrier
+          (clean-processor g s₁ (suc k) (omega arith) h (clean (suc k) (omega arith) h)) (clean-carrier g s₁ (barrier-carries (s .counts)))
+          (s .marks) (inv .resting-clean) (all-learned-at-most (γ .known) (γ .writes) few k)
 
   -- then its clock is cleared, and so are the marks
   pub round-keeps : ((i : ℕ) → i < length (standing s) → 1 ≤ nth (standing s) i .interval) → Inv words g o (roundDone s) (withKnown γ (roundNumbers (γ .known)))
-  unfolding roundDone withClocks withMarks withKnown Knows sameHolder standing
+  unfolding roundDone withKnown Knows sameHolder standing
   round-keeps made =
       let n : ℕ = s .counts .processors in
-      let all : Inv words g o (withClocks s (allLearned (s .clocks) n)) (withKnown γ (learnedNumbers (γ .known) n)) = learned-keeps n (omega arith) in
-      inv-same-numbers words g o (roundDone s) (withKnown γ (withNumber (learnedNumbers (γ .known) n) Barrier 0)) (roundNumbers (γ .known))
+      let all : Inv words g o (withClocks s (allLearned (s .clocks) n)) (withKnown γ (allLearnedNumbers (γ .known) n)) = learned-keeps n (omega arith) in
+      inv-same-numbers words g o (roundDone s) (withKnown γ (withNumber (allLearnedNumbers (γ .known) n) Barrier 0)) (roundNumbers (γ .known))
       (round-number (γ .known) (s .counts))
-      (clock-move-keeps words g o (withClocks s (allLearned (s .clocks) n)) (withKnown γ (learnedNumbers (γ .known) n)) all Barrier (cleared (s .clocks .barrier)) 0
-      (roundDone s .marks) tt (informed-when-cleared words g o (allLearned (s .clocks) n) (standing s) (γ .writes) (s .clocks .barrier) (inv .clocks .none-yet) made)
-      (λ e. absurd (e no-writer)) (λ e. absurd (e no-writer)) (λ q d. absurd (false≢true d)) (λ q h k e. clean q h k))
+      (clock-move-keeps words g o (withClocks s (allLearned (s .clocks) n)) (withKnown γ (allLearnedNumbers (γ .known) n)) all Barrier (cleared (s .clocks .barrier)) 0
+      (roundDone s .marks) (clean-carrier g (withClocks s (allLearned (s .clocks) n)) (barrier-carries (s .counts)))
+      (informed-when-cleared words g o (allLearned (s .clocks) n) (standing s) (γ .writes) (s .clocks .barrier) (inv .clocks .none-yet) made)
+      (λ e. absurd (e no-writer)) (λ q h k e. clean q h k))
 
 -- ---- the arrival that completes the round
 
@@ -128,7 +122,7 @@ module _ (lim : Limits) (g o : ℕ) (s : State) (γ : Ghost) (p : ℕ) (from : 1
   -- the page is clean everywhere
   pub completed-clean : (q : ℕ) → 1 ≤ q → q ≤ s .counts .processors → dirtyAt (atBarrier s p .pages) q g ≡ false
   unfolding atBarrier closed
-  completed-clean q h k = at-barrier .arrived-clean q h k (all-arrived q h k)
+  completed-clean q h k = at-barrier .resting-clean q h k (arrived-rests (atBarrier s p) q (all-arrived q h k))
 
   -- so every store has its interval
   pub completed-no-writer : writerClosed γ p ≡ 0
@@ -161,12 +155,5 @@ module _ (lim : Limits) (g o : ℕ) (s : State) (γ : Ghost) (p : ℕ) (from : 1
   pub completed-keeps : InOrder lim s → Inv (lim .words) g o (roundDone (atBarrier s p)) (roundGhost γ p)
   unfolding roundGhost arrivedGhost arrivedNumbers withNumber closedGhost withKnown atBarrier closed standing
   completed-keeps ord =
-      round-keeps (lim .words) g o (atBarrier s p) (arrivedGhost γ p) at-barrier at-most completed-no-writer completed-clean
+      round-keeps (lim .words) g o (atBarrier s p) (arrivedGhost γ p) at-barrier (learned-at-most (γ .known) Barrier (Processor p) (γ .writes) (numbers .at-most)) completed-no-writer completed-clean
       (interval-made lim (closed s p) (closed-keeps lim s p (present-when s p from to) ord))
-    where
-      at-most : (h : Holder) → arrivedNumbers γ p h ≤ γ .writes
-      at-most h = go (sameHolder Barrier h)
-        where
-          go : (b : Bool) → cond b (max (γ .known Barrier) (γ .known (Processor p))) (γ .known h) ≤ γ .writes
-          go true = omega (arith, barrier-knows-all)
-          go false = numbers .at-most h

@@ -12,11 +12,12 @@ use Rattle.clock.specs.Clocks.{entryOf}
 use Rattle.rules.specs.State.{Limits, Counts, Holder, Processor, Applied, Clocks, clockOf, Pages, copyOf, twinOf, dirtyAt, Record, State, own, standing}
 use Rattle.rules.specs.InOrder.{recordAt}
 use Rattle.rules.specs.Fetch.{sumAt}
+use Rattle.rules.proofs.Holders.{Knows}
 use Rattle.rules.proofs.Slots.{standing-at, length-standing}
 use Rattle.rules.proofs.Facts.{InOrder, slots-enough}
 use Rattle.rules.proofs.WordOfRecords.{noRecord, nth, FreshUp}
 use Rattle.rules.proofs.FetchedWord.{above}
-use Rattle.rules.proofs.Invariant.{Knows, ClockInv, seen, PageInv}
+use Rattle.rules.proofs.Invariant.{ClockInv, seen, PageInv}
 use Rattle.rules.proofs.InvClocks.{informed-same-sums}
 
 -- ---- records that stand in a state in order

@@ -1,18 +1,18 @@
 -- The pages after a store, and the invariant of the page stored to: a store to another word changes nothing of it, and one to w makes its
--- processor the one with stores that no interval has yet. Rests on Invariant. Assumes nothing.
+-- processor the one with stores that no interval has yet. Rests on KeptPages and Invariant. Assumes
+-- nothing.
 use Prim.Native.Nat.{ℕ, _%_, _<_}
 use mathlib.Core.Path.{_≡_, refl, sym, ap, _∙_}
-use mathlib.Core.Bool.{Bool, true, false, cond, not, false≢true}
+use mathlib.Core.Bool.{Bool, true, false, cond, false≢true}
 use mathlib.Core.List.{List, []}
 use lib.ListN.{length, getD, set}
 use lib.Seq.{getD-set-same, getD-set-other}
-use lib.Dec.{eqb}
 use Rattle.clock.specs.Clocks.{entryOf}
-use Rattle.rules.specs.Tables.{cell, putCell}
 use Rattle.rules.specs.State.{Limits, Processor, Applied, Clocks, clockOf, Pages, copyOf, twinOf, dirtyAt, Record}
 use Rattle.rules.specs.Fetch.{withCopy}
-use Rattle.rules.specs.Steps.{pageOfWord, offsetOfWord, twinTaken, stored}
+use Rattle.rules.specs.Steps.{pageOfWord, offsetOfWord, newTwin, twinTaken, stored}
 use Rattle.rules.proofs.Tables.{cell-put-same, cell-put-elsewhere}
+use Rattle.rules.proofs.KeptPages.{twin-taken-copies, dirty-new-same, dirty-new-elsewhere}
 use Rattle.rules.proofs.Invariant.{seen, PageInv}
 
 -- ---- what a store leaves in the pages
@@ -26,36 +26,36 @@ module _ (lim : Limits) (m : Pages) (p x v : ℕ) where
   storedPages = stored lim (twinTaken m p (pageOfWord lim x)) p x v
 
   pub stored-copy : copyOf storedPages p page ≡ set (copyOf m p page) (offsetOfWord lim x) (v % 4294967296)
-  unfolding stored twinTaken withCopy copyOf
-  stored-copy = cell-put-same [] (m .copies) p page (set (copyOf m p page) (offsetOfWord lim x) (v % 4294967296))
+  unfolding stored withCopy copyOf
+  stored-copy = rw (twin-taken-copies m p page) (cell-put-same [] (m .copies) p page (set (copyOf m p page) (offsetOfWord lim x) (v % 4294967296)))
 
   -- a page other than the one stored to
   abbrev pub Elsewhere : ℕ → ℕ → Type 0
   Elsewhere q g = q ≡ p → g ≡ pageOfWord lim x → ⊥
 
   pub stored-copy-elsewhere : (q g : ℕ) → Elsewhere q g → copyOf storedPages q g ≡ copyOf m q g
-  unfolding stored twinTaken withCopy copyOf
-  stored-copy-elsewhere q g e = cell-put-elsewhere [] (m .copies) p page q g (set (copyOf m p page) (offsetOfWord lim x) (v % 4294967296)) e
+  unfolding stored withCopy copyOf
+  stored-copy-elsewhere q g e = rw (twin-taken-copies m p page) (cell-put-elsewhere [] (m .copies) p page q g (set (copyOf m p page) (offsetOfWord lim x) (v % 4294967296)) e)
 
   pub stored-dirty : dirtyAt storedPages p page ≡ true
   unfolding stored twinTaken withCopy dirtyAt
   stored-dirty = go (dirtyAt m p page) refl
     where
-      go : (b : Bool) → dirtyAt m p page ≡ b → not (eqb (cell 0 (cond b (m .dirty) (putCell 0 (m .dirty) p page 1)) p page) 0) ≡ true
+      go : (b : Bool) → dirtyAt m p page ≡ b → dirtyAt (cond b m (newTwin m p page)) p page ≡ true
       go true e = e
-      go false e = rw (cell-put-same 0 (m .dirty) p page 1)
+      go false e = dirty-new-same m p page
 
   pub stored-dirty-elsewhere : (q g : ℕ) → Elsewhere q g → dirtyAt storedPages q g ≡ dirtyAt m q g
   unfolding stored twinTaken withCopy dirtyAt
   stored-dirty-elsewhere q g k = go (dirtyAt m p page)
     where
-      go : (b : Bool) → not (eqb (cell 0 (cond b (m .dirty) (putCell 0 (m .dirty) p page 1)) q g) 0) ≡ not (eqb (cell 0 (m .dirty) q g) 0)
+      go : (b : Bool) → dirtyAt (cond b m (newTwin m p page)) q g ≡ dirtyAt m q g
       go true = refl
-      go false = rw (cell-put-elsewhere 0 (m .dirty) p page q g 1 k)
+      go false = dirty-new-elsewhere m p page q g k
 
   -- a clean page gets its twin, a dirty one keeps it
   pub stored-twin-clean : dirtyAt m p page ≡ false → twinOf storedPages p page ≡ copyOf m p page
-  unfolding stored twinTaken withCopy twinOf
+  unfolding stored twinTaken newTwin withCopy twinOf
   stored-twin-clean e = rw (e) (cell-put-same [] (m .twins) p page (copyOf m p page))
 
   pub stored-twin-dirty : dirtyAt m p page ≡ true → twinOf storedPages p page ≡ twinOf m p page
@@ -63,10 +63,10 @@ module _ (lim : Limits) (m : Pages) (p x v : ℕ) where
   stored-twin-dirty e = rw (e)
 
   pub stored-twin-elsewhere : (q g : ℕ) → Elsewhere q g → twinOf storedPages q g ≡ twinOf m q g
-  unfolding stored twinTaken withCopy twinOf
+  unfolding stored twinTaken newTwin withCopy twinOf
   stored-twin-elsewhere q g k = go (dirtyAt m p page)
     where
-      go : (b : Bool) → cell [] (cond b (m .twins) (putCell [] (m .twins) p page (copyOf m p page))) q g ≡ cell [] (m .twins) q g
+      go : (b : Bool) → twinOf (cond b m (newTwin m p page)) q g ≡ twinOf m q g
       go true = refl
       go false = cell-put-elsewhere [] (m .twins) p page q g (copyOf m p page) k
 

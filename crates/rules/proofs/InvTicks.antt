@@ -11,9 +11,9 @@ use lib.Dec.{eqb}
 use Rattle.clock.specs.Clocks.{entryOf, sumOf}
 use Rattle.rules.specs.State.{Counts, Holder, Processor, Barrier, Applied, Clocks, clockOf, Record}
 use Rattle.rules.specs.Fetch.{sumAt}
-use Rattle.rules.proofs.Holders.{sameHolder, same-holder}
+use Rattle.rules.proofs.Holders.{sameHolder, same-holder, Knows}
 use Rattle.rules.proofs.WordOfRecords.{nth, HitAt, Rising}
-use Rattle.rules.proofs.Invariant.{Knows, Covered, Informed, ClockInv}
+use Rattle.rules.proofs.Invariant.{Covered, Informed, ClockInv}
 
 -- the records l′ are l and records of p behind them, c′ are the clocks c with p's own entry raised if there are new ones that set the word
 module _ (words g o : ℕ) where

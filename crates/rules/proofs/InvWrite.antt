@@ -10,11 +10,12 @@ use mathlib.Core.List.{List}
 use lib.ListN.{length, getD}
 use borrow.Author.Tests.{ne-eqb}
 use Rattle.clock.specs.Clocks.{entryOf}
-use Rattle.rules.specs.State.{Limits, Holder, Processor, Applied, clockOf, copyOf, dirtyAt, State, standing, hasArrived}
+use Rattle.rules.specs.State.{Limits, Holder, Processor, Applied, clockOf, copyOf, dirtyAt, State, withPages, standing}
 use Rattle.rules.specs.Steps.{pageOfWord, offsetOfWord, twinTaken, stored}
-use Rattle.rules.proofs.Holders.{sameHolder, same-holder-refl, same-holder}
+use Rattle.rules.proofs.Holders.{sameHolder, same-holder-refl, same-holder, Knows}
 use Rattle.rules.proofs.Ghosts.{Ghost, withNumber}
-use Rattle.rules.proofs.Invariant.{Knows, Informed, ClockInv, PageInv, Inv}
+use Rattle.rules.proofs.MarksAfter.{rests}
+use Rattle.rules.proofs.Invariant.{Informed, ClockInv, PageInv, Inv}
 use Rattle.rules.proofs.InvSame.{page-inv-same}
 use Rattle.rules.proofs.InvStore.{Elsewhere, stored-copy-elsewhere, stored-dirty-elsewhere, stored-twin-elsewhere, store-beside, store-there}
 
@@ -31,10 +32,9 @@ module _ (lim : Limits) (w : ℕ) (s : State) (γ : Ghost) (p x v : ℕ) where
 
   -- the state after the store, where s is the state after the fetch
   abbrev s′ : State
-  s′ =
-      record { counts = s .counts; clocks = s .clocks; pages = stored lim (twinTaken (s .pages) p (pageOfWord lim x)) p x v; records = s .records; marks = s .marks }
+  s′ = withPages s (stored lim (twinTaken (s .pages) p (pageOfWord lim x)) p x v)
 
-  module _ (inv : Inv (lim .words) g o s γ) (h : 1 ≤ p) (k : p ≤ s .counts .processors) (here : hasArrived s p ≡ false)
+  module _ (inv : Inv (lim .words) g o s γ) (h : 1 ≤ p) (k : p ≤ s .counts .processors) (awake : rests s p ≡ false)
       (current : (q : ℕ) → entryOf (clockOf (s .clocks) (Applied p (pageOfWord lim x))) q ≡ entryOf (clockOf (s .clocks) (Processor p)) q) where
     -- a page of which nothing was stored
     page-elsewhere : (q : ℕ) → 1 ≤ q → q ≤ s .counts .processors → Elsewhere lim (s .pages) p x v q g
@@ -44,20 +44,20 @@ module _ (lim : Limits) (w : ℕ) (s : State) (γ : Ghost) (p x v : ℕ) where
         (ap (λ (t : List ℕ). getD t o 0) (stored-copy-elsewhere lim (s .pages) p x v q g e)) (ap (λ (t : List ℕ). getD t o 0) (stored-twin-elsewhere lim (s .pages) p x v q g e))
         (stored-dirty-elsewhere lim (s .pages) p x v q g e) (inv .page q hq kq)
 
-    -- who has arrived has stored nothing
-    still-clean : (q : ℕ) → 1 ≤ q → q ≤ s .counts .processors → hasArrived s q ≡ true → dirtyAt (s′ .pages) q g ≡ false
+    -- who rests has stored nothing
+    still-clean : (q : ℕ) → 1 ≤ q → q ≤ s .counts .processors → rests s q ≡ true → dirtyAt (s′ .pages) q g ≡ false
     still-clean q hq kq e =
-        stored-dirty-elsewhere lim (s .pages) p x v q g (λ d z. false≢true (sym here ∙ ap (hasArrived s) (sym d) ∙ e))
-        ∙ inv .arrived-clean q hq kq e
+        stored-dirty-elsewhere lim (s .pages) p x v q g (λ d z. false≢true (sym awake ∙ ap (rests s) (sym d) ∙ e))
+        ∙ inv .resting-clean q hq kq e
 
     pub store-elsewhere-keeps : (x ≡ w → ⊥) → Inv (lim .words) g o s′ γ
-    unfolding standing hasArrived pageOfWord offsetOfWord
+    unfolding standing pageOfWord offsetOfWord
     store-elsewhere-keeps d =
         record {
           clocks = inv .clocks;
           page = λ q hq kq. go q hq kq (ℕ-discrete q p) (ℕ-discrete g (pageOfWord lim x));
           closed-value = inv .closed-value;
-          arrived-clean = still-clean;
+          resting-clean = still-clean;
         }
       where
         go : (q : ℕ) → 1 ≤ q → q ≤ s .counts .processors → Dec (q ≡ p) → Dec (g ≡ pageOfWord lim x)
@@ -110,13 +110,13 @@ module _ (lim : Limits) (w : ℕ) (s : State) (γ : Ghost) (p x v : ℕ) where
           go y ky false e = rw e (behind y ky)
 
       pub store-there-keeps : x ≡ w → o < length (copyOf (s .pages) p g) → Inv (lim .words) g o s′ γ′
-      unfolding standing hasArrived
+      unfolding standing
       store-there-keeps d long =
           record {
             clocks = clocks-after;
             page = λ q hq kq. go q hq kq (ℕ-discrete q p);
             closed-value = λ z. absurd (omega (arith, z, h));
-            arrived-clean = still-clean;
+            resting-clean = still-clean;
           }
         where
           other : (q : ℕ) → 1 ≤ q → q ≤ s .counts .processors → (q ≡ p → ⊥) → PageInv (lim .words) g o q (s .clocks) (s′ .pages) (standing s) p (v % 4294967296) (γ .base)

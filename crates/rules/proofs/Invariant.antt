@@ -1,5 +1,5 @@
--- What holds, for one word w, at every time of a run whose writes to w are ordered. w is at offset o of page g. Rests on Ghosts and
--- FetchedWord. Assumes nothing.
+-- What holds, for one word w, at every time of a run whose writes to w are ordered. w is at offset o of page g. Rests on MarksAfter
+-- and FetchedWord. Assumes nothing.
 use Prim.Native.Nat.{ℕ, _≤_, _<_}
 use mathlib.Core.Path.{_≡_}
 use mathlib.Core.Bool.{true, false, not}
@@ -7,20 +7,13 @@ use mathlib.Core.List.{List}
 use lib.ListN.{getD}
 use Rattle.clock.specs.Clocks.{entryOf, sumOf}
 use Rattle.rules.specs.Tables.{select}
-use Rattle.rules.specs.State.{Counts, Holder, Processor, Lock, Barrier, Applied, Interval, Clocks, clockOf, Pages, copyOf, twinOf, dirtyAt, Record, State, standing, hasArrived}
+use Rattle.rules.specs.State.{Counts, Holder, Processor, Applied, Clocks, clockOf, Pages, copyOf, twinOf, dirtyAt, Record, State, standing}
 use Rattle.rules.specs.Fetch.{sumAt}
-use Rattle.rules.proofs.Holders.{sameHolder}
+use Rattle.rules.proofs.Holders.{sameHolder, Knows}
 use Rattle.rules.proofs.Ghosts.{Ghost}
+use Rattle.rules.proofs.MarksAfter.{rests}
 use Rattle.rules.proofs.WordOfRecords.{nth, wordAfter, HitAt, Rising, FreshUp}
 use Rattle.rules.proofs.FetchedWord.{above}
-
--- the holders whose clocks carry news: present processors and locks, and the barrier
-unfoldable pub Knows : Counts → Holder → Type 0
-Knows n (Processor p) = (1 ≤ p) × (p ≤ n .processors)
-Knows n (Lock l) = l < n .locks
-Knows n Barrier = Unit
-Knows n (Applied p g) = ⊥
-Knows n (Interval p i) = ⊥
 
 -- a clock covers a record: it knows the record's interval
 abbrev pub Covered : List ℕ → Record → Type 0
@@ -64,4 +57,4 @@ module _ (words g o : ℕ) where
     pub clocks : ClockInv (s .counts) (s .clocks) (standing s) (γ .writes) (γ .writer) (γ .known)
     pub page : (p : ℕ) → 1 ≤ p → p ≤ s .counts .processors → PageInv p (s .clocks) (s .pages) (standing s) (γ .writer) (γ .last) (γ .base)
     pub closed-value : γ .writer ≡ 0 → wordAfter words g o (standing s) (γ .base) ≡ γ .last
-    pub arrived-clean : (p : ℕ) → 1 ≤ p → p ≤ s .counts .processors → hasArrived s p ≡ true → dirtyAt (s .pages) p g ≡ false
+    pub resting-clean : (p : ℕ) → 1 ≤ p → p ≤ s .counts .processors → rests s p ≡ true → dirtyAt (s .pages) p g ≡ false

@@ -18,7 +18,7 @@ use Rattle.rules.proofs.KeptLocks.{acquire-parts, release-parts, want-p
 use Rattle.rules.proofs.KeptBarrier.{arrive-parts}
 
 -- a write that is refused neither for intervals nor for room
-may-dirty : (lim : Limits) (s : State) (p w v : ℕ) → Parts lim s → lateRefusal lim s p (Write w v) ≡ 0 → MayDirty lim s p (pageOfWord lim w)
+may-dirty : (lim : Limits) (s : State) (p w v : ℕ) → Parts lim s → lateRefusal lim s (own s p) p (Write w v) ≡ 0 → MayDirty lim s p (pageOfWord lim w)
 unfolding lateRefusal own clock dirtyPages
 may-dirty lim s p w v f e = go (dirtyAt (s .pages) p (pageOfWord lim w)) (eqb (own s p) (lim .intervals)) (eqb (s .records .standing + dirtyPages s) (lim .records)) refl refl refl e
   where

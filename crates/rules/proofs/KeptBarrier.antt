@@ -8,28 +8,25 @@ use mathlib.Core.List.{List, map}
 use lib.ListN.{length, getD, length-map}
 use lib.Dec.{eqb}
 use Rattle.rules.specs.Tables.{put}
-use Rattle.rules.specs.State.{Limits, Counts, Processor, Barrier, Clocks, withClock, cleared, Marks, State, hasArrived}
+use Rattle.rules.specs.State.{Limits, Counts, Processor, Barrier, Clocks, withClock, cleared, Marks, withArrived, State, hasArrived}
 use Rattle.rules.specs.Close.{closed}
 use Rattle.rules.specs.Fetch.{fetched}
 use Rattle.rules.specs.Steps.{learned, atBarrier, allArrived, allLearned, roundDone, allFetched, emptied, collected, wantsCollection, arrive}
 use Rattle.rules.proofs.Tables.{get-put-other, length-put-within, get-map, Passes, every-fails}
+use Rattle.rules.proofs.Holders.{barrier-carries}
 use Rattle.rules.proofs.Fetches.{all-fetched-keep}
 use Rattle.rules.proofs.KeptParts.{presentAmong, among-says, among-when, arrivedIn, CountsInOrder, MarksInOrder, Parts}
-use Rattle.rules.proofs.KeptRounds.{barrier-learned, round-clocks, entry-all-cleared, all-cleared-in-order}
+use Rattle.rules.proofs.KeptMoves.{OwnKept, kept-again}
+use Rattle.rules.proofs.KeptRounds.{carrier-learned, round-clocks, entry-all-cleared, all-cleared-in-order}
 use Rattle.rules.proofs.KeptClose.{closed-parts}
-use Rattle.rules.proofs.KeptFetch.{withClocks, withMarks, clocks-moved, marks-changed, fetched-parts}
+use Rattle.rules.proofs.KeptFetch.{moved-parts, fetched-parts}
 use Rattle.rules.proofs.KeptLocks.{wish-set}
 
 -- ---- marks
 
--- the marks with other arrived marks
-unfoldable pub withArrived : Marks → List ℕ → Marks
-withArrived k marks = record { holders = k .holders; arrived = marks; wanted = k .wanted }
-
 -- a present processor is marked, and one is still missing
 arrived-set : (lim : Limits) (n : Counts) (k : Marks) (p : ℕ) → CountsInOrder lim n → MarksInOrder lim n k → presentAmong n p ≡ true
     → Passes (n .processors) (λ i. not (arrivedIn (withArrived k (put 0 (k .arrived) p 1)) (suc i))) → MarksInOrder lim n (withArrived k (put 0 (k .arrived) p 1))
-unfolding withArrived
 arrived-set lim n k p c f a missing =
     let b = among-says n p a in
     record {
@@ -46,7 +43,6 @@ arrived-set lim n k p c f a missing =
 -- all marks clear
 arrived-cleared : (lim : Limits) (n : Counts) (k : Marks) (marks : List ℕ) → CountsInOrder lim n → MarksInOrder lim n k → length marks ≡ suc (lim .processors)
     → MarksInOrder lim n (withArrived k (map (λ mark. 0) marks))
-unfolding withArrived
 arrived-cleared lim n k marks c f l =
     record {
       holders = f .holders;
@@ -62,37 +58,30 @@ arrived-cleared lim n k marks c f l =
 
 -- ---- arriving
 
--- the state at the barrier before the processor is marked
-unfoldable pub unmarked : State → ℕ → State
-unmarked s p = withClocks (closed s p) (learned (closed s p .clocks) Barrier (Processor p))
-
--- the processor has closed and the barrier has learned its clock
-pub unmarked-parts : (lim : Limits) (s : State) (p : ℕ) → Parts lim s → presentAmong (s .counts) p ≡ true → Parts lim (unmarked s p)
-unfolding unmarked
-unmarked-parts lim s p f a =
-    let f₁ : Parts lim (closed s p) = closed-parts lim s p f a in
-    clocks-moved lim (closed s p) (learned (closed s p .clocks) Barrier (Processor p)) f₁
-    (barrier-learned lim (closed s p .counts) (closed s p .clocks) p (f₁ .counts) (f₁ .clocks) (unfold closed in a))
+-- the barrier has learned the clock of a processor that has closed
+barrier-learned : (lim : Limits) (s : State) (p : ℕ) → Parts lim s → presentAmong (s .counts) p ≡ true
+    → OwnKept lim (s .counts) (closed s p .clocks) (learned (closed s p .clocks) Barrier (Processor p))
+unfolding closed
+barrier-learned lim s p f a = carrier-learned lim (s .counts) (closed s p .clocks) Barrier p (f .counts) (closed-parts lim s p f a .clocks) (barrier-carries (s .counts)) a
 
 -- no round is complete
 pub waiting-parts : (lim : Limits) (s : State) (p : ℕ) → Parts lim s → presentAmong (s .counts) p ≡ true → allArrived (atBarrier s p) ≡ false → Parts lim (atBarrier s p)
-unfolding atBarrier unmarked withClocks withMarks withArrived closed allArrived hasArrived
+unfolding atBarrier closed allArrived hasArrived
 waiting-parts lim s p f a e =
-    let f₁ : Parts lim (unmarked s p) = unmarked-parts lim s p f a in
-    marks-changed lim (unmarked s p) (withArrived (s .marks) (put 0 (s .marks .arrived) p 1)) f₁
+    moved-parts lim (closed s p) (learned (closed s p .clocks) Barrier (Processor p)) (withArrived (s .marks) (put 0 (s .marks .arrived) p 1)) (closed-parts lim s p f a)
+    (barrier-learned lim s p f a)
     (arrived-set lim (s .counts) (s .marks) p (f .counts) (f .marks) a (every-fails (s .counts .processors) (λ i. hasArrived (atBarrier s p) (suc i)) e))
 
 -- a round is complete
 pub round-parts : (lim : Limits) (s : State) (p : ℕ) → Parts lim s → presentAmong (s .counts) p ≡ true → Parts lim (roundDone (atBarrier s p))
-unfolding roundDone atBarrier unmarked withClocks withMarks withArrived closed
+unfolding roundDone atBarrier closed
 round-parts lim s p f a =
     let b = among-says (s .counts) p a in
-    let s₁ : State = unmarked s p in
-    let f₁ : Parts lim s₁ = unmarked-parts lim s p f a in
-    let c : Clocks = withClock (allLearned (s₁ .clocks) (s .counts .processors)) Barrier (cleared (s₁ .clocks .barrier)) in
+    let c : Clocks = learned (closed s p .clocks) Barrier (Processor p) in
+    let told : OwnKept lim (s .counts) (closed s p .clocks) c = barrier-learned lim s p f a in
     let marks : List ℕ = put 0 (s .marks .arrived) p 1 in
-    marks-changed lim (withClocks s₁ c) (withArrived (s .marks) (map (λ mark. 0) marks))
-    (clocks-moved lim s₁ c f₁ (round-clocks lim (s .counts) (s₁ .clocks) (f₁ .counts) (f₁ .clocks)))
+    moved-parts lim (closed s p) (withClock (allLearned c (s .counts .processors)) Barrier (cleared (c .barrier))) (withArrived (s .marks) (map (λ mark. 0) marks)) (closed-parts lim s p f a)
+    (kept-again told (round-clocks lim (s .counts) c (f .counts) (told .in-order)))
     (arrived-cleared lim (s .counts) (s .marks) marks (f .counts) (f .marks)
     (length-put-within 0 (s .marks .arrived) p 1 (omega (arith, f .marks .arrived, b .1, f .counts .processors-fit)) ∙ f .marks .arrived))
 

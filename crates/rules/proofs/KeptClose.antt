@@ -5,7 +5,7 @@ use native.Mathlib.Omega.{arith}
 use native.Mathlib.Decide.{ℕ-discrete}
 use mathlib.Core.Path.{_≡_, refl, ap}
 use mathlib.Core.Bool.{Bool, true, false, cond}
-use Rattle.rules.specs.State.{Limits, dirtyAt, Records, State}
+use Rattle.rules.specs.State.{Limits, dirtyAt, Records, State, withClocks, withPages, withRecords}
 use Rattle.rules.specs.InOrder.{present}
 use Rattle.rules.specs.Close.{changed, anyChanged, ticked, recorded, cleaned, closed}
 use Rattle.rules.proofs.Tables.{any-at}
@@ -55,7 +55,7 @@ closed-parts lim s p f a = go (anyChanged s p) refl
     pages-after = cleaned-in-order lim (s .counts) (s .pages) p (f .pages) (b .0) (omega (arith, b .1, f .counts .processors-fit))
 
     go : (t : Bool) → anyChanged s p ≡ t
-        → Parts lim (record { counts = s .counts; clocks = cond t (ticked s p) (s .clocks); pages = cleaned (s .pages) p; records = recorded s p (s .counts .pages); marks = s .marks })
+        → Parts lim (withRecords (withClocks (withPages s (cleaned (s .pages) p)) (cond t (ticked s p) (s .clocks))) (recorded s p (s .counts .pages)))
     go true e =
         let r = recorded-below lim s p (ownIn (ticked s p)) (s .counts .pages) (closing-ready lim s p f a) (omega arith) in
         record {

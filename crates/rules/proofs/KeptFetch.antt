@@ -1,4 +1,4 @@
--- A state in order stays so with one of its parts replaced, and after a fetch, a read or a write. Rests on CopyWords, KeptRounds,
+-- A state in order stays so with one of its parts replaced, and after a fetch, a read or a write. Rests on CopyWords, KeptMoves,
 -- KeptRecords and KeptPages. Assumes nothing.
 use Prim.Native.Nat.{ℕ, _+_, _%_, _<_}
 use native.Mathlib.Omega.{arith}
@@ -7,33 +7,19 @@ use mathlib.Core.Path.{_≡_, refl, sym, _∙_}
 use mathlib.Core.Bool.{Bool, true, false}
 use mathlib.Core.List.{List}
 use lib.ListN.{length, set, length-set}
-use Rattle.rules.specs.State.{Limits, Counts, Processor, Applied, Clocks, clockOf, withClock, Pages, copyOf, dirtyAt, Marks, State, clock}
+use Rattle.rules.specs.State.{Limits, Counts, Processor, Applied, Clocks, clockOf, withClock, Pages, copyOf, dirtyAt, Marks, State, withClocks, withPages, withMarks, clock}
 use Rattle.rules.specs.Fetch.{due, appliedAll, withCopy, fetched}
-use Rattle.rules.specs.Steps.{pageOfWord, offsetOfWord, twinTaken, stored, write}
+use Rattle.rules.specs.Steps.{pageOfWord, offsetOfWord, newTwin, twinTaken, stored, write}
 use Rattle.rules.proofs.CopyWords.{length-applied-all}
 use Rattle.rules.proofs.KeptParts.{among-says, ownIn, dirtyIn, PagesInOrder, MarksInOrder, Parts}
-use Rattle.rules.proofs.KeptMoves.{applied-set}
-use Rattle.rules.proofs.KeptRounds.{OwnKept}
+use Rattle.rules.proofs.KeptMoves.{OwnKept, applied-set}
 use Rattle.rules.proofs.KeptRecords.{records-with-more-intervals}
-use Rattle.rules.proofs.KeptPages.{AtPage, copy-replaced, twin-there, newTwin, twin-new, dirty-new-elsewhere, new-twin-in-order, dirty-pages-new-twin}
+use Rattle.rules.proofs.KeptPages.{AtPage, copy-replaced, twin-there, twin-new, dirty-new-elsewhere, new-twin-in-order, dirty-pages-new-twin}
 
 -- ---- one part of a state replaced
 
--- the state with other clocks
-unfoldable pub withClocks : State → Clocks → State
-withClocks s c = record { counts = s .counts; clocks = c; pages = s .pages; records = s .records; marks = s .marks }
-
--- the state with other pages
-unfoldable pub withPages : State → Pages → State
-withPages s m = record { counts = s .counts; clocks = s .clocks; pages = m; records = s .records; marks = s .marks }
-
--- the state with other marks
-unfoldable pub withMarks : State → Marks → State
-withMarks s k = record { counts = s .counts; clocks = s .clocks; pages = s .pages; records = s .records; marks = k }
-
 -- clocks that leave the own entries as they were
 pub clocks-moved : (lim : Limits) (s : State) (c : Clocks) → Parts lim s → OwnKept lim (s .counts) (s .clocks) c → Parts lim (withClocks s c)
-unfolding withClocks
 clocks-moved lim s c f k =
     record {
       counts = f .counts;
@@ -47,7 +33,6 @@ clocks-moved lim s c f k =
 
 -- marks in order in place of the marks
 pub marks-changed : (lim : Limits) (s : State) (k : Marks) → Parts lim s → MarksInOrder lim (s .counts) k → Parts lim (withMarks s k)
-unfolding withMarks
 marks-changed lim s k f h =
     record {
       counts = f .counts;
@@ -59,10 +44,14 @@ marks-changed lim s k f h =
       dirty-has-interval = f .dirty-has-interval;
     }
 
+-- both, as in a step that moves a clock and marks it
+pub moved-parts : (lim : Limits) (s : State) (c : Clocks) (k : Marks) → Parts lim s → OwnKept lim (s .counts) (s .clocks) c → MarksInOrder lim (s .counts) k
+    → Parts lim (withMarks (withClocks s c) k)
+moved-parts lim s c k f kept h = marks-changed lim (withClocks s c) k (clocks-moved lim s c f kept) h
+
 -- a copy of the same length
 pub copy-changed : (lim : Limits) (s : State) (p g : ℕ) (page : List ℕ) → Parts lim s → AtPage lim (s .counts) p g → length page ≡ lim .words
     → Parts lim (withPages s (withCopy (s .pages) p g page))
-unfolding withPages
 copy-changed lim s p g page f a l =
     record {
       counts = f .counts;
@@ -89,7 +78,7 @@ applied-moved lim s p g f a =
 
 -- a fetch changes one copy and one applied clock
 pub fetched-parts : (lim : Limits) (s : State) (p g : ℕ) → Parts lim s → AtPage lim (s .counts) p g → Parts lim (fetched lim s p g)
-unfolding fetched withClocks withPages clock
+unfolding fetched clock
 fetched-parts lim s p g f a =
     copy-changed lim (withClocks s (withClock (s .clocks) (Applied p g) (clockOf (s .clocks) (Processor p)))) p g
     (appliedAll (lim .words) (due s p g) (copyOf (s .pages) p g))
@@ -108,11 +97,10 @@ pub twin-taken-parts : (lim : Limits) (s : State) (p g : ℕ) → Parts lim s �
 twin-taken-parts lim s p g f a m = go (dirtyAt (s .pages) p g) refl
   where
     go : (b : Bool) → dirtyAt (s .pages) p g ≡ b → Parts lim (withPages s (twinTaken (s .pages) p g))
-    go true e = rw (twin-there (s .pages) p g e) (unfold withPages in f)
+    go true e = rw (twin-there (s .pages) p g e) f
     go false e =
         rw (twin-new (s .pages) p g e)
-        (unfold withPages in
-        record {
+        (record {
           counts = f .counts;
           clocks = f .clocks;
           pages = new-twin-in-order lim (s .counts) (s .pages) p g a (f .pages);
@@ -137,7 +125,7 @@ write-parts lim s p w v f a m =
     let m₁ : MayDirty lim s₁ p g = fetched-may-dirty in
     let s₂ : State = withPages s₁ (twinTaken (s₁ .pages) p g) in
     let f₂ : Parts lim s₂ = twin-taken-parts lim s₁ p g f₁ (unfold fetched in a) m₁ in
-    unfold withPages fetched in
+    unfold fetched in
     copy-changed lim s₂ p g (set (copyOf (s₂ .pages) p g) (offsetOfWord lim w) (v % 4294967296)) f₂ a
     (length-set (copyOf (s₂ .pages) p g) (offsetOfWord lim w) (v % 4294967296) ∙ length-copy lim (s₂ .counts) (s₂ .pages) p g a (f₂ .pages))
   where

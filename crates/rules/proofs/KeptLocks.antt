@@ -8,16 +8,16 @@ use mathlib.Core.Logic.{_⊎_, inl, inr}
 use lib.ListN.{getD}
 use borrow.Author.Tests.{ltb-false}
 use Rattle.rules.specs.Tables.{put}
-use Rattle.rules.specs.State.{Limits, Counts, Processor, Lock, clockOf, withClock, Marks, State}
+use Rattle.rules.specs.State.{Limits, Counts, Processor, Lock, clockOf, withClock, Marks, withWanted, State}
 use Rattle.rules.specs.Close.{closed}
 use Rattle.rules.specs.Steps.{withHolder, learned, acquire, release, wantsCollection, want}
 use Rattle.rules.proofs.Tables.{get-put-same, get-put-other, length-put-within}
-use Rattle.rules.proofs.Facts.{Within}
-use Rattle.rules.proofs.KeptParts.{presentAmong, among-says, CountsInOrder, MarksInOrder, Parts}
-use Rattle.rules.proofs.KeptMoves.{lock-set}
-use Rattle.rules.proofs.KeptRounds.{OwnKept, processor-learned}
+use Rattle.rules.proofs.Holders.{Knows, lock-carries}
+use Rattle.rules.proofs.KeptParts.{presentAmong, CountsInOrder, MarksInOrder, Parts}
+use Rattle.rules.proofs.KeptMoves.{knows-within}
+use Rattle.rules.proofs.KeptRounds.{processor-learned, carrier-handed}
 use Rattle.rules.proofs.KeptClose.{closed-parts}
-use Rattle.rules.proofs.KeptFetch.{withClocks, withMarks, clocks-moved, marks-changed}
+use Rattle.rules.proofs.KeptFetch.{marks-changed, moved-parts}
 
 -- a present lock gets a present holder, or none
 pub holder-set : (lim : Limits) (n : Counts) (k : Marks) (l q : ℕ) → CountsInOrder lim n → MarksInOrder lim n k → l < n .locks → (q ≡ 0) ⊎ (presentAmong n q ≡ true)
@@ -39,43 +39,27 @@ holder-set lim n k l q c f h held =
 
 -- an acquire of a present lock
 pub acquire-parts : (lim : Limits) (s : State) (p l : ℕ) → Parts lim s → presentAmong (s .counts) p ≡ true → l < s .counts .locks → Parts lim (acquire s p l)
-unfolding acquire withClocks withMarks
+unfolding acquire closed
 acquire-parts lim s p l f a h =
     let s₁ : State = closed s p in
     let f₁ : Parts lim s₁ = closed-parts lim s p f a in
-    let a₁ : presentAmong (s₁ .counts) p ≡ true = unfold closed in a in
-    let h₁ : l < s₁ .counts .locks = unfold closed in h in
-    let within : Within lim (Lock l) = unfold Within in omega (arith, h₁, f₁ .counts .locks-fit) in
-    marks-changed lim (withClocks s₁ (learned (s₁ .clocks) (Processor p) (Lock l))) (withHolder (s₁ .marks) l p)
-    (clocks-moved lim s₁ (learned (s₁ .clocks) (Processor p) (Lock l)) f₁ (processor-learned lim (s₁ .counts) (s₁ .clocks) p (Lock l) (f₁ .counts) (f₁ .clocks) a₁ within))
-    (holder-set lim (s₁ .counts) (s₁ .marks) l p (f₁ .counts) (f₁ .marks) h₁ (inr a₁))
-
-lock-moved : (lim : Limits) (s : State) (p l : ℕ) → Parts lim s → presentAmong (s .counts) p ≡ true → l < s .counts .locks
-    → OwnKept lim (s .counts) (s .clocks) (withClock (s .clocks) (Lock l) (clockOf (s .clocks) (Processor p)))
-lock-moved lim s p l f a h =
-    let b = among-says (s .counts) p a in
-    record {
-      in-order =
-          lock-set lim (s .counts) (s .clocks) l (clockOf (s .clocks) (Processor p)) (f .counts) (f .clocks) h
-          (f .clocks .sized .clocks (Processor p) (unfold Within in (b .0, omega (arith, b .1, f .counts .processors-fit)))) (f .clocks .known (Processor p));
-      own-kept = λ q. unfold withClock clockOf in refl;
-    }
+    moved-parts lim s₁ (learned (s₁ .clocks) (Processor p) (Lock l)) (withHolder (s₁ .marks) l p) f₁
+    (processor-learned lim (s₁ .counts) (s₁ .clocks) p (Lock l) (f₁ .counts) (f₁ .clocks) a (knows-within lim (s₁ .counts) (f₁ .counts) (Lock l) (unfold Knows in h)))
+    (holder-set lim (s₁ .counts) (s₁ .marks) l p (f₁ .counts) (f₁ .marks) h (inr a))
 
 -- a release of a present lock
 pub release-parts : (lim : Limits) (s : State) (p l : ℕ) → Parts lim s → presentAmong (s .counts) p ≡ true → l < s .counts .locks → Parts lim (release s p l)
-unfolding release withClocks withMarks
+unfolding release closed
 release-parts lim s p l f a h =
     let s₁ : State = closed s p in
     let f₁ : Parts lim s₁ = closed-parts lim s p f a in
-    let a₁ : presentAmong (s₁ .counts) p ≡ true = unfold closed in a in
-    let h₁ : l < s₁ .counts .locks = unfold closed in h in
-    marks-changed lim (withClocks s₁ (withClock (s₁ .clocks) (Lock l) (clockOf (s₁ .clocks) (Processor p)))) (withHolder (s₁ .marks) l 0)
-    (clocks-moved lim s₁ (withClock (s₁ .clocks) (Lock l) (clockOf (s₁ .clocks) (Processor p))) f₁ (lock-moved lim s₁ p l f₁ a₁ h₁))
-    (holder-set lim (s₁ .counts) (s₁ .marks) l 0 (f₁ .counts) (f₁ .marks) h₁ (inl refl))
+    moved-parts lim s₁ (withClock (s₁ .clocks) (Lock l) (clockOf (s₁ .clocks) (Processor p))) (withHolder (s₁ .marks) l 0) f₁
+    (carrier-handed lim (s₁ .counts) (s₁ .clocks) (Lock l) p (f₁ .counts) (f₁ .clocks) (lock-carries (s₁ .counts) l h) a)
+    (holder-set lim (s₁ .counts) (s₁ .marks) l 0 (f₁ .counts) (f₁ .marks) h (inl refl))
 
 -- the wish is in no condition
 pub wish-set : (lim : Limits) (n : Counts) (k : Marks) (w : ℕ) → MarksInOrder lim n k
-    → MarksInOrder lim n (record { holders = k .holders; arrived = k .arrived; wanted = w })
+    → MarksInOrder lim n (withWanted k w)
 wish-set lim n k w f =
     record {
       holders = f .holders;
@@ -88,7 +72,7 @@ wish-set lim n k w f =
 
 -- wanting collection
 pub want-parts : (lim : Limits) (s : State) → Parts lim s → Parts lim (want s)
-unfolding want withMarks
+unfolding want
 want-parts lim s f =
     let w : ℕ = cond (wantsCollection s) (s .marks .wanted) 1 in
-    marks-changed lim s (record { holders = s .marks .holders; arrived = s .marks .arrived; wanted = w }) f (wish-set lim (s .counts) (s .marks) w (f .marks))
+    marks-changed lim s (withWanted (s .marks) w) f (wish-set lim (s .counts) (s .marks) w (f .marks))

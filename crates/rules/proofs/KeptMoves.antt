@@ -1,4 +1,4 @@
--- The clocks stay in order when one of them is set: a lock's, the barrier's, an applied clock, an interval's or a processor's. Rests on
+-- The clocks stay in order when one of them is set: a lock's or the barrier's, an applied clock, an interval's or a processor's. Rests on
 -- KeptClocks. Assumes nothing.
 use Prim.Native.Nat.{ℕ, _≤_, _<_}
 use native.Mathlib.Omega.{arith}
@@ -11,53 +11,72 @@ use lib.ListN.{length}
 use lib.Dec.{ltb, eqb}
 use borrow.Author.Tests.{eqb-true, lt-ltb, ne-eqb}
 use Rattle.clock.specs.Clocks.{entryOf}
-use Rattle.rules.specs.State.{Limits, Counts, Processor, Lock, Barrier, Applied, Interval, Clocks, clockOf, withClock}
-use Rattle.rules.proofs.Holders.{sameHolder, clock-of-with-same, clock-of-with-other}
+use Rattle.rules.specs.State.{Limits, Counts, Holder, Processor, Lock, Barrier, Applied, Interval, Clocks, clockOf, withClock}
+use Rattle.rules.proofs.Holders.{sameHolder, other-holder, clock-of-with-same, clock-of-with-other, Knows, knows-no-applied, knows-no-interval, Carrier}
 use Rattle.rules.proofs.Facts.{Within}
-use Rattle.rules.proofs.KeptParts.{presentAmong, among-says, holderAmong, ownIn, CountsInOrder, ClocksInOrder}
+use Rattle.rules.proofs.KeptParts.{presentAmong, among-says, among-when, holderAmong, ownIn, CountsInOrder, ClocksInOrder}
 use Rattle.rules.proofs.KeptClocks.{by-replaced, replaced-in-order}
 
 -- an entry that its processor knows is 0 where the processor is absent
 absent-known : (lim : Limits) (n : Counts) (c : Clocks) (q e : ℕ) → ClocksInOrder lim n c → e ≤ ownIn c q → presentAmong n q ≡ false → e ≡ 0
 absent-known lim n c q e f h a = omega (arith, f .absent-entry (Processor q) q a)
 
+-- clocks in order that leave every processor's own entry as it was
+pub record OwnKept (lim : Limits) (n : Counts) (c after : Clocks) : Type 0 where
+  pub in-order : ClocksInOrder lim n after
+  pub own-kept : (q : ℕ) → ownIn after q ≡ ownIn c q
+
+-- two moves after one another
+pub kept-again : {lim : Limits} {n : Counts} {c d e : Clocks} → OwnKept lim n c d → OwnKept lim n d e → OwnKept lim n c e
+kept-again f g = record { in-order = g .in-order; own-kept = λ q. g .own-kept q ∙ f .own-kept q }
+
 -- ---- one clock set
 
--- a present lock gets a clock of which every processor knows its entry
-pub lock-set : (lim : Limits) (n : Counts) (c : Clocks) (l : ℕ) (v : List ℕ) → CountsInOrder lim n → ClocksInOrder lim n c → l < n .locks → length v ≡ lim .processors
-    → ((q : ℕ) → entryOf v q ≤ ownIn c q) → ClocksInOrder lim n (withClock c (Lock l) v)
-unfolding withClock clockOf holderAmong Within
-lock-set lim n c l v k f h w e =
-    replaced-in-order lim n c (Lock l) v f
-    (record {
-      within = omega (arith, k .locks-fit);
-      present = lt-ltb l (n .locks) h;
-      whole = w;
-      own-grows = λ q. omega arith;
-      own-fits = f .own-fits;
-      known = e;
-      absent = λ q a. absent-known lim n c q (entryOf v q) f (e q) a;
-      later = f .later-interval;
-      applied = f .applied-known;
-    })
+-- a holder that carries news is present, and has its place
+knows-present : (n : Counts) (h : Holder) → Knows n h → holderAmong n h ≡ true
+unfolding Knows holderAmong
+knows-present n (Processor p) k = among-when n p (k .0) (k .1)
+knows-present n (Lock l) k = lt-ltb l (n .locks) k
+knows-present n Barrier k = refl
+knows-present n (Applied p g) k = absurd k
+knows-present n (Interval p i) k = absurd k
 
--- so does the barrier
-pub barrier-set : (lim : Limits) (n : Counts) (c : Clocks) (v : List ℕ) → ClocksInOrder lim n c → length v ≡ lim .processors
-    → ((q : ℕ) → entryOf v q ≤ ownIn c q) → ClocksInOrder lim n (withClock c Barrier v)
-unfolding withClock clockOf holderAmong Within
-barrier-set lim n c v f w e =
-    replaced-in-order lim n c Barrier v f
-    (record {
-      within = tt;
-      present = refl;
-      whole = w;
-      own-grows = λ q. omega arith;
-      own-fits = f .own-fits;
-      known = e;
-      absent = λ q a. absent-known lim n c q (entryOf v q) f (e q) a;
-      later = f .later-interval;
-      applied = f .applied-known;
-    })
+pub knows-within : (lim : Limits) (n : Counts) → CountsInOrder lim n → (h : Holder) → Knows n h → Within lim h
+unfolding Knows Within
+knows-within lim n c (Processor p) k = (k .0, omega (arith, k .1, c .processors-fit))
+knows-within lim n c (Lock l) k = omega (arith, k, c .locks-fit)
+knows-within lim n c Barrier k = tt
+knows-within lim n c (Applied p g) k = absurd k
+knows-within lim n c (Interval p i) k = absurd k
+
+-- a carrier gets a clock of which every processor knows its entry
+pub carrier-set : (lim : Limits) (n : Counts) (c : Clocks) (h : Holder) (v : List ℕ) → CountsInOrder lim n → ClocksInOrder lim n c → Carrier n h
+    → length v ≡ lim .processors → ((q : ℕ) → entryOf v q ≤ ownIn c q) → OwnKept lim n c (withClock c h v)
+carrier-set lim n c h v k f carrier w e =
+    record {
+      in-order =
+          replaced-in-order lim n c h v f
+          (record {
+            within = knows-within lim n k h (carrier .knows);
+            present = knows-present n h (carrier .knows);
+            whole = w;
+            own-grows = λ q. omega (arith, kept q);
+            own-fits = λ q. omega (arith, kept q, f .own-fits q);
+            known = λ q. omega (arith, kept q, e q);
+            absent = λ q a. absent-known lim n c q (entryOf v q) f (e q) a;
+            later = λ p i q l. rw (clock-of-with-other c h v (Interval p i) (other-holder h (Interval p i) (knows-no-interval n h p i (carrier .knows)))) (f .later-interval p i q (omega (arith, kept p, l)));
+            applied = λ p g q.
+                rw (
+                  clock-of-with-other c h v (Applied p g) (other-holder h (Applied p g) (knows-no-applied n h p g (carrier .knows))),
+                  clock-of-with-other c h v (Processor p) (carrier .no-processor p),
+                )
+                (f .applied-known p g q);
+          });
+      own-kept = kept;
+    }
+  where
+    kept : (q : ℕ) → ownIn (withClock c h v) q ≡ ownIn c q
+    kept q = ap (λ (x : List ℕ). entryOf x q) (clock-of-with-other c h v (Processor q) (carrier .no-processor q))
 
 -- a page's applied clock becomes its processor's clock
 pub applied-set : (lim : Limits) (n : Counts) (c : Clocks) (p g : ℕ) → CountsInOrder lim n → ClocksInOrder lim n c → presentAmong n p ≡ true → g < n .pages

@@ -4,17 +4,17 @@ use Prim.Native.Nat.{ℕ, zero, suc, _+_, _≤_, _<_}
 use native.Mathlib.Omega.{arith}
 use native.Mathlib.Decide.{ℕ-discrete}
 use native.Mathlib.Nat.{suc-inj}
-use mathlib.Core.Path.{_≡_, sym, ap, ap₂, _∙_}
+use mathlib.Core.Path.{_≡_, refl, sym, ap, ap₂, _∙_}
 use mathlib.Core.Bool.{Bool, true, false, cond, not, _&&_, and-eq-true-iff, false≢true}
 use mathlib.Core.List.{List, [], map}
 use lib.ListN.{length, getD}
 use lib.Dec.{ltb, eqb}
 use borrow.Author.Tests.{lt-ltb}
-use Rattle.rules.specs.Tables.{put, putCell}
+use Rattle.rules.specs.Tables.{put}
 use Rattle.rules.specs.State.{Limits, Counts, Applied, Pages, copyOf, twinOf, dirtyAt}
 use Rattle.rules.specs.Close.{cleaned}
 use Rattle.rules.specs.Fetch.{withCopy}
-use Rattle.rules.specs.Steps.{twinTaken}
+use Rattle.rules.specs.Steps.{newTwin, twinTaken}
 use Rattle.rules.proofs.Tables.{get-put-same, get-put-other, cell-put-same, by-put-cell, cell-put-elsewhere, get-map, total-same, total-zero, total-change}
 use Rattle.rules.proofs.Rows.{rows-put-cell, rows-map-row}
 use Rattle.rules.proofs.KeptParts.{presentAmong, among-says, holderAmong, dirtyBelow, dirtyIn, CountsInOrder, PagesInOrder}
@@ -118,18 +118,21 @@ copy-replaced lim n m p g page a l f =
 -- a dirty page has its twin already
 pub twin-there : (m : Pages) (p g : ℕ) → dirtyAt m p g ≡ true → twinTaken m p g ≡ m
 unfolding twinTaken
-twin-there m p g e =
-    ap (λ (t : Bool). record { copies = m .copies; twins = cond t (m .twins) (putCell [] (m .twins) p g (copyOf m p g)); dirty = cond t (m .dirty) (putCell 0 (m .dirty) p g 1) }) e
-
--- the pages with a new twin
-unfoldable pub newTwin : Pages → ℕ → ℕ → Pages
-newTwin m p g = record { copies = m .copies; twins = putCell [] (m .twins) p g (copyOf m p g); dirty = putCell 0 (m .dirty) p g 1 }
+twin-there m p g e = rw e
 
 -- a clean page gets one
 pub twin-new : (m : Pages) (p g : ℕ) → dirtyAt m p g ≡ false → twinTaken m p g ≡ newTwin m p g
+unfolding twinTaken
+twin-new m p g e = rw e
+
+-- the copies stay
+pub twin-taken-copies : (m : Pages) (p g : ℕ) → twinTaken m p g .copies ≡ m .copies
 unfolding twinTaken newTwin
-twin-new m p g e =
-    ap (λ (t : Bool). record { copies = m .copies; twins = cond t (m .twins) (putCell [] (m .twins) p g (copyOf m p g)); dirty = cond t (m .dirty) (putCell 0 (m .dirty) p g 1) }) e
+twin-taken-copies m p g = go (dirtyAt m p g)
+  where
+    go : (b : Bool) → (cond b m (newTwin m p g)) .copies ≡ m .copies
+    go true = refl
+    go false = refl
 
 -- that page is dirty then
 pub dirty-new-same : (m : Pages) (p g : ℕ) → dirtyAt (newTwin m p g) p g ≡ true

@@ -8,6 +8,7 @@ use mathlib.Core.List.{List, []}
 use lib.ListN.{length, getD}
 use lib.Dec.{leb, ltb, eqb}
 use borrow.Author.Tests.{leb-true, le-leb}
+use Rattle.limits.specs.Limits.{slotHead}
 use Rattle.clock.specs.Clocks.{entryOf}
 use Rattle.diff.specs.Reading.{readRefusal}
 use Rattle.rules.specs.Tables.{total}
@@ -101,7 +102,7 @@ pub record SlotSound (lim : Limits) (n : Counts) (o : ℕ → ℕ) (slot : List 
   pub page : recordIn slot .page < n .pages
   pub some-interval : 1 ≤ recordIn slot .interval
   pub made-interval : recordIn slot .interval ≤ o (recordIn slot .processor)
-  pub fits : 4 + getD slot 3 0 ≤ slotSize lim
+  pub fits : slotHead + getD slot 3 0 ≤ slotSize lim
   pub legal : readRefusal (lim .words) (recordIn slot .diff) ≡ 0
 
 -- the records, with the counts and the own entries

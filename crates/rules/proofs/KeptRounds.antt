@@ -13,35 +13,27 @@ use Rattle.clock.proofs.Laws.{length-joined, entryOf-joined}
 use Rattle.rules.specs.State.{Limits, Counts, Holder, Processor, Barrier, Applied, Interval, Clocks, clockOf, withClock, cleared, State, clock, own}
 use Rattle.rules.specs.Close.{raised, ticked}
 use Rattle.rules.specs.Steps.{learned, allLearned, allCleared}
-use Rattle.rules.proofs.Holders.{clock-of-with-same, entry-raised-own, entry-raised-other, length-raised, entry-cleared, length-cleared, clock-of-all-cleared}
+use Rattle.rules.proofs.Holders.{clock-of-with-same, Knows, Carrier, barrier-carries, entry-raised-own, entry-raised-other, length-raised, entry-cleared, length-cleared, clock-of-all-cleared}
 use Rattle.rules.proofs.Facts.{Within}
 use Rattle.rules.proofs.Rows.{rows-map-all}
 use Rattle.rules.proofs.KeptParts.{presentAmong, among-says, among-when, ownIn, CountsInOrder, ClocksSized, ClocksInOrder}
-use Rattle.rules.proofs.KeptMoves.{barrier-set, interval-set, own-same, own-other, processor-set}
-
--- clocks in order that leave every processor's own entry as it was
-pub record OwnKept (lim : Limits) (n : Counts) (c after : Clocks) : Type 0 where
-  pub in-order : ClocksInOrder lim n after
-  pub own-kept : (q : ℕ) → ownIn after q ≡ ownIn c q
+use Rattle.rules.proofs.KeptMoves.{OwnKept, kept-again, knows-within, carrier-set, interval-set, own-same, own-other, processor-set}
 
 -- ---- one clock learns another
 
 -- a processor learns a holder's clock
 pub processor-learned : (lim : Limits) (n : Counts) (c : Clocks) (p : ℕ) (from : Holder) → CountsInOrder lim n → ClocksInOrder lim n c → presentAmong n p ≡ true
     → Within lim from → OwnKept lim n c (learned c (Processor p) from)
-unfolding learned Within
+unfolding learned Knows
 processor-learned lim n c p from k f a w =
     record {
       in-order =
           processor-set lim n c p v k f a
-          (omega (arith, length-joined (clockOf c (Processor p)) (clockOf c from), f .sized .clocks (Processor p) (b .0, omega (arith, b .1, k .processors-fit)), f .sized .clocks from w))
+          (omega (arith, length-joined (clockOf c (Processor p)) (clockOf c from), f .sized .clocks (Processor p) (knows-within lim n k (Processor p) (among-says n p a)), f .sized .clocks from w))
           (λ q. omega (arith, entry q)) (omega (arith, entry p, f .known from p, f .own-fits p)) (λ q d. omega (arith, entry q, f .known from q, f .known (Processor p) q));
       own-kept = λ q. go q (ℕ-discrete q p);
     }
   where
-    b : (1 ≤ p) × (p ≤ n .processors)
-    b = among-says n p a
-
     v : List ℕ
     v = joined (clockOf c (Processor p)) (clockOf c from)
 
@@ -52,21 +44,21 @@ processor-learned lim n c p from k f a w =
     go q (yes d) = rw d (omega (arith, own-same c p v, entry p, f .known from p))
     go q (no d) = own-other c p q v d
 
--- the barrier learns a processor's clock
-pub barrier-learned : (lim : Limits) (n : Counts) (c : Clocks) (p : ℕ) → CountsInOrder lim n → ClocksInOrder lim n c → presentAmong n p ≡ true
-    → OwnKept lim n c (learned c Barrier (Processor p))
-unfolding learned Within withClock clockOf
-barrier-learned lim n c p k f a =
-    record {
-      in-order =
-          barrier-set lim n c (joined (clockOf c Barrier) (clockOf c (Processor p))) f
-          (omega (arith, length-joined (clockOf c Barrier) (clockOf c (Processor p)), f .sized .clocks (Processor p) (b .0, omega (arith, b .1, k .processors-fit)), f .sized .clocks Barrier tt))
-          (λ q. omega (arith, entryOf-joined (clockOf c Barrier) (clockOf c (Processor p)) q, f .known Barrier q, f .known (Processor p) q));
-      own-kept = λ q. refl;
-    }
-  where
-    b : (1 ≤ p) × (p ≤ n .processors)
-    b = among-says n p a
+-- a carrier learns a processor's clock
+pub carrier-learned : (lim : Limits) (n : Counts) (c : Clocks) (h : Holder) (p : ℕ) → CountsInOrder lim n → ClocksInOrder lim n c → Carrier n h → presentAmong n p ≡ true
+    → OwnKept lim n c (learned c h (Processor p))
+unfolding learned Knows
+carrier-learned lim n c h p k f carrier a =
+    carrier-set lim n c h (joined (clockOf c h) (clockOf c (Processor p))) k f carrier
+    (omega (arith, length-joined (clockOf c h) (clockOf c (Processor p)), f .sized .clocks (Processor p) (knows-within lim n k (Processor p) (among-says n p a)), f .sized .clocks h (knows-within lim n k h (carrier .knows))))
+    (λ q. omega (arith, entryOf-joined (clockOf c h) (clockOf c (Processor p)) q, f .known h q, f .known (Processor p) q))
+
+-- a carrier's clock becomes a processor's
+pub carrier-handed : (lim : Limits) (n : Counts) (c : Clocks) (h : Holder) (p : ℕ) → CountsInOrder lim n → ClocksInOrder lim n c → Carrier n h → presentAmong n p ≡ true
+    → OwnKept lim n c (withClock c h (clockOf c (Processor p)))
+unfolding Knows
+carrier-handed lim n c h p k f carrier a =
+    carrier-set lim n c h (clockOf c (Processor p)) k f carrier (f .sized .clocks (Processor p) (knows-within lim n k (Processor p) (among-says n p a))) (f .known (Processor p))
 
 -- ---- a round completes
 
@@ -75,21 +67,17 @@ unfolding allLearned Within
 all-learned lim n c zero k f h = record { in-order = f; own-kept = λ q. refl }
 all-learned lim n c (suc i) k f h =
     let r = all-learned lim n c i k f (omega arith) in
-    let t = processor-learned lim n (allLearned c i) (suc i) Barrier k (r .in-order) (among-when n (suc i) (omega arith) h) tt in
-    record { in-order = t .in-order; own-kept = λ q. t .own-kept q ∙ r .own-kept q }
+    kept-again r (processor-learned lim n (allLearned c i) (suc i) Barrier k (r .in-order) (among-when n (suc i) (omega arith) h) tt)
 
 -- every processor learns the barrier's clock, which returns to zeros
 pub round-clocks : (lim : Limits) (n : Counts) (c : Clocks) → CountsInOrder lim n → ClocksInOrder lim n c
     → OwnKept lim n c (withClock (allLearned c (n .processors)) Barrier (cleared (c .barrier)))
-unfolding withClock clockOf Within
+unfolding clockOf Within
 round-clocks lim n c k f =
     let r = all-learned lim n c (n .processors) k f (omega arith) in
-    record {
-      in-order =
-          barrier-set lim n (allLearned c (n .processors)) (cleared (c .barrier)) (r .in-order) (length-cleared (c .barrier) ∙ f .sized .clocks Barrier tt)
-          (λ q. omega (arith, entry-cleared (c .barrier) q));
-      own-kept = r .own-kept;
-    }
+    kept-again r
+    (carrier-set lim n (allLearned c (n .processors)) Barrier (cleared (c .barrier)) k (r .in-order) (barrier-carries n) (length-cleared (c .barrier) ∙ f .sized .clocks Barrier tt)
+    (λ q. omega (arith, entry-cleared (c .barrier) q)))
 
 -- ---- an interval ends
 

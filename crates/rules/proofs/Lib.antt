@@ -15,6 +15,7 @@ pub mod InOrderSays
 pub mod InOrderWhen
 pub mod OpenedInOrder
 pub mod KeptParts
+pub mod KindsOfSteps
 pub mod Accepted
 pub mod KeptClocks
 pub mod KeptMoves
@@ -33,6 +34,7 @@ pub mod InOrderRuns
 pub mod Timeline
 pub mod Ghosts
 pub mod StrictOrder
+pub mod Counted
 pub mod ActionKinds
 pub mod MarksAfter
 pub mod NobodyArrived
@@ -40,6 +42,7 @@ pub mod Allowed
 pub mod Rounds
 pub mod NumbersAfter
 pub mod Numbers
+pub mod Carrying
 pub mod NumbersFollow
 -- one word
 pub mod WordOfRecords

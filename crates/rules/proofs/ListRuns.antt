@@ -11,7 +11,7 @@ use Rattle.rules.specs.State.{Limits, Counts, State}
 use Rattle.rules.specs.InOrder.{countsInRange}
 use Rattle.rules.specs.Opening.{opened}
 use Rattle.rules.specs.Steps.{read}
-use Rattle.rules.specs.Refusals.{Step, Action, Read, actionOf, known, refusalInOrder, effect, Answer, refusedAs, answerInOrder, nextInOrder}
+use Rattle.rules.specs.Refusals.{Step, Action, Read, actionOf, knownKind, refusalBy, refusalInOrder, effect, Answer, refusedAs, answerInOrder, nextInOrder}
 use Rattle.rules.specs.Runs.{answersInOrder, stateInOrder}
 use Rattle.rules.specs.Order.{Event, events, noEvent, eventAt, Took}
 use Rattle.rules.specs.Demand.{valueAt}
@@ -40,7 +40,7 @@ answer-value lim s t e = rw e
 
 -- past the end of the list nothing happens
 idle-refused : (lim : Limits) (s : State) → refusalInOrder lim s (noEvent .step) ≡ 3
-unfolding refusalInOrder actionOf known noEvent
+unfolding refusalInOrder refusalBy knownKind noEvent
 idle-refused lim s = refl
 
 idle-stays : (lim : Limits) (s : State) → nextInOrder lim s (noEvent .step) ≡ s

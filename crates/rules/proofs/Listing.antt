@@ -11,8 +11,8 @@ use Rattle.rules.specs.InOrder.{present, slotSize, dirtyPages}
 use Rattle.rules.specs.Opening.{rows, zeroClocks, zeroPages, opened}
 use Rattle.rules.specs.Close.{differ, changed, anyChanged, raised, ticked, newRecord, recorded, cleaned, closed}
 use Rattle.rules.specs.Fetch.{isPending, sumAt, earlier, due, appliedAll, withCopy, fetched, fetchCount}
-use Rattle.rules.specs.Steps.{pageOfWord, offsetOfWord, wordOf, read, twinTaken, stored, write, withHolder, learned, acquire, release, atBarrier, allArrived, allLearned, roundDone, pagesFetched, allFetched, allCleared, emptied, collected, wantsCollection, arrive, want}
-use Rattle.rules.specs.Refusals.{Step, actionOf, known, fits, lateRefusal, refusalInOrder, effect, Answer, refusedAs, answerInOrder, nextInOrder, refusal}
+use Rattle.rules.specs.Steps.{pageOfWord, offsetOfWord, wordOf, read, newTwin, twinTaken, stored, write, withHolder, learned, acquire, release, atBarrier, allArrived, allLearned, roundDone, pagesFetched, allFetched, allCleared, emptied, collected, wantsCollection, arrive, want}
+use Rattle.rules.specs.Refusals.{Step, actionOf, knownKind, objectBound, usesValue, fits, lateRefusal, refusalBy, refusalInOrder, effect, Answer, refusedAs, answerInOrder, nextInOrder}
 use Rattle.rules.specs.Runs.{answersInOrder, stateInOrder}
 
 -- the six kinds of step: a processor, then the word or lock, then the value
@@ -36,7 +36,7 @@ wants p = record { kind = 6; processor = p; object = 0; value = 0 }
 
 -- the mainframe opened with so many processors, pages and locks; who unfolds it unfolds the rules that a run computes with
 unfoldable pub start : ℕ → ℕ → ℕ → State
-unfolding mainframe zeros joined entryOf sumOf setting difference ended runsFrom runs setWords pairBytes wordBytes wordsBytes bytesOf written runCount runsAt runsIn wordsPlace wordAt wordsAt wordCount settingsOf settings overlay applied differ changed anyChanged raised ticked newRecord recorded cleaned closed isPending sumAt earlier due appliedAll withCopy fetched fetchCount present slotSize dirtyPages rows zeroClocks zeroPages opened actionOf known fits lateRefusal refusalInOrder effect refusedAs answerInOrder nextInOrder answersInOrder stateInOrder clockOf withClock cleared copyOf twinOf dirtyAt slotBytes recordIn recordsOf laidOver appended clock own standing holder hasArrived pageOfWord offsetOfWord wordOf read twinTaken stored write withHolder learned acquire release atBarrier allArrived allLearned roundDone pagesFetched allFetched allCleared emptied collected wantsCollection arrive want put putCell every any total select insertBy sortBy
+unfolding mainframe zeros joined entryOf sumOf setting difference ended runsFrom runs setWords pairBytes wordBytes wordsBytes bytesOf written runCount runsAt runsIn wordsPlace wordAt wordsAt wordCount settingsOf settings overlay applied differ changed anyChanged raised ticked newRecord recorded cleaned closed isPending sumAt earlier due appliedAll withCopy fetched fetchCount present slotSize dirtyPages rows zeroClocks zeroPages opened actionOf knownKind objectBound usesValue fits lateRefusal refusalBy refusalInOrder effect refusedAs answerInOrder nextInOrder answersInOrder stateInOrder clockOf withClock cleared copyOf twinOf dirtyAt slotBytes recordIn recordsOf laidOver appended clock own standing holder hasArrived pageOfWord offsetOfWord wordOf read newTwin twinTaken stored write withHolder learned acquire release atBarrier allArrived allLearned roundDone pagesFetched allFetched allCleared emptied collected wantsCollection arrive want put putCell every any total select insertBy sortBy
 start processors pages locks = opened mainframe (record { processors = processors; pages = pages; locks = locks })
 
 -- an answer: refusal, value and count

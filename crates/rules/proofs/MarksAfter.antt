@@ -1,5 +1,5 @@
--- What each kind of step leaves of the marks: the holder of each lock, and who has arrived at the barrier. Rests on Ghosts. Assumes
--- nothing.
+-- What each kind of step leaves of the marks: the holder of each lock, and who has arrived at the barrier and rests there. Rests on
+-- KeptParts and Ghosts. Assumes nothing.
 use Prim.Native.Nat.{ℕ}
 use mathlib.Core.Path.{_≡_, refl, ap, _∙_}
 use mathlib.Core.Bool.{Bool, true, false, cond, not}
@@ -14,6 +14,7 @@ use Rattle.rules.specs.Steps.{read, write, withHolder, acquire, release,
 use Rattle.rules.specs.Refusals.{Action, Read, Write, Acquire, Release, Arrive, Want, Unknown, effect}
 use Rattle.rules.proofs.Tables.{get-put, get-map}
 use Rattle.rules.proofs.Fetches.{all-fetched-marks}
+use Rattle.rules.proofs.KeptParts.{arrivedIn}
 use Rattle.rules.proofs.Ghosts.{completes}
 
 -- ---- an arrival
@@ -65,6 +66,31 @@ marked-cleared l q = rw (get-map {B = ℕ} (λ mark. 0) 0 l q)
 pub arrived-at-barrier : (s : State) (p q : ℕ) → hasArrived (atBarrier s p) q ≡ cond (eqb q p) true (hasArrived s q)
 unfolding hasArrived atBarrier closed marked
 arrived-at-barrier s p q = marked-put (s .marks .arrived) p q
+
+-- ---- who rests
+
+-- whether the marks say of a processor that it does nothing until others have acted: it has arrived
+unfoldable pub restsIn : Marks → ℕ → Bool
+restsIn m p = arrivedIn m p
+
+-- the same of a state
+abbrev pub rests : State → ℕ → Bool
+rests s p = restsIn (s .marks) p
+
+-- who has arrived rests
+pub arrived-rests : (s : State) (p : ℕ) → hasArrived s p ≡ true → rests s p ≡ true
+unfolding hasArrived restsIn
+arrived-rests s p e = e
+
+-- so who does not rest has not arrived
+pub awake-not-arrived : (s : State) (p : ℕ) → rests s p ≡ false → hasArrived s p ≡ false
+unfolding hasArrived restsIn
+awake-not-arrived s p e = e
+
+-- at the barrier the arriving processor rests, and who rested
+pub rests-at-barrier : (s : State) (p q : ℕ) → rests (atBarrier s p) q ≡ cond (eqb q p) true (rests s q)
+unfolding hasArrived restsIn
+rests-at-barrier s p q = arrived-at-barrier s p q
 
 -- ---- the holder of each lock after a step
 

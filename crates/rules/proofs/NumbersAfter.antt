@@ -9,9 +9,9 @@ use borrow.Author.Tests.{eqb-true, ne-eqb}
 use Rattle.rules.specs.State.{Limits, Holder, Processor, Lock, Barrier, Applied, Interval, State, holder, hasArrived}
 use Rattle.rules.specs.Refusals.{Action, Read, Write, Acquire, Release, Arrive, Want, Unknown, effect}
 use Rattle.rules.proofs.Holders.{sameHolder, same-holder-refl, same-holder}
-use Rattle.rules.proofs.Ghosts.{Ghost, withNumber, roundNumbers, completes, arrivedNumbers, ghostAfter}
+use Rattle.rules.proofs.Ghosts.{Ghost, withNumber, learnedNumbers, roundNumbers, completes, arrivedNumbers, ghostAfter}
 use Rattle.rules.proofs.ActionKinds.{writesTo}
-use Rattle.rules.proofs.MarksAfter.{holderAfter, holder-after, arrivedAfter, arrived-after}
+use Rattle.rules.proofs.MarksAfter.{awake-not-arrived, holderAfter, holder-after, arrivedAfter, arrived-after}
 use Rattle.rules.proofs.Allowed.{Allowed}
 
 -- ---- the numbers with one of them replaced
@@ -37,9 +37,24 @@ with-number-grows f h n below k = go (sameHolder h k) refl
     go true e = rw (← same-holder h k e) below
     go false e = omega arith
 
-with-number-other : (f : Holder → ℕ) (p n q : ℕ) → (q ≡ p → ⊥) → withNumber f (Processor p) n (Processor q) ≡ f (Processor q)
-unfolding withNumber sameHolder
-with-number-other f p n q h = rw (ne-eqb q p h)
+with-number-other : (f : Holder → ℕ) (h : Holder) (n : ℕ) (k : Holder) → sameHolder h k ≡ false → withNumber f h n k ≡ f k
+unfolding withNumber
+with-number-other f h n k e = rw e
+
+-- ---- a holder that learns what another knows
+
+-- it knows that then
+pub learner-knows : (f : Holder → ℕ) (to from : Holder) → f from ≤ learnedNumbers f to from to
+learner-knows f to from = omega (arith, with-number-same f to (max (f to) (f from)))
+
+-- and no number comes above what none was above, or falls
+pub learned-at-most : (f : Holder → ℕ) (to from : Holder) (m : ℕ) → ((k : Holder) → f k ≤ m) → (k : Holder) → learnedNumbers f to from k ≤ m
+learned-at-most f to from m all = with-number-at-most f to (max (f to) (f from)) m (omega (arith, all to, all from)) all
+
+learned-grows : (f : Holder → ℕ) (to from k : Holder) → f k ≤ learnedNumbers f to from k
+learned-grows f to from = with-number-grows f to (max (f to) (f from)) (omega arith)
+
+-- ---- a completed round
 
 round-numbers-at-most : (f : Holder → ℕ) (m : ℕ) → ((k : Holder) → f k ≤ m) → (k : Holder) → roundNumbers f k ≤ m
 unfolding roundNumbers
@@ -71,16 +86,12 @@ module _ (n w : ℕ) (s : State) (p : ℕ) (γ : Ghost) where
       go : (b : Bool) → cond b (withNumber (γ .known) (Processor p) (γ .writes + 1)) (γ .known) h ≤ cond b (γ .writes + 1) (γ .writes)
       go true = with-number-at-most (γ .known) (Processor p) (γ .writes + 1) (γ .writes + 1) (omega arith) (λ i. omega (arith, k .at-most i)) h
       go false = k .at-most h
-  at-most-after k (Acquire l) h =
-      with-number-at-most (γ .known) (Processor p) (max (γ .known (Processor p)) (γ .known (Lock l))) (γ .writes)
-      (omega (arith, k .at-most (Processor p), k .at-most (Lock l))) (k .at-most) h
+  at-most-after k (Acquire l) h = learned-at-most (γ .known) (Processor p) (Lock l) (γ .writes) (k .at-most) h
   at-most-after k (Release l) h = with-number-at-most (γ .known) (Lock l) (γ .known (Processor p)) (γ .writes) (k .at-most (Processor p)) (k .at-most) h
   at-most-after k Arrive h = go (completes s p)
     where
-      arrived : (i : Holder) → withNumber (γ .known) Barrier (max (γ .known Barrier) (γ .known (Processor p))) i ≤ γ .writes
-      arrived =
-          with-number-at-most (γ .known) Barrier (max (γ .known Barrier) (γ .known (Processor p))) (γ .writes)
-          (omega (arith, k .at-most (Processor p), k .at-most Barrier)) (k .at-most)
+      arrived : (i : Holder) → arrivedNumbers γ p i ≤ γ .writes
+      arrived = learned-at-most (γ .known) Barrier (Processor p) (γ .writes) (k .at-most)
 
       go : (b : Bool) → cond b (roundNumbers (arrivedNumbers γ p)) (arrivedNumbers γ p) h ≤ γ .writes
       go true = round-numbers-at-most (arrivedNumbers γ p) (γ .writes) arrived h
@@ -97,7 +108,7 @@ module _ (n w : ℕ) (s : State) (p : ℕ) (γ : Ghost) where
       go : (b : Bool) → γ .known (Processor q) ≤ cond b (withNumber (γ .known) (Processor p) (γ .writes + 1)) (γ .known) (Processor q)
       go true = with-number-grows (γ .known) (Processor p) (γ .writes + 1) (omega (arith, k .at-most (Processor p))) (Processor q)
       go false = omega arith
-  processor-grows k (Acquire l) q = with-number-grows (γ .known) (Processor p) (max (γ .known (Processor p)) (γ .known (Lock l))) (omega arith) (Processor q)
+  processor-grows k (Acquire l) q = learned-grows (γ .known) (Processor p) (Lock l) (Processor q)
   processor-grows k (Release l) q = omega arith
   processor-grows k Arrive q = go (completes s p)
     where
@@ -143,16 +154,9 @@ module _ (n w : ℕ) (s : State) (p : ℕ) (γ : Ghost) where
   holder-knows-after k (Acquire i) l h = go (eqb l i) refl h
     where
       go : (b : Bool) → eqb l i ≡ b → (cond b p (holder s l) ≡ 0 → ⊥)
-          → γ .known (Lock l) ≤ withNumber (γ .known) (Processor p) (max (γ .known (Processor p)) (γ .known (Lock i))) (Processor (cond b p (holder s l)))
-      go true e h =
-          rw (eqb-true l i e)
-          (omega (arith, with-number-same (γ .known) (Processor p) (max (γ .known (Processor p)) (γ .known (Lock i)))))
-      go false e h =
-          omega (
-            arith,
-            k .holder-knows l h,
-            with-number-grows (γ .known) (Processor p) (max (γ .known (Processor p)) (γ .known (Lock i))) (omega arith) (Processor (holder s l)),
-          )
+          → γ .known (Lock l) ≤ learnedNumbers (γ .known) (Processor p) (Lock i) (Processor (cond b p (holder s l)))
+      go true e h = rw (eqb-true l i e) (learner-knows (γ .known) (Processor p) (Lock i))
+      go false e h = omega (arith, k .holder-knows l h, learned-grows (γ .known) (Processor p) (Lock i) (Processor (holder s l)))
   holder-knows-after k (Release i) l h = go (eqb l i) h
     where
       go : (b : Bool) → (cond b 0 (holder s l) ≡ 0 → ⊥)
@@ -169,8 +173,10 @@ module _ (n w : ℕ) (s : State) (p : ℕ) (γ : Ghost) where
   holder-knows-after k Want l h = k .holder-knows l h
   holder-knows-after k Unknown l h = k .holder-knows l h
 
-  not-the-taker : (a : Action) → Allowed n s p a → (q : ℕ) → hasArrived s q ≡ true → q ≡ p → ⊥
-  not-the-taker a al q h e = false≢true (sym (al .not-arrived) ∙ (rw e at h))
+  -- who has arrived does not act, so a step leaves its number
+  not-the-taker : (a : Action) → Allowed n s p a → (q : ℕ) → hasArrived s q ≡ true → sameHolder (Processor p) (Processor q) ≡ false
+  unfolding sameHolder
+  not-the-taker a al q h = ne-eqb q p (λ e. false≢true (sym (awake-not-arrived s p (al .not-resting)) ∙ (rw e at h)))
 
   arrived-knows-after : Knowing n s γ → (a : Action) → Allowed n s p a → (q : ℕ) → arrivedAfter s p a q ≡ true
       → ghostAfter w s p a γ .known (Processor q) ≤ ghostAfter w s p a γ .known Barrier
@@ -181,12 +187,12 @@ module _ (n w : ℕ) (s : State) (p : ℕ) (γ : Ghost) where
       go : (b : Bool)
           → cond b (withNumber (γ .known) (Processor p) (γ .writes + 1)) (γ .known) (Processor q)
           ≤ cond b (withNumber (γ .known) (Processor p) (γ .writes + 1)) (γ .known) Barrier
-      go true = omega (arith, with-number-other (γ .known) p (γ .writes + 1) q (not-the-taker (Write x v) al q h), k .arrived-knows q h)
+      go true = omega (arith, with-number-other (γ .known) (Processor p) (γ .writes + 1) (Processor q) (not-the-taker (Write x v) al q h), k .arrived-knows q h)
       go false = k .arrived-knows q h
   arrived-knows-after k (Acquire l) al q h =
       omega (
         arith,
-        with-number-other (γ .known) p (max (γ .known (Processor p)) (γ .known (Lock l))) q (not-the-taker (Acquire l) al q h),
+        with-number-other (γ .known) (Processor p) (max (γ .known (Processor p)) (γ .known (Lock l))) (Processor q) (not-the-taker (Acquire l) al q h),
         k .arrived-knows q h,
       )
   arrived-knows-after k (Release l) al q h = k .arrived-knows q h

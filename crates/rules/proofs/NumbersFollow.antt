@@ -1,21 +1,22 @@
 -- The numbers of known writes (ghosts) follow happens-before-1, so a processor whose step every earlier write to w is before knows all of
--- them. Rests on Numbers. Assumes nothing.
-use Prim.Native.Nat.{ℕ, zero, suc, _≤_, _<_, max}
+-- them. Rests on Carrying and Numbers. Assumes nothing.
+use Prim.Native.Nat.{ℕ, zero, suc, _≤_}
 use native.Mathlib.Omega.{arith}
 use mathlib.Core.Path.{_≡_, refl, sym, ap, _∙_}
 use mathlib.Core.Bool.{Bool, true, false, cond}
 use mathlib.Core.Logic.{_⊎_, inl, inr}
 use mathlib.Core.List.{List}
 use Rattle.rules.specs.State.{Limits, Counts, Processor, Lock, State}
-use Rattle.rules.specs.Refusals.{Action, Read, Write, Acquire, Release, Arrive, Want, Unknown, actionOf}
-use Rattle.rules.specs.Order.{Event, eventAt, Took, rounds, Before, program, lock, round, chain}
+use Rattle.rules.specs.Refusals.{Action, Read, Write, Acquire, Release, Arrive, Want, Unknown}
+use Rattle.rules.specs.Order.{Event, eventAt, Took, Before}
 use Rattle.rules.specs.Demand.{valueField, lastWritten, EarlierWrite}
 use Rattle.rules.proofs.Holders.{sameHolder}
 use Rattle.rules.proofs.Timeline.{Timeline, Moment, Refused, Taken, moment}
 use Rattle.rules.proofs.Ghosts.{Ghost, withNumber, ghostAfter, ghostAt, ghost-refused, ghost-taken}
 use Rattle.rules.proofs.ActionKinds.{writesTo, valueOf, writes-to-is, took-write, refused-write, took-value}
-use Rattle.rules.proofs.NumbersAfter.{with-number-same, writes-after, writer-knows}
+use Rattle.rules.proofs.NumbersAfter.{with-number-same, learner-knows, writes-after, writer-knows}
 use Rattle.rules.proofs.Numbers.{known-at-most-writes, processor-never-falls, lock-never-falls, round-tells}
+use Rattle.rules.proofs.Carrying.{Telling, told-at-once, carries-strictly}
 
 -- ---- what a release and an acquire hand on
 
@@ -26,7 +27,7 @@ module _ (w : ℕ) (s : State) (p : ℕ) (γ : Ghost) where
 
   acquire-takes-over : (l : ℕ) → γ .known (Lock l) ≤ ghostAfter w s p (Acquire l) γ .known (Processor p)
   unfolding ghostAfter
-  acquire-takes-over l = omega (arith, with-number-same (γ .known) (Processor p) (max (γ .known (Processor p)) (γ .known (Lock l))))
+  acquire-takes-over l = learner-knows (γ .known) (Processor p) (Lock l)
 
   -- the last value after a step
   last-after : (a : Action) → ghostAfter w s p a γ .last ≡ cond (writesTo w a) (valueField (valueOf a)) (γ .last)
@@ -40,61 +41,36 @@ module _ (w : ℕ) (s : State) (p : ℕ) (γ : Ghost) where
   last-after Unknown = refl
 
 module _ (lim : Limits) (c : Counts) (es : List Event) (r : Timeline lim c es) (w : ℕ) where
-  -- ---- the numbers of a step's processor just before and just after the step
+  -- ---- what the order carries
 
-  unfoldable pub knownBefore : ℕ → ℕ
-  knownBefore j = ghostAt lim c es r w j .known (Processor (eventAt es j .step .processor))
+  -- what a processor and a lock know at a time
+  abbrev known : ℕ → ℕ → ℕ
+  known t q = ghostAt lim c es r w t .known (Processor q)
 
-  unfoldable pub knownAfter : ℕ → ℕ
-  knownAfter j = ghostAt lim c es r w (suc j) .known (Processor (eventAt es j .step .processor))
+  abbrev lockKnown : ℕ → ℕ → ℕ
+  lockKnown t l = ghostAt lim c es r w t .known (Lock l)
 
-  known-before : (j p : ℕ) (a : Action) → Took es j p a → knownBefore j ≡ ghostAt lim c es r w j .known (Processor p)
-  unfolding knownBefore
-  known-before j p a took = ap (λ (q : ℕ). ghostAt lim c es r w j .known (Processor q)) (took .processor)
+  -- nobody waits: the acquire of a held lock is refused
+  abbrev waits : ℕ → ℕ → Bool
+  waits t q = false
 
-  known-after : (j p : ℕ) (a : Action) → Took es j p a → knownAfter j ≡ ghostAt lim c es r w (suc j) .known (Processor p)
-  unfolding knownAfter
-  known-after j p a took = ap (λ (q : ℕ). ghostAt lim c es r w (suc j) .known (Processor q)) (took .processor)
+  abbrev WaitsFor : ℕ → ℕ → ℕ → Type 0
+  WaitsFor t q l = ⊥
 
-  known-grows : (j : ℕ) → knownBefore j ≤ knownAfter j
-  unfolding knownBefore knownAfter
-  known-grows j = processor-never-falls lim c es r w (eventAt es j .step .processor) j (suc j) (omega arith)
-
-  -- program order and rounds tell a step's processor before the step
-  program-tells : (i j p : ℕ) (a b : Action) → Took es i p a → Took es j p b → i < j → knownAfter i ≤ knownBefore j
-  program-tells i j p a b from to l =
-      omega (arith, known-after i p a from, known-before j p b to, processor-never-falls lim c es r w p (suc i) j l)
-
-  round-order-tells : (i j p q : ℕ) (b : Action) → Took es i p Arrive → Took es j q b
-      → rounds (c .processors) es i < rounds (c .processors) es j → knownAfter i ≤ knownBefore j
-  round-order-tells i j p q b from to l =
-      omega (arith, known-after i p Arrive from, known-before j q b to, round-tells lim c es r w i p from j l q)
-
-  -- a lock tells it with the acquire
-  lock-tells : (i j p q l : ℕ) → Took es i p (Release l) → Took es j q (Acquire l) → i < j → knownAfter i ≤ knownAfter j
-  lock-tells i j p q l from to h =
-      omega (arith, known-after i p (Release l) from, known-after j q (Acquire l) to, handed, lock-never-falls lim c es r w l (suc i) j h, taken)
-    where
-      handed : ghostAt lim c es r w (suc i) .known (Processor p) ≤ ghostAt lim c es r w (suc i) .known (Lock l)
-      handed = rw (ghost-taken lim c es r w i p (Release l) from) (release-hands-on w (r .state i) p (ghostAt lim c es r w i) l)
-
-      taken : ghostAt lim c es r w j .known (Lock l) ≤ ghostAt lim c es r w (suc j) .known (Processor q)
-      taken = rw (ghost-taken lim c es r w j q (Acquire l) to) (acquire-takes-over w (r .state j) q (ghostAt lim c es r w j) l)
-
-  -- the numbers follow the order
-  pub numbers-follow : (i j : ℕ) → Before (c .processors) es i j → knownAfter i ≤ knownAfter j
-  numbers-follow i j (program p a b from to h) = omega (arith, program-tells i j p a b from to h, known-grows j)
-  numbers-follow i j (lock p q l from to h) = lock-tells i j p q l from to h
-  numbers-follow i j (round p q b from to h) = omega (arith, round-order-tells i j p q b from to h, known-grows j)
-  numbers-follow i j (chain k a b) = omega (arith, numbers-follow i k a, numbers-follow k j b)
-
-  -- and at a step that is no acquire its processor has the number already before the step
-  pub numbers-follow-strictly : (i j : ℕ) → Before (c .processors) es i j → ((l : ℕ) → actionOf (eventAt es j .step) ≡ Acquire l → ⊥)
-      → knownAfter i ≤ knownBefore j
-  numbers-follow-strictly i j (program p a b from to h) none-acquired = program-tells i j p a b from to h
-  numbers-follow-strictly i j (lock p q l from to h) none-acquired = absurd (none-acquired l (to .action))
-  numbers-follow-strictly i j (round p q b from to h) none-acquired = round-order-tells i j p q b from to h
-  numbers-follow-strictly i j (chain k a b) none-acquired = omega (arith, numbers-follow i k a, numbers-follow-strictly k j b none-acquired)
+  -- the numbers of known writes are told along the order
+  numbers-tell : Telling (c .processors) es known lockKnown waits WaitsFor
+  numbers-tell =
+      record {
+        grows = λ q t. processor-never-falls lim c es r w q t (suc t) (omega arith);
+        lock-grows = λ l t. lock-never-falls lim c es r w l t (suc t) (omega arith);
+        acts-awake = λ t p a took. refl;
+        stays-awake = λ t p a took e. refl;
+        release-tells = λ t p l took. rw (known, lockKnown, ghost-taken lim c es r w t p (Release l) took) (release-hands-on w (r .state t) p (ghostAt lim c es r w t) l);
+        acquire-told = λ t q l took. inr (rw (known, lockKnown, ghost-taken lim c es r w t q (Acquire l) took) (acquire-takes-over w (r .state t) q (ghostAt lim c es r w t) l));
+        waiting-told = λ t q l z. absurd z;
+        waits-for = λ t q l z. absurd z;
+        round-tells = round-tells lim c es r w;
+      }
 
   -- ---- the last write to w
 
@@ -104,7 +80,7 @@ module _ (lim : Limits) (c : Counts) (es : List Event) (r : Timeline lim c es) (
     processor : ℕ
     value : ℕ
     write : EarlierWrite es w t place processor value
-    knew : knownAfter place ≡ ghostAt lim c es r w t .writes
+    knew : ghostAt lim c es r w (suc place) .known (Processor processor) ≡ ghostAt lim c es r w t .writes
 
   no-write-or-last : (t : ℕ) → (ghostAt lim c es r w t .writes ≡ 0) ⊎ LastWrite t
   unfolding ghostAt
@@ -137,9 +113,7 @@ module _ (lim : Limits) (c : Counts) (es : List Event) (r : Timeline lim c es) (
                   wrote = record { accepted = took .accepted; processor = took .processor; action = took .action ∙ writes-to-is w a e };
                   earlier = omega arith;
                 };
-            knew =
-                known-after t p a took
-                ∙ rw (ghost-taken lim c es r w t p a took) (writer-knows (c .processors) w (r .state t) p (ghostAt lim c es r w t) a e);
+            knew = rw (ghost-taken lim c es r w t p a took) (writer-knows (c .processors) w (r .state t) p (ghostAt lim c es r w t) a e);
           })
       taken p a took false e ih =
           kept (rw (ghost-taken lim c es r w t p a took) (writes-after (c .processors) w (r .state t) p (ghostAt lim c es r w t) a e)) ih
@@ -161,14 +135,11 @@ module _ (lim : Limits) (c : Counts) (es : List Event) (r : Timeline lim c es) (
       go : (ghostAt lim c es r w j .writes ≡ 0) ⊎ LastWrite j → ghostAt lim c es r w j .known (Processor p) ≡ ghostAt lim c es r w j .writes
       go (inl e) = omega (arith, most, e)
       go (inr l) =
-          omega (
-            arith,
-            most,
-            l .knew,
-            known-before j p a took,
-            numbers-follow-strictly (l .place) j (before (l .place) (l .processor) (l .value) (l .write))
-                (λ k e. none-acquired k (sym (took .action) ∙ e)),
-          )
+          let x = ghostAt lim c es r w j .writes in
+          let all =
+          carries-strictly numbers-tell (l .place) j (before (l .place) (l .processor) (l .value) (l .write)) (λ k e. none-acquired k (sym (took .action) ∙ e)) x
+          (rw (l .write .wrote .processor) (told-at-once numbers-tell x (l .place) (l .processor) (omega (arith, l .knew)))) in
+          omega (arith, most, rw (took .processor) at all)
 
   -- the ghost's last value is the value field of the last write
   pub last-is-last-written : (j : ℕ) → ghostAt lim c es r w j .last ≡ lastWritten es w j

@@ -18,7 +18,7 @@ use Rattle.rules.proofs.OpenedInOrder.{opened-not-arrived}
 use Rattle.rules.proofs.Timeline.{Timeline, Moment, Refused, Taken, moment, counts-stay}
 use Rattle.rules.proofs.Ghosts.{completes}
 use Rattle.rules.proofs.ActionKinds.{arrives, took-arrival, refused-arrival}
-use Rattle.rules.proofs.MarksAfter.{arrived-at-barrier, arrivedAfter, arrived-after}
+use Rattle.rules.proofs.MarksAfter.{arrived-at-barrier, awake-not-arrived, arrivedAfter, arrived-after}
 use Rattle.rules.proofs.Allowed.{Allowed, allowed, took-allowed}
 
 -- ---- tests counted
@@ -95,7 +95,7 @@ arrivals-arrive n lim s p al = go (completes s p) (arrived-after lim s p Arrive)
     go true h = arrivals-none n (effect lim s p Arrive .after) h
     go false h =
         arrivals-same n (atBarrier s p) (effect lim s p Arrive .after) (λ q. h q ∙ sym (arrived-at-barrier s p q))
-        ∙ arrivals-at-barrier n s p (al .from) (al .to) (al .not-arrived)
+        ∙ arrivals-at-barrier n s p (al .from) (al .to) (awake-not-arrived s p (al .not-resting))
 
 arrivals-after : (n : ℕ) (lim : Limits) (s : State) (p : ℕ) (a : Action) → Allowed n s p a
     → arrivals n (effect lim s p a .after) ≡ cond (arrives a) (cond (completes s p) 0 (arrivals n s + 1)) (arrivals n s)
@@ -142,7 +142,7 @@ module _ (lim : Limits) (c : Counts) (es : List Event) (r : Timeline lim c es) w
       → completes (r .state t) p ≡ eqb (arrivals (c .processors) (r .state t) + 1) (c .processors)
   completes-at t p a al =
       let e : r .state t .counts .processors ≡ c .processors = ap (λ (k : Counts). k .processors) (counts-stay lim c es r t) in
-      rw (← e) (completes-counts (r .state t) p (al .from) (rw e (al .to)) (al .not-arrived))
+      rw (← e) (completes-counts (r .state t) p (al .from) (rw e (al .to)) (awake-not-arrived (r .state t) p (al .not-resting)))
 
   -- the marks are the open group
   pub marks-are-waiting : (t : ℕ) → arrivals (c .processors) (r .state t) ≡ groupsBefore (c .processors) es t .waiting

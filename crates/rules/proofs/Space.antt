@@ -2,7 +2,7 @@
 -- every closing finds room, and that collection frees all of it. Rests on KeptClose. Assumes nothing.
 use Prim.Native.Nat.{ℕ, _+_, _*_, _≤_, _<_}
 use native.Mathlib.Omega.{arith}
-use mathlib.Core.Path.{_≡_, refl, sym}
+use mathlib.Core.Path.{_≡_, refl, sym, ap, _∙_}
 use mathlib.Core.Bool.{Bool, true, false, cond, false≢true}
 use mathlib.Core.Logic.{_↔_, _⊎_, inl, inr}
 use lib.Dec.{eqb}
@@ -11,7 +11,8 @@ use Rattle.rules.specs.State.{Limits, Processor, dirtyAt, State, clock, 
 use Rattle.rules.specs.InOrder.{present, dirtyPages}
 use Rattle.rules.specs.Close.{anyChanged, ticked, recorded}
 use Rattle.rules.specs.Steps.{pageOfWord, allFetched, emptied, collected}
-use Rattle.rules.specs.Refusals.{Step, Write, actionOf, known, fits, lateRefusal, refusalInOrder}
+use Rattle.rules.specs.Refusals.{Step, Write, actionOf, knownKind, objectBound, usesValue, fits, lateRefusal, refusalBy, refusalInOrder}
+use Rattle.rules.proofs.KindsOfSteps.{kindOf, kind-of, objectIn, object-in}
 use Rattle.rules.proofs.Facts.{InOrder}
 use Rattle.rules.proofs.KeptParts.{ownIn, parts-of}
 use Rattle.rules.proofs.KeptRounds.{entry-all-cleared}
@@ -26,10 +27,12 @@ pub record WriteSoFar (lim : Limits) (s : State) (t : Step) (w v : ℕ) : Type 0
   pub not-arrived : hasArrived s (t .processor) ≡ false
 
 -- it is refused as rows 9 and 10 say
-pub refusal-of-write : (lim : Limits) (s : State) (t : Step) (w v : ℕ) → WriteSoFar lim s t w v → refusalInOrder lim s t ≡ lateRefusal lim s (t .processor) (Write w v)
-unfolding refusalInOrder known fits
+pub refusal-of-write : (lim : Limits) (s : State) (t : Step) (w v : ℕ) → WriteSoFar lim s t w v → refusalInOrder lim s t ≡ lateRefusal lim s (own s (t .processor)) (t .processor) (Write w v)
+unfolding refusalInOrder refusalBy knownKind fits usesValue objectBound kindOf objectIn
 refusal-of-write lim s t w v h =
-    rw (h .action, h .processor-present, lt-ltb w (s .counts .pages * lim .words) (h .word-present), h .not-arrived)
+    let kind : t .kind ≡ 2 = kind-of t (Write w v) (h .action) (λ e. let z : _≡_ {A = ℕ} 2 0 = ap kindOf e in omega arith) in
+    let word : t .object ≡ w = sym (object-in t) ∙ ap (objectIn (t .object)) (h .action) in
+    rw (h .action, kind, word, h .processor-present, lt-ltb w (s .counts .pages * lim .words) (h .word-present), h .not-arrived)
 
 -- 9 is answered if and only if the page is clean and the processor's own entry is the highest there is
 pub nine-exactly-when : (lim : Limits) (s : State) (t : Step) (w v : ℕ) → WriteSoFar lim s t w v

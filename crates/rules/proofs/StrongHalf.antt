@@ -11,13 +11,13 @@ use borrow.Author.Tests.{ne-eqb}
 use Rattle.clock.specs.Clocks.{entryOf}
 use Rattle.rules.specs.State.{Limits, Processor, Applied, clockOf, copyOf, dirtyAt, State, standing}
 use Rattle.rules.specs.Fetch.{fetched}
-use Rattle.rules.proofs.Holders.{sameHolder}
+use Rattle.rules.proofs.Holders.{sameHolder, Knows}
 use Rattle.rules.proofs.Facts.{InOrder}
 use Rattle.rules.proofs.Ghosts.{Ghost}
 use Rattle.rules.proofs.WordOfRecords.{nth, wordAfter, HitAt}
 use Rattle.rules.proofs.SelectedRecords.{all-selected}
 use Rattle.rules.proofs.FetchedWord.{above, fetched-current}
-use Rattle.rules.proofs.Invariant.{Knows, Informed, seen, PageInv, Inv}
+use Rattle.rules.proofs.Invariant.{Informed, seen, PageInv, Inv}
 use Rattle.rules.proofs.InvSame.{above-says}
 use Rattle.rules.proofs.InvFetch.{fetch-keeps}
 

@@ -1,5 +1,5 @@
 -- The values that words can have: a property of the words of every copy and of every record, by page and offset, that each accepted step
--- keeps. Rests on Slots, Fetches, Accepted and FetchedWord. Assumes nothing.
+-- keeps. Rests on Slots, Fetches, Accepted, KeptPages and FetchedWord. Assumes nothing.
 use Prim.Native.Nat.{ℕ, zero, suc, _%_, _≤_, _<_}
 use native.Mathlib.Omega.{arith}
 use mathlib.Core.Path.{_≡_, refl, sym, _∙_, subst}
@@ -12,7 +12,7 @@ use Rattle.diff.specs.Format.{Below}
 use Rattle.diff.specs.Reading.{settingAt}
 use Rattle.diff.proofs.Theorems.{exactly-the-differing-words}
 use Rattle.rules.specs.Tables.{select}
-use Rattle.rules.specs.State.{Limits, Clocks, Pages, copyOf, twinOf, Record, recordsOf, Marks, State, standing}
+use Rattle.rules.specs.State.{Limits, Clocks, Pages, copyOf, twinOf, Record, recordsOf, Marks, State, withClocks, withPages, withMarks, standing}
 use Rattle.rules.specs.InOrder.{recordAt}
 use Rattle.rules.specs.Close.{changed, newRecord, cleaned, closed}
 use Rattle.rules.specs.Fetch.{isPending, earlier, due, appliedAll, fetched}
@@ -24,6 +24,7 @@ use Rattle.rules.proofs.CopyWords.{length-applied-all, word-applied-all
 use Rattle.rules.proofs.Fetches.{all-fetched-keep}
 use Rattle.rules.proofs.Facts.{InOrder, slots-enough, whole-copy, whole-twin}
 use Rattle.rules.proofs.Accepted.{Accepted, present-says}
+use Rattle.rules.proofs.KeptPages.{twin-taken-copies}
 use Rattle.rules.proofs.FetchedWord.{pending-page}
 
 -- Good g o x: x may be a value of the word at offset o of page g. The copies hold such values, and the records set words to such values.
@@ -100,14 +101,24 @@ module _ (lim : Limits) (Good : ℕ → ℕ → ℕ → Type 0) where
 
   -- ---- storing
 
+  twinned-holding : (s : State) (p g : ℕ) → Holding s → Holding (withPages s (twinTaken (s .pages) p g))
+  unfolding standing copyOf
+  twinned-holding s p g h =
+      record {
+        whole = λ q k a b l. rw (twin-taken-copies (s .pages) p g) (h .whole q k a b l);
+        copies = λ q k o a b l m. rw (twin-taken-copies (s .pages) p g) (h .copies q k o a b l m);
+        slots = h .slots;
+        records = h .records;
+      }
+
   written-holding : (s : State) (p w v : ℕ) → Good (pageOfWord lim w) (offsetOfWord lim w) (v % 4294967296) → Holding s → Holding (write lim s p w v .after)
-  unfolding write stored twinTaken standing copyOf
+  unfolding write stored standing
   written-holding s p w v new h =
       let g : ℕ = pageOfWord lim w in
       let i : ℕ = offsetOfWord lim w in
       let m : Pages = twinTaken (fetched lim s p g .pages) p g in
       let page : List ℕ = set (copyOf m p g) i (v % 4294967296) in
-      let f = fetched-holding s p g h in
+      let f = twinned-holding (fetched lim s p g) p g (fetched-holding s p g h) in
       record {
         whole = λ q k a b l.
             with-copy m p g page q k (λ (x : List ℕ). length x ≡ lim .words)
@@ -166,7 +177,7 @@ module _ (lim : Limits) (Good : ℕ → ℕ → ℕ → Type 0) where
   -- ---- the steps
 
   -- with the same counts, pages and records the property is the same: clocks and marks do not matter
-  moved : (s : State) (c : Clocks) (m : Marks) → Holding s → Holding (record { counts = s .counts; clocks = c; pages = s .pages; records = s .records; marks = m })
+  moved : (s : State) (c : Clocks) (m : Marks) → Holding s → Holding (withMarks (withClocks s c) m)
   unfolding standing
   moved s c m h = record { whole = h .whole; copies = h .copies; slots = h .slots; records = h .records }
 

@@ -6,7 +6,7 @@ use lib.ListN.{getD}
 use lib.Dec.{eqb}
 use Rattle.diff.specs.Format.{written}
 use Rattle.rules.specs.Tables.{put, any}
-use Rattle.rules.specs.State.{Processor, Interval, Clocks, withClock, Pages, copyOf, twinOf, dirtyAt, Record, Records, appended, State, clock, own}
+use Rattle.rules.specs.State.{Processor, Interval, Clocks, withClock, Pages, copyOf, twinOf, dirtyAt, Record, Records, appended, State, withClocks, withPages, withRecords, clock, own}
 
 -- "compare twin and copy": whether any word differs
 unfoldable pub differ : List ℕ → List ℕ → Bool
@@ -47,13 +47,9 @@ recorded s p (suc g) = cond (changed s p g) (appended (recorded s p g) (newRecor
 unfoldable pub cleaned : Pages → ℕ → Pages
 cleaned m p = record { copies = m .copies; twins = m .twins; dirty = put [] (m .dirty) p (map (λ mark. 0) (getD (m .dirty) p [])) }
 
--- "Otherwise no interval is made"
+-- the three parts in this order. "Otherwise no interval is made"
 unfoldable pub closed : State → ℕ → State
 closed s p =
-    record {
-      counts = s .counts;
-      clocks = cond (anyChanged s p) (ticked s p) (s .clocks);
-      pages = cleaned (s .pages) p;
-      records = recorded s p (s .counts .pages);
-      marks = s .marks;
-    }
+    let s₁ = withPages s (cleaned (s .pages) p) in
+    let s₂ = withClocks s₁ (cond (anyChanged s p) (ticked s p) (s .clocks)) in
+    withRecords s₂ (recorded s p (s .counts .pages))

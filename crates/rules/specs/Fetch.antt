@@ -7,7 +7,7 @@ use lib.Dec.{leb, ltb, eqb}
 use Rattle.clock.specs.Clocks.{entryOf, sumOf}
 use Rattle.diff.specs.Reading.{applied}
 use Rattle.rules.specs.Tables.{putCell, select, sortBy}
-use Rattle.rules.specs.State.{Limits, Processor, Applied, Interval, Clocks, clockOf, withClock, Pages, copyOf, Record, State, clock, standing}
+use Rattle.rules.specs.State.{Limits, Processor, Applied, Interval, Clocks, clockOf, withClock, Pages, copyOf, Record, State, withClocks, withPages, clock, standing}
 
 -- "records of g by another card q, with interval above q's entry in the applied clock and not above q's entry in p's clock"
 unfoldable pub isPending : Clocks → ℕ → ℕ → Record → Bool
@@ -44,13 +44,8 @@ withCopy m p g page = record { copies = putCell [] (m .copies) p g page; twins =
 -- "applied to the copy alone, until no record is pending, each once; then the applied clock becomes p's clock"
 unfoldable pub fetched : Limits → State → ℕ → ℕ → State
 fetched lim s p g =
-    record {
-      counts = s .counts;
-      clocks = withClock (s .clocks) (Applied p g) (clock s p);
-      pages = withCopy (s .pages) p g (appliedAll (lim .words) (due s p g) (copyOf (s .pages) p g));
-      records = s .records;
-      marks = s .marks;
-    }
+    let s₁ = withPages s (withCopy (s .pages) p g (appliedAll (lim .words) (due s p g) (copyOf (s .pages) p g))) in
+    withClocks s₁ (withClock (s .clocks) (Applied p g) (clock s p))
 
 -- "The count is the records applied"
 unfoldable pub fetchCount : State → ℕ → ℕ → ℕ

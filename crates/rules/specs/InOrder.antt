@@ -4,6 +4,7 @@ use mathlib.Core.Bool.{Bool, true, cond, not, _&&_, _||_}
 use mathlib.Core.List.{List, [], _∷_}
 use lib.ListN.{length, getD}
 use lib.Dec.{leb, ltb, eqb}
+use Rattle.limits.specs.Limits.{slotHead}
 use Rattle.clock.specs.Clocks.{covered, entryOf}
 use Rattle.diff.specs.Reading.{readRefusal}
 use Rattle.rules.specs.Tables.{every, any, total}
@@ -34,7 +35,7 @@ everyHolder lim t =
 
 -- the bytes of a record's slot: four numbers and the longest diff of a page
 unfoldable pub slotSize : Limits → ℕ
-slotSize lim = 4 * lim .words + 7
+slotSize lim = slotHead + 3 + 4 * lim .words
 
 -- a table with an empty row for nobody and a row of a given length for each processor
 unfoldable pub rowsSized : {A : Type 0} → Limits → ℕ → List (List A) → Bool
@@ -127,7 +128,7 @@ recordAt s i = recordIn (getD (s .records .slots) i [])
 -- the diff fits its slot and is legal
 unfoldable pub diffLegal : Limits → State → ℕ → Bool
 diffLegal lim s i =
-    leb (4 + getD (getD (s .records .slots) i []) 3 0) (slotSize lim)
+    leb (slotHead + getD (getD (s .records .slots) i []) 3 0) (slotSize lim)
     && eqb (readRefusal (lim .words) (recordAt s i .diff)) 0
 
 -- a present processor and page, and an interval that was made

@@ -5,8 +5,7 @@ use mathlib.Core.List.{List, [], _∷_}
 use lib.ListN.{replicate}
 use lib.Dec.{eqb}
 use Rattle.clock.specs.Clocks.{zeros}
-use Rattle.diff.specs.Reading.{applied}
-use Rattle.rules.specs.State.{Limits, Counts, Clocks, Pages, State, standing}
+use Rattle.rules.specs.State.{Limits, Counts, Clocks, Pages, State}
 use Rattle.rules.specs.InOrder.{slotSize, countsInRange}
 
 -- "The opening record holds 0, cards, pages, locks, four zeros": its first byte, the counts, and the number that bytes 4 to 7 make

@@ -1,7 +1,7 @@
 -- Document 01, "Where each refusal is checked", rows 1 to 10 for a step, and what a step does and answers. Assumes nothing.
 use Prim.Native.Nat.{ℕ, _+_, _*_}
-use mathlib.Core.Bool.{Bool, true, false, cond, not, _&&_}
-use lib.Dec.{ltb, eqb}
+use mathlib.Core.Bool.{Bool, cond, not, _&&_, _||_}
+use lib.Dec.{leb, ltb, eqb}
 use Rattle.rules.specs.State.{Limits, dirtyAt, State, own, holder, hasArrived}
 use Rattle.rules.specs.InOrder.{present, dirtyPages, inOrder}
 use Rattle.rules.specs.Steps.{Effect, pageOfWord, read, write, acquire, release, arrive, want}
@@ -39,48 +39,54 @@ actionOf t =
     Unknown)))))
 
 -- 3: "kind not 1 to 6"
-unfoldable pub known : Action → Bool
-known (Read w) = true
-known (Write w v) = true
-known (Acquire l) = true
-known (Release l) = true
-known Arrive = true
-known Want = true
-known Unknown = false
+unfoldable pub knownKind : ℕ → Bool
+knownKind kind = leb 1 kind && leb kind 6
+
+-- the fields of a kind, a row a kind: the object is below this number, which is 1 where no object is used
+unfoldable pub objectBound : Limits → State → Action → ℕ
+objectBound lim s (Read w) = s .counts .pages * lim .words
+objectBound lim s (Write w v) = s .counts .pages * lim .words
+objectBound lim s (Acquire l) = s .counts .locks
+objectBound lim s (Release l) = s .counts .locks
+objectBound lim s Arrive = 1
+objectBound lim s Want = 1
+objectBound lim s Unknown = 1
+
+-- "value is used by kind 2 alone"
+unfoldable pub usesValue : ℕ → Bool
+usesValue kind = eqb kind 2
 
 -- 5: "word or lock absent, or an unused field not 0"
-unfoldable pub fits : Limits → State → Step → Action → Bool
-fits lim s t (Read w) = ltb w (s .counts .pages * lim .words) && eqb (t .value) 0
-fits lim s t (Write w v) = ltb w (s .counts .pages * lim .words)
-fits lim s t (Acquire l) = ltb l (s .counts .locks) && eqb (t .value) 0
-fits lim s t (Release l) = ltb l (s .counts .locks) && eqb (t .value) 0
-fits lim s t Arrive = eqb (t .object) 0 && eqb (t .value) 0
-fits lim s t Want = eqb (t .object) 0 && eqb (t .value) 0
-fits lim s t Unknown = true
+unfoldable pub fits : Limits → State → Step → Bool
+fits lim s t = ltb (t .object) (objectBound lim s (actionOf t)) && (usesValue (t .kind) || eqb (t .value) 0)
 
 -- 7: "lock held, by this card too"; 8: "this card is not the holder"; for a write to a clean page 9: "own entry is 63" and
--- 10: "records plus dirty pages are 128"
-unfoldable pub lateRefusal : Limits → State → ℕ → Action → ℕ
-lateRefusal lim s p (Read w) = 0
-lateRefusal lim s p (Write w v) =
+-- 10: "records plus dirty pages are 128"; e is the own entry of processor p
+unfoldable pub lateRefusal : Limits → State → ℕ → ℕ → Action → ℕ
+lateRefusal lim s e p (Read w) = 0
+lateRefusal lim s e p (Write w v) =
     cond (dirtyAt (s .pages) p (pageOfWord lim w)) 0
-    (cond (eqb (own s p) (lim .intervals)) 9
+    (cond (eqb e (lim .intervals)) 9
     (cond (eqb (s .records .standing + dirtyPages s) (lim .records)) 10
     0))
-lateRefusal lim s p (Acquire l) = cond (eqb (holder s l) 0) 0 7
-lateRefusal lim s p (Release l) = cond (eqb (holder s l) p) 0 8
-lateRefusal lim s p Arrive = 0
-lateRefusal lim s p Want = 0
-lateRefusal lim s p Unknown = 0
+lateRefusal lim s e p (Acquire l) = cond (eqb (holder s l) 0) 0 7
+lateRefusal lim s e p (Release l) = cond (eqb (holder s l) p) 0 8
+lateRefusal lim s e p Arrive = 0
+lateRefusal lim s e p Want = 0
+lateRefusal lim s e p Unknown = 0
 
--- the rows 3 to 10, for a state in order; 6: "card has arrived, round not complete"
-unfoldable pub refusalInOrder : Limits → State → Step → ℕ
-refusalInOrder lim s t =
-    cond (not (known (actionOf t))) 3
+-- the rows 3 to 10, for a state in order whose processor has the own entry e; 6: "card has arrived, round not complete"
+unfoldable pub refusalBy : Limits → State → ℕ → Step → ℕ
+refusalBy lim s e t =
+    cond (not (knownKind (t .kind))) 3
     (cond (not (present s (t .processor))) 4
-    (cond (not (fits lim s t (actionOf t))) 5
+    (cond (not (fits lim s t)) 5
     (cond (hasArrived s (t .processor)) 6
-    (lateRefusal lim s (t .processor) (actionOf t)))))
+    (lateRefusal lim s e (t .processor) (actionOf t)))))
+
+-- the same with the own entry of the step's processor
+unfoldable pub refusalInOrder : Limits → State → Step → ℕ
+refusalInOrder lim s t = refusalBy lim s (own s (t .processor)) t
 
 -- what an accepted step does
 unfoldable pub effect : Limits → State → ℕ → Action → Effect

@@ -5,8 +5,8 @@ use mathlib.Core.Bool.{Bool, not}
 use mathlib.Core.List.{List, [], _∷_, _++_, map}
 use lib.ListN.{length, getD, take, drop}
 use lib.Dec.{eqb}
+use Rattle.limits.specs.Limits.{processorLimit, pageLimit, pageWidth, lockLimit, recordLimit, intervalLimit, slotHead}
 use Rattle.clock.specs.Clocks.{entryOf}
-use Rattle.diff.specs.Reading.{applied}
 use Rattle.rules.specs.Tables.{put, cell, putCell}
 
 -- how many processors, pages, words of a page, locks, records and intervals of a processor there can be
@@ -18,9 +18,10 @@ pub record Limits : Type 0 where
   pub records : ℕ
   pub intervals : ℕ
 
--- "Cards 1 to 8. Pages 1 to 8, locks 1 to 16. A page is 32 words. At most 128 [records] stand. an interval number 1 to 63"
+-- those of document 01
 unfoldable pub mainframe : Limits
-mainframe = record { processors = 8; pages = 8; words = 32; locks = 16; records = 128; intervals = 63 }
+mainframe =
+    record { processors = processorLimit; pages = pageLimit; words = pageWidth; locks = lockLimit; records = recordLimit; intervals = intervalLimit }
 
 -- how many processors, pages and locks the opening gave: the others are absent
 pub record Counts : Type 0 where
@@ -106,7 +107,7 @@ slotBytes r = r .processor ∷ r .interval ∷ r .page ∷ length (r .diff) ∷ 
 -- the record in a slot
 unfoldable pub recordIn : List ℕ → Record
 recordIn slot =
-    record { processor = getD slot 0 0; interval = getD slot 1 0; page = getD slot 2 0; diff = take (getD slot 3 0) (drop 4 slot) }
+    record { processor = getD slot 0 0; interval = getD slot 1 0; page = getD slot 2 0; diff = take (getD slot 3 0) (drop slotHead slot) }
 
 -- the records that stand, in the order in which they were made
 unfoldable pub recordsOf : Records → List Record
@@ -127,12 +128,36 @@ pub record Marks : Type 0 where
   pub arrived : List ℕ
   pub wanted : ℕ
 
+-- the marks with other arrived marks, the rest kept
+abbrev pub withArrived : Marks → List ℕ → Marks
+withArrived m l = record { holders = m .holders; arrived = l; wanted = m .wanted }
+
+-- with another wish
+abbrev pub withWanted : Marks → ℕ → Marks
+withWanted m w = record { holders = m .holders; arrived = m .arrived; wanted = w }
+
 pub record State : Type 0 where
   pub counts : Counts
   pub clocks : Clocks
   pub pages : Pages
   pub records : Records
   pub marks : Marks
+
+-- the state with other clocks, the rest kept
+abbrev pub withClocks : State → Clocks → State
+withClocks s c = record { counts = s .counts; clocks = c; pages = s .pages; records = s .records; marks = s .marks }
+
+-- with other pages
+abbrev pub withPages : State → Pages → State
+withPages s m = record { counts = s .counts; clocks = s .clocks; pages = m; records = s .records; marks = s .marks }
+
+-- with other records
+abbrev pub withRecords : State → Records → State
+withRecords s r = record { counts = s .counts; clocks = s .clocks; pages = s .pages; records = r; marks = s .marks }
+
+-- with other marks
+abbrev pub withMarks : State → Marks → State
+withMarks s m = record { counts = s .counts; clocks = s .clocks; pages = s .pages; records = s .records; marks = m }
 
 -- the clock of a processor, and "own entry": the entry for itself in it
 unfoldable pub clock : State → ℕ → List ℕ

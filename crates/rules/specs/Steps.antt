@@ -5,9 +5,8 @@ use mathlib.Core.List.{[], map}
 use lib.ListN.{getD, set}
 use lib.Dec.{eqb}
 use Rattle.clock.specs.Clocks.{joined}
-use Rattle.diff.specs.Reading.{applied}
 use Rattle.rules.specs.Tables.{put, putCell, every}
-use Rattle.rules.specs.State.{Limits, Holder, Processor, Lock, Barrier, Clocks, clockOf, withClock, cleared, Pages, copyOf, dirtyAt, Marks, State, standing, hasArrived}
+use Rattle.rules.specs.State.{Limits, Holder, Processor, Lock, Barrier, Clocks, clockOf, withClock, cleared, Pages, copyOf, dirtyAt, Marks, withArrived, withWanted, State, withClocks, withPages, withRecords, withMarks, hasArrived}
 use Rattle.rules.specs.Close.{closed}
 use Rattle.rules.specs.Fetch.{withCopy, fetched, fetchCount}
 
@@ -39,14 +38,13 @@ read lim s p w =
 
 -- ---- 2. "Write: fetch; if the page is clean, take the twin; store"
 
+-- "take the twin": the page is dirty then
+unfoldable pub newTwin : Pages → ℕ → ℕ → Pages
+newTwin m p g = record { copies = m .copies; twins = putCell [] (m .twins) p g (copyOf m p g); dirty = putCell 0 (m .dirty) p g 1 }
+
 -- "if the page is clean, take the twin"
 unfoldable pub twinTaken : Pages → ℕ → ℕ → Pages
-twinTaken m p g =
-    record {
-      copies = m .copies;
-      twins = cond (dirtyAt m p g) (m .twins) (putCell [] (m .twins) p g (copyOf m p g));
-      dirty = cond (dirtyAt m p g) (m .dirty) (putCell 0 (m .dirty) p g 1);
-    }
+twinTaken m p g = cond (dirtyAt m p g) m (newTwin m p g)
 
 -- a word has 32 bits
 unfoldable pub stored : Limits → Pages → ℕ → ℕ → ℕ → Pages
@@ -57,18 +55,8 @@ stored lim m p w v =
 unfoldable pub write : Limits → State → ℕ → ℕ → ℕ → Effect
 write lim s p w v =
     let s₁ = fetched lim s p (pageOfWord lim w) in
-    record {
-      after =
-          record {
-            counts = s₁ .counts;
-            clocks = s₁ .clocks;
-            pages = stored lim (twinTaken (s₁ .pages) p (pageOfWord lim w)) p w v;
-            records = s₁ .records;
-            marks = s₁ .marks;
-          };
-      value = 0;
-      count = fetchCount s p (pageOfWord lim w);
-    }
+    let s₂ = withPages s₁ (stored lim (twinTaken (s₁ .pages) p (pageOfWord lim w)) p w v) in
+    record { after = s₂; value = 0; count = fetchCount s p (pageOfWord lim w) }
 
 -- ---- 3. "Acquire: close; the card becomes holder; its clock joins the lock's"
 
@@ -84,13 +72,8 @@ learned c to from = withClock c to (joined (clockOf c to) (clockOf c from))
 unfoldable pub acquire : State → ℕ → ℕ → State
 acquire s p l =
     let s₁ = closed s p in
-    record {
-      counts = s₁ .counts;
-      clocks = learned (s₁ .clocks) (Processor p) (Lock l);
-      pages = s₁ .pages;
-      records = s₁ .records;
-      marks = withHolder (s₁ .marks) l p;
-    }
+    let s₂ = withMarks s₁ (withHolder (s₁ .marks) l p) in
+    withClocks s₂ (learned (s₁ .clocks) (Processor p) (Lock l))
 
 -- ---- 4. "Release: close; holder becomes 0; the lock's clock becomes the card's"
 
@@ -98,13 +81,8 @@ acquire s p l =
 unfoldable pub release : State → ℕ → ℕ → State
 release s p l =
     let s₁ = closed s p in
-    record {
-      counts = s₁ .counts;
-      clocks = withClock (s₁ .clocks) (Lock l) (clockOf (s₁ .clocks) (Processor p));
-      pages = s₁ .pages;
-      records = s₁ .records;
-      marks = withHolder (s₁ .marks) l 0;
-    }
+    let s₂ = withMarks s₁ (withHolder (s₁ .marks) l 0) in
+    withClocks s₂ (withClock (s₁ .clocks) (Lock l) (clockOf (s₁ .clocks) (Processor p)))
 
 -- ---- 5. Arrive
 
@@ -112,13 +90,8 @@ release s p l =
 unfoldable pub atBarrier : State → ℕ → State
 atBarrier s p =
     let s₁ = closed s p in
-    record {
-      counts = s₁ .counts;
-      clocks = learned (s₁ .clocks) Barrier (Processor p);
-      pages = s₁ .pages;
-      records = s₁ .records;
-      marks = record { holders = s₁ .marks .holders; arrived = put 0 (s₁ .marks .arrived) p 1; wanted = s₁ .marks .wanted };
-    }
+    let s₂ = withClocks s₁ (learned (s₁ .clocks) Barrier (Processor p)) in
+    withMarks s₂ (withArrived (s₁ .marks) (put 0 (s₁ .marks .arrived) p 1))
 
 -- "When the last card arrives"
 unfoldable pub allArrived : State → Bool
@@ -132,13 +105,8 @@ allLearned c (suc k) = learned (allLearned c k) (Processor (suc k)) Barrier
 -- "each card's clock joins the barrier's, which returns to zeros, and marks clear"
 unfoldable pub roundDone : State → State
 roundDone s =
-    record {
-      counts = s .counts;
-      clocks = withClock (allLearned (s .clocks) (s .counts .processors)) Barrier (cleared (s .clocks .barrier));
-      pages = s .pages;
-      records = s .records;
-      marks = record { holders = s .marks .holders; arrived = map (λ mark. 0) (s .marks .arrived); wanted = s .marks .wanted };
-    }
+    let s₁ = withClocks s (withClock (allLearned (s .clocks) (s .counts .processors)) Barrier (cleared (s .clocks .barrier))) in
+    withMarks s₁ (withArrived (s .marks) (map (λ mark. 0) (s .marks .arrived)))
 
 -- fetches of several pages, and the sum of their counts
 pub record Fetches : Type 0 where
@@ -174,13 +142,9 @@ allCleared c =
 -- "then records go, all clocks become zeros, and the wish clears"
 unfoldable pub emptied : State → State
 emptied s =
-    record {
-      counts = s .counts;
-      clocks = allCleared (s .clocks);
-      pages = s .pages;
-      records = record { standing = 0; slots = s .records .slots };
-      marks = record { holders = s .marks .holders; arrived = s .marks .arrived; wanted = 0 };
-    }
+    let s₁ = withRecords s (record { standing = 0; slots = s .records .slots }) in
+    let s₂ = withClocks s₁ (allCleared (s .clocks)) in
+    withMarks s₂ (withWanted (s .marks) 0)
 
 -- garbage collection (document 01: collection): "each card upwards fetches each page upwards; then records go"
 unfoldable pub collected : Limits → State → Fetches
@@ -204,11 +168,4 @@ arrive lim s p =
 
 -- the wish is set, and stays as it is if it was
 unfoldable pub want : State → State
-want s =
-    record {
-      counts = s .counts;
-      clocks = s .clocks;
-      pages = s .pages;
-      records = s .records;
-      marks = record { holders = s .marks .holders; arrived = s .marks .arrived; wanted = cond (wantsCollection s) (s .marks .wanted) 1 };
-    }
+want s = withMarks s (withWanted (s .marks) (cond (wantsCollection s) (s .marks .wanted) 1))

@@ -3,7 +3,18 @@ ghost use Prim.Native.Nat.{_≤_};
 ghost use lib.ListN.{length};
 use libc::STDIN_FILENO;
 use libc::STDOUT_FILENO;
+use limits::CLOCK_AREA;
+use limits::FILE_RECORD_WIDTH;
+use limits::LINE_LIMIT;
+use limits::MARK_AREA;
+use limits::RECORD_AREA;
+use limits::WORD_AREA;
 use stepfile::Progress;
+
+// The bytes read at a time, and room for the lines of so many bytes and of a record begun before.
+const CHUNK: usize = 65536;
+
+const LINES: usize = LINE_LIMIT * (CHUNK / FILE_RECORD_WIDTH + 1);
 
 // How far the file has been fed, whether it goes on, and whether it has ended. It does neither where a read or a write failed, or where the
 // run has stopped.
@@ -14,11 +25,11 @@ struct Going {
 }
 
 fn main() {
-    let mut clocks = [0u8; 4744];
-    let mut words = [0u32; 4096];
-    let mut records = [0u8; 17280];
-    let mut marks = [0u8; 93];
-    let mut lines = [0u8; 360492];
+    let mut clocks = [0u8; CLOCK_AREA];
+    let mut words = [0u32; WORD_AREA];
+    let mut records = [0u8; RECORD_AREA];
+    let mut marks = [0u8; MARK_AREA];
+    let mut lines = [0u8; LINES];
     feed_all(
         &mut lines,
         &mut clocks,
@@ -53,7 +64,7 @@ fn feed_all(
     }
 }
 
-// Reads a chunk, feeds it and writes its lines. The bytes lent for lines have room for the lines of 65,536 bytes and of a record begun before.
+// Reads a chunk, feeds it and writes its lines.
 fn feed_chunk(
     progress: Progress,
     lines: &mut [u8],
@@ -62,7 +73,7 @@ fn feed_chunk(
     records: &mut [u8],
     marks: &mut [u8],
 ) -> Going {
-    let mut chunk = [0u8; 65536];
+    let mut chunk = [0u8; CHUNK];
     let got = libc::read(STDIN_FILENO, &mut chunk);
     if got <= 0 {
         return Going {

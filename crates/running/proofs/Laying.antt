@@ -10,7 +10,7 @@ use borrow.Author.Needs.{needs}
 use Rattle.rules.specs.Refusals.{Answer}
 use Rattle.acting.specs.declared.Outcome.{Outcome}
 use Rattle.acting.specs.declared.Outcome.the-variants.{Done, Refused}
-use Rattle.acting.specs.Outcomes.{outcomeRefusal, outcomeValue, outcomeCount, told}
+use Rattle.acting.specs.Telling.{outcomeRefusal, outcomeValue, outcomeCount, told}
 use Rattle.running.specs.Records.{answerWords, answersIn}
 use Rattle.running.specs.Needed.{OutcomeLaid}
 

@@ -10,7 +10,7 @@ use borrow.Author.Needs.{needs}
 use Rattle.rules.specs.State.{State}
 use Rattle.rules.specs.Refusals.{stepOf}
 use Rattle.acting.specs.declared.Outcome.{Outcome}
-use Rattle.engine.specs.Promises.{SteppedAs}
+use Rattle.engine.specs.Needed.{SteppedAs}
 use Rattle.running.specs.Records.{stepFrom}
 use Rattle.running.specs.Needed.{FieldsAre}
 

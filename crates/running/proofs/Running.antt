@@ -10,6 +10,7 @@ use lib.Seq.{sets, length-sets}
 use lib.Dec.{eqb}
 use borrow.Author.Tests.{eq-eqb, ne-eqb}
 use borrow.Author.Needs.{needs}
+use Rattle.limits.specs.Limits.{fileRecordWidth}
 use Rattle.rules.specs.Demand.{ReadsJudged, DemandThree}
 use Rattle.rules.specs.Opening.{opened}
 use Rattle.rules.specs.Refusals.{Answer, Step, refusedAs, nextInOrder}
@@ -30,11 +31,11 @@ use Rattle.running.proofs.Laying.{laid-behind, laid-read-back}
 -- ---- how many records
 
 module _ (bytes words : ℕ) where
-  pub fewer-records : bytes / 8 < words / 3 → CountIs bytes words (bytes / 8)
+  pub fewer-records : bytes / fileRecordWidth < words / 3 → CountIs bytes words (bytes / fileRecordWidth)
   unfolding recordsRun
   fewer-records l = record { is = omega (arith, l) }
 
-  pub fewer-words : words / 3 ≤ bytes / 8 → CountIs bytes words (words / 3)
+  pub fewer-words : words / 3 ≤ bytes / fileRecordWidth → CountIs bytes words (words / 3)
   unfolding recordsRun
   fewer-words l = record { is = omega (arith, l) }
 
@@ -43,7 +44,7 @@ module _ (bytes words : ℕ) where
 length-steps : (n : ℕ) (bs : List ℕ) → length (stepsIn n bs) ≡ n
 unfolding stepsIn
 length-steps zero bs = refl
-length-steps (suc n) bs = ap suc (length-steps n (drop 8 bs))
+length-steps (suc n) bs = ap suc (length-steps n (drop fileRecordWidth bs))
 
 length-answers : (lim : Limits) (s : State) (ts : List Step) → length (answersInOrder lim s ts) ≡ length ts
 unfolding answersInOrder
@@ -57,8 +58,8 @@ words-there = omega arith
 
 -- ---- the opening
 
-pub opening-laid : (bs out c w r m : List ℕ) (refusal n : ℕ) (out′ c′ w′ r′ m′ : List ℕ) → refusal ≡ openRefusal (take 8 bs) (areas c w r m)
-    → areas c′ w′ r′ m′ ≡ areasOpened (take 8 bs) (areas c w r m) → (n ≡ refusal) × (n ≤ 255) → out′ ≡ sets out 0 (n ∷ 0 ∷ 0 ∷ [])
+pub opening-laid : (bs out c w r m : List ℕ) (refusal n : ℕ) (out′ c′ w′ r′ m′ : List ℕ) → refusal ≡ openRefusal (take fileRecordWidth bs) (areas c w r m)
+    → areas c′ w′ r′ m′ ≡ areasOpened (take fileRecordWidth bs) (areas c w r m) → (n ≡ refusal) × (n ≤ 255) → out′ ≡ sets out 0 (n ∷ 0 ∷ 0 ∷ [])
     → OpeningLaid bs out (areas c w r m) refusal out′ (areas c′ w′ r′ m′)
 unfolding firstRefusal answerWords refusedAs
 opening-laid bs out c w r m refusal n out′ c′ w′ r′ m′ e a same l =
@@ -87,7 +88,7 @@ module _ (bs out : List ℕ) (n : ℕ) (h : CountIs (length bs) (length out) n) 
 -- ---- some records
 
 module _ (bs out : List ℕ) (n : ℕ) (h : RecordsThere bs out n) where
-  bytes-there : 8 * n ≤ length bs
+  bytes-there : fileRecordWidth * n ≤ length bs
   unfolding recordsRun
   bytes-there = omega (arith, h .count)
 
@@ -105,12 +106,12 @@ module _ (bs out : List ℕ) (n : ℕ) (h : RecordsThere bs out n) where
   module _ (a : Areas) (refusal : ℕ) (out′ : List ℕ) (a′ : Areas) (o : OpeningLaid bs out a refusal out′ a′) where
     -- the answers and the areas by the opening's refusal
     answers-by-opening : runAnswers (recordsRun (length bs) (length out)) bs a
-        ≡ refusedAs refusal ∷ cond (eqb refusal 0) (answers mainframe (firstState bs) (stepsIn (n - 1) (drop 8 bs))) []
+        ≡ refusedAs refusal ∷ cond (eqb refusal 0) (answers mainframe (firstState bs) (stepsIn (n - 1) (drop fileRecordWidth bs))) []
     unfolding runAnswers
     answers-by-opening = rw (← opening-first, ← o .refusal)
 
     areas-by-opening : runAreas (recordsRun (length bs) (length out)) bs a
-        ≡ cond (eqb refusal 0) (holding (stateAfter mainframe (firstState bs) (stepsIn (n - 1) (drop 8 bs)))) a
+        ≡ cond (eqb refusal 0) (holding (stateAfter mainframe (firstState bs) (stepsIn (n - 1) (drop fileRecordWidth bs)))) a
     unfolding runAreas
     areas-by-opening = rw (← opening-first, ← o .refusal)
 
@@ -123,29 +124,29 @@ module _ (bs out : List ℕ) (n : ℕ) (h : RecordsThere bs out n) where
           answers = o .laid ∙ ap (λ (l : List Answer). sets out 0 (answerWords l)) (sym all);
           areas =
               o .areas
-              ∙ ap (λ (b : Bool). cond b (holding (opened mainframe (openingOf (take 8 bs) .counts))) a)
+              ∙ ap (λ (b : Bool). cond b (holding (opened mainframe (openingOf (take fileRecordWidth bs) .counts))) a)
               (ap (λ (x : ℕ). eqb x 0) (sym (o .refusal)) ∙ ne-eqb refusal 0 z)
-              ∙ sym (areas-by-opening ∙ ap (λ (b : Bool). cond b (holding (stateAfter mainframe (firstState bs) (stepsIn (n - 1) (drop 8 bs)))) a) (ne-eqb refusal 0 z));
+              ∙ sym (areas-by-opening ∙ ap (λ (b : Bool). cond b (holding (stateAfter mainframe (firstState bs) (stepsIn (n - 1) (drop fileRecordWidth bs)))) a) (ne-eqb refusal 0 z));
           judged = λ l e. absurd (z (o .refusal ∙ e));
         }
       where
         all : runAnswers (recordsRun (length bs) (length out)) bs a ≡ refusedAs refusal ∷ []
         all = answers-by-opening
-            ∙ ap (λ (b : Bool). refusedAs refusal ∷ cond b (answers mainframe (firstState bs) (stepsIn (n - 1) (drop 8 bs))) []) (ne-eqb refusal 0 z)
+            ∙ ap (λ (b : Bool). refusedAs refusal ∷ cond b (answers mainframe (firstState bs) (stepsIn (n - 1) (drop fileRecordWidth bs))) []) (ne-eqb refusal 0 z)
 
   -- ---- the steps behind an accepted opening
 
   module _ (c w r m : List ℕ) (refusal : ℕ) (out′ c′ w′ r′ m′ : List ℕ) (o : OpeningLaid bs out (areas c w r m) refusal out′ (areas c′ w′ r′ m′)) (z : refusal ≡ 0) where
     ready : Ready c′ w′ r′ m′
     unfolding firstRefusal
-    ready = opened-ready (take 8 bs) c w r m c′ w′ r′ m′ (sym (o .refusal) ∙ z) (o .areas)
+    ready = opened-ready (take fileRecordWidth bs) c w r m c′ w′ r′ m′ (sym (o .refusal) ∙ z) (o .areas)
 
     -- the areas hold the opened state
     opened-held : stateIn mainframe c′ w′ r′ m′ ≡ firstState bs
     unfolding firstState areasOpened firstRefusal
     opened-held =
-        opened-holds (take 8 bs) c′ w′ r′ m′
-        (o .areas ∙ ap (λ (k : ℕ). cond (eqb k 0) (holding (opened mainframe (openingOf (take 8 bs) .counts))) (areas c w r m)) (sym (o .refusal) ∙ z))
+        opened-holds (take fileRecordWidth bs) c′ w′ r′ m′
+        (o .areas ∙ ap (λ (k : ℕ). cond (eqb k 0) (holding (opened mainframe (openingOf (take fileRecordWidth bs) .counts))) (areas c w r m)) (sym (o .refusal) ∙ z))
         .is
 
     pub steps-there : StepsThere bs n out′ c′ w′ r′ m′
@@ -153,7 +154,7 @@ module _ (bs out : List ℕ) (n : ℕ) (h : RecordsThere bs out n) where
         record { ready = ready; opening = h .opening; there = bytes-there; room = rw (o .laid, length-sets) room-there }
 
     steps : List Step
-    steps = stepsIn (n - 1) (drop 8 bs)
+    steps = stepsIn (n - 1) (drop fileRecordWidth bs)
 
     answered : List Answer
     answered = answersInOrder mainframe (stateIn mainframe c′ w′ r′ m′) steps
@@ -186,14 +187,14 @@ module _ (bs out : List ℕ) (n : ℕ) (h : RecordsThere bs out n) where
 
     as-many : length answered ≡ n - 1
     unfolding answered steps
-    as-many = length-answers mainframe (stateIn mainframe c′ w′ r′ m′) steps ∙ length-steps (n - 1) (drop 8 bs)
+    as-many = length-answers mainframe (stateIn mainframe c′ w′ r′ m′) steps ∙ length-steps (n - 1) (drop fileRecordWidth bs)
 
     -- demand 3 of the rules' answers
-    answered-judged : ReadsJudged (openingOf (take 8 bs) .counts .processors) steps answered
+    answered-judged : ReadsJudged (openingOf (take fileRecordWidth bs) .counts .processors) steps answered
     unfolding DemandThree firstState firstRefusal
     answered-judged =
         rw (← answered-is)
-        (demand-three mainframe (openingOf (take 8 bs)) words-there (accepted-opening (take 8 bs) (areas c w r m) (sym (o .refusal) ∙ z)) steps)
+        (demand-three mainframe (openingOf (take fileRecordWidth bs)) words-there (accepted-opening (take fileRecordWidth bs) (areas c w r m) (sym (o .refusal) ∙ z)) steps)
 
     -- all records are run
     pub all-run : (out″ c″ w″ r″ m″ : List ℕ) → StepsLaid bs n (stateIn mainframe c′ w′ r′ m′) out′ out″ c″ w″ r″ m″

@@ -6,6 +6,7 @@ use mathlib.Core.List.{List, [], _∷_}
 use lib.ListN.{length, drop}
 use lib.Seq.{sets, length-sets, drop-drop}
 use borrow.Author.Needs.{needs}
+use Rattle.limits.specs.Limits.{fileRecordWidth}
 use Rattle.rules.specs.Refusals.{Answer, Step, nextInOrder}
 use Rattle.rules.specs.Runs.{answersInOrder, stateInOrder}
 use Rattle.rules.specs.State.{mainframe, State}
@@ -13,26 +14,26 @@ use Rattle.rules.proofs.Kept.{next-keeps-order}
 use Rattle.memory.specs.Areas.{stateIn}
 use Rattle.memory.specs.Needed.{Ready}
 use Rattle.acting.specs.declared.Outcome.{Outcome}
-use Rattle.acting.specs.Outcomes.{told}
+use Rattle.acting.specs.Telling.{told}
 use Rattle.acting.proofs.Telling.{told-in-order}
-use Rattle.engine.specs.Promises.{SteppedAs}
+use Rattle.engine.specs.Needed.{SteppedAs}
 use Rattle.running.specs.Records.{stepFrom, stepsIn, answerWords}
 use Rattle.running.specs.Needed.{StepThere, OutcomeLaid, RecordThere, StepLaid, StepsThere, StepsLaid}
 
 -- ---- one record
 
-pub step-there : (bs : List ℕ) (i : ℕ) (out c w r m : List ℕ) → RecordThere bs i out c w r m → StepThere bs (8 * i) c w r m
+pub step-there : (bs : List ℕ) (i : ℕ) (out c w r m : List ℕ) → RecordThere bs i out c w r m → StepThere bs (fileRecordWidth * i) c w r m
 step-there bs i out c w r m h = record { ready = h .ready; there = h .there }
 
 -- the outcome of a step tells the rules' answer
-pub step-laid : (bs : List ℕ) (i : ℕ) (s : State) (x : Outcome) (out out′ c w r m : List ℕ) → SteppedAs s (stepFrom (drop (8 * i) bs)) x c w r m
+pub step-laid : (bs : List ℕ) (i : ℕ) (s : State) (x : Outcome) (out out′ c w r m : List ℕ) → SteppedAs s (stepFrom (drop (fileRecordWidth * i) bs)) x c w r m
     → OutcomeLaid out (3 * i) x out′ → StepLaid bs i s out out′ c w r m
 step-laid bs i s x out out′ c w r m d l =
     record {
       laid =
           l .is
           ∙ ap (λ (a : Answer). sets out (3 * i) (answerWords (a ∷ [])))
-          (ap (λ (y : Outcome). told y) (d .outcome) ∙ told-in-order mainframe s (stepFrom (drop (8 * i) bs)));
+          (ap (λ (y : Outcome). told y) (d .outcome) ∙ told-in-order mainframe s (stepFrom (drop (fileRecordWidth * i) bs)));
       areas = d .areas;
     }
 
@@ -43,28 +44,28 @@ step-laid bs i s x out out′ c w r m d l =
 pub record StepsLeft (bs : List ℕ) (n : ℕ) (s₀ : State) (out₀ out c w r m : List ℕ) (i : ℕ) : Type 0 where
   pub ready : Ready c w r m
   pub upto : i ≤ n
-  pub there : 8 * n ≤ length bs
+  pub there : fileRecordWidth * n ≤ length bs
   pub room : 3 * n ≤ length out
   pub as-long : length out ≡ length out₀
-  pub laid : sets out (3 * i) (answerWords (answersInOrder mainframe (stateIn mainframe c w r m) (stepsIn (n - i) (drop (8 * i) bs))))
-      ≡ sets out₀ 3 (answerWords (answersInOrder mainframe s₀ (stepsIn (n - 1) (drop 8 bs))))
-  pub state : stateInOrder mainframe (stateIn mainframe c w r m) (stepsIn (n - i) (drop (8 * i) bs)) ≡ stateInOrder mainframe s₀ (stepsIn (n - 1) (drop 8 bs))
+  pub laid : sets out (3 * i) (answerWords (answersInOrder mainframe (stateIn mainframe c w r m) (stepsIn (n - i) (drop (fileRecordWidth * i) bs))))
+      ≡ sets out₀ 3 (answerWords (answersInOrder mainframe s₀ (stepsIn (n - 1) (drop fileRecordWidth bs))))
+  pub state : stateInOrder mainframe (stateIn mainframe c w r m) (stepsIn (n - i) (drop (fileRecordWidth * i) bs)) ≡ stateInOrder mainframe s₀ (stepsIn (n - 1) (drop fileRecordWidth bs))
 
 pub steps-begin : (bs : List ℕ) (n : ℕ) (out c w r m : List ℕ) → StepsThere bs n out c w r m
     → StepsLeft bs n (stateIn mainframe c w r m) out out c w r m 1
 steps-begin bs n out c w r m h = record { ready = h .ready; upto = h .opening; there = h .there; room = h .room; as-long = refl; laid = refl; state = refl }
 
 -- the steps from record i on are its own and those from the next record on
-steps-from : (bs : List ℕ) (n i : ℕ) → i < n → stepsIn (n - i) (drop (8 * i) bs) ≡ stepFrom (drop (8 * i) bs) ∷ stepsIn (n - (i + 1)) (drop (8 * (i + 1)) bs)
+steps-from : (bs : List ℕ) (n i : ℕ) → i < n → stepsIn (n - i) (drop (fileRecordWidth * i) bs) ≡ stepFrom (drop (fileRecordWidth * i) bs) ∷ stepsIn (n - (i + 1)) (drop (fileRecordWidth * (i + 1)) bs)
 unfolding stepsIn
 steps-from bs n i l =
-    ap (λ (k : ℕ). stepsIn k (drop (8 * i) bs)) e
-    ∙ ap (λ (t : List ℕ). stepFrom (drop (8 * i) bs) ∷ stepsIn (n - (i + 1)) t) (drop-drop 8 (8 * i) bs ∙ ap (λ (k : ℕ). drop k bs) f)
+    ap (λ (k : ℕ). stepsIn k (drop (fileRecordWidth * i) bs)) e
+    ∙ ap (λ (t : List ℕ). stepFrom (drop (fileRecordWidth * i) bs) ∷ stepsIn (n - (i + 1)) t) (drop-drop fileRecordWidth (fileRecordWidth * i) bs ∙ ap (λ (k : ℕ). drop k bs) f)
   where
     e : n - i ≡ suc (n - (i + 1))
     e = omega arith
 
-    f : 8 * i + 8 ≡ 8 * (i + 1)
+    f : fileRecordWidth * i + fileRecordWidth ≡ fileRecordWidth * (i + 1)
     f = omega arith
 
 module _ (bs : List ℕ) (n : ℕ) (s₀ : State) (out₀ out c w r m : List ℕ) (i : ℕ) (h : StepsLeft bs n s₀ out₀ out c w r m i) where
@@ -76,13 +77,13 @@ module _ (bs : List ℕ) (n : ℕ) (s₀ : State) (out₀ out c w r m : List ℕ
     s = stateIn mainframe c w r m
 
     t : Step
-    t = stepFrom (drop (8 * i) bs)
+    t = stepFrom (drop (fileRecordWidth * i) bs)
 
     rest : List Step
-    rest = stepsIn (n - (i + 1)) (drop (8 * (i + 1)) bs)
+    rest = stepsIn (n - (i + 1)) (drop (fileRecordWidth * (i + 1)) bs)
 
     -- the answers from record i on: its own is laid, and the others behind it
-    one-laid : sets out (3 * i) (answerWords (answersInOrder mainframe s (stepsIn (n - i) (drop (8 * i) bs))))
+    one-laid : sets out (3 * i) (answerWords (answersInOrder mainframe s (stepsIn (n - i) (drop (fileRecordWidth * i) bs))))
         ≡ sets out′ (3 * (i + 1)) (answerWords (answersInOrder mainframe (stateIn mainframe c′ w′ r′ m′) rest))
     unfolding answerWords answersInOrder s t rest
     one-laid =
@@ -94,7 +95,7 @@ module _ (bs : List ℕ) (n : ℕ) (s₀ : State) (out₀ out c w r m : List ℕ
         e : suc (suc (suc (3 * i))) ≡ 3 * (i + 1)
         e = omega arith
 
-    one-taken : stateInOrder mainframe s (stepsIn (n - i) (drop (8 * i) bs)) ≡ stateInOrder mainframe (stateIn mainframe c′ w′ r′ m′) rest
+    one-taken : stateInOrder mainframe s (stepsIn (n - i) (drop (fileRecordWidth * i) bs)) ≡ stateInOrder mainframe (stateIn mainframe c′ w′ r′ m′) rest
     unfolding stateInOrder s t rest
     one-taken =
         ap (λ (ts : List Step). stateInOrder mainframe s ts) (steps-from bs n i l) ∙ ap (λ (x : State). stateInOrder mainframe x rest) (sym (d .areas .is))

@@ -4,6 +4,7 @@ use mathlib.Core.Path.{_≡_}
 use mathlib.Core.List.{List, [], _∷_}
 use lib.ListN.{length, take, drop}
 use lib.Seq.{sets}
+use Rattle.limits.specs.Limits.{fileRecordWidth}
 use Rattle.rules.specs.Refusals.{stepOf, refusedAs, answerInOrder, nextInOrder}
 use Rattle.rules.specs.Runs.{answersInOrder, stateInOrder}
 use Rattle.rules.specs.State.{mainframe, State}
@@ -11,7 +12,7 @@ use Rattle.memory.specs.Needed.{Ready, Holds}
 use Rattle.memory.specs.Areas.{Areas}
 use Rattle.opening.specs.Promises.{areasOpened}
 use Rattle.acting.specs.declared.Outcome.{Outcome}
-use Rattle.acting.specs.Outcomes.{told}
+use Rattle.acting.specs.Telling.{told}
 use Rattle.running.specs.Records.{stepFrom, stepsIn, answerWords}
 use Rattle.running.specs.Runs.{recordsRun, firstRefusal}
 
@@ -20,7 +21,7 @@ use Rattle.running.specs.Runs.{recordsRun, firstRefusal}
 -- eight bytes stand from a place on, and the areas hold a state in order
 pub record StepThere (bytes : List ℕ) (at : ℕ) (c w r m : List ℕ) : Type 0 where
   pub ready : Ready c w r m
-  pub there : at + 8 ≤ length bytes
+  pub there : at + fileRecordWidth ≤ length bytes
 
 -- the four fields are those of the record from a place on
 pub record FieldsAre (bytes : List ℕ) (at kind processor object value : ℕ) : Type 0 where
@@ -33,13 +34,13 @@ pub record OutcomeLaid (out : List ℕ) (at : ℕ) (o : Outcome) (out′ : List 
 -- record i stands in the bytes, the words have room for its answer, and the areas hold a state in order
 pub record RecordThere (bytes : List ℕ) (i : ℕ) (out c w r m : List ℕ) : Type 0 where
   pub ready : Ready c w r m
-  pub there : 8 * i + 8 ≤ length bytes
+  pub there : fileRecordWidth * i + fileRecordWidth ≤ length bytes
   pub room : 3 * i + 3 ≤ length out
 
 -- the step of record i was taken on the state s: its answer is laid, and the areas hold the state that it leaves
 pub record StepLaid (bytes : List ℕ) (i : ℕ) (s : State) (out out′ c w r m : List ℕ) : Type 0 where
-  pub laid : out′ ≡ sets out (3 * i) (answerWords (answerInOrder mainframe s (stepFrom (drop (8 * i) bytes)) ∷ []))
-  pub areas : Holds c w r m (nextInOrder mainframe s (stepFrom (drop (8 * i) bytes)))
+  pub laid : out′ ≡ sets out (3 * i) (answerWords (answerInOrder mainframe s (stepFrom (drop (fileRecordWidth * i) bytes)) ∷ []))
+  pub areas : Holds c w r m (nextInOrder mainframe s (stepFrom (drop (fileRecordWidth * i) bytes)))
 
 -- ---- how many records
 
@@ -56,14 +57,14 @@ pub record RecordsThere (bytes out : List ℕ) (n : ℕ) : Type 0 where
 
 -- a record stands in the bytes, and the words have room for its answer
 pub record OpeningThere (bytes out : List ℕ) : Type 0 where
-  pub there : 8 ≤ length bytes
+  pub there : fileRecordWidth ≤ length bytes
   pub room : 3 ≤ length out
 
 -- the opening was answered with the refusal r: the answer is laid, and the areas are those that the opening leaves
 pub record OpeningLaid (bytes out : List ℕ) (a : Areas) (r : ℕ) (out′ : List ℕ) (a′ : Areas) : Type 0 where
   pub refusal : r ≡ firstRefusal bytes a
   pub laid : out′ ≡ sets out 0 (answerWords (refusedAs r ∷ []))
-  pub areas : a′ ≡ areasOpened (take 8 bytes) a
+  pub areas : a′ ≡ areasOpened (take fileRecordWidth bytes) a
 
 -- ---- the steps
 
@@ -71,11 +72,11 @@ pub record OpeningLaid (bytes out : List ℕ) (a : Areas) (r : ℕ) (out′ : Li
 pub record StepsThere (bytes : List ℕ) (n : ℕ) (out c w r m : List ℕ) : Type 0 where
   pub ready : Ready c w r m
   pub opening : 1 ≤ n
-  pub there : 8 * n ≤ length bytes
+  pub there : fileRecordWidth * n ≤ length bytes
   pub room : 3 * n ≤ length out
 
 -- the steps of n records behind the opening were run on the state s: their answers are laid behind the opening's, and the areas hold the
 -- state that they leave
 pub record StepsLaid (bytes : List ℕ) (n : ℕ) (s : State) (out out′ c w r m : List ℕ) : Type 0 where
-  pub laid : out′ ≡ sets out 3 (answerWords (answersInOrder mainframe s (stepsIn (n - 1) (drop 8 bytes))))
-  pub areas : Holds c w r m (stateInOrder mainframe s (stepsIn (n - 1) (drop 8 bytes)))
+  pub laid : out′ ≡ sets out 3 (answerWords (answersInOrder mainframe s (stepsIn (n - 1) (drop fileRecordWidth bytes))))
+  pub areas : Holds c w r m (stateInOrder mainframe s (stepsIn (n - 1) (drop fileRecordWidth bytes)))

@@ -2,6 +2,7 @@
 use Prim.Native.Nat.{ℕ, zero, suc, _+_, _*_}
 use mathlib.Core.List.{List, [], _∷_}
 use lib.ListN.{getD, drop}
+use Rattle.limits.specs.Limits.{fileRecordWidth}
 use Rattle.rules.specs.Refusals.{Step, Answer}
 
 -- "kind, card, object (two bytes, low first), value (four, low first)": the step in the first eight bytes
@@ -17,7 +18,7 @@ stepFrom bytes =
 -- the steps in the first n records
 unfoldable pub stepsIn : ℕ → List ℕ → List Step
 stepsIn zero bytes = []
-stepsIn (suc n) bytes = stepFrom bytes ∷ stepsIn n (drop 8 bytes)
+stepsIn (suc n) bytes = stepFrom bytes ∷ stepsIn n (drop fileRecordWidth bytes)
 
 -- answers as words, three for each: refusal, value, count
 unfoldable pub answerWords : List Answer → List ℕ

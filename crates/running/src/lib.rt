@@ -4,13 +4,15 @@ ghost use mathlib.Core.List.{_∷_, []};
 ghost use Prim.Native.Nat.{_+_, _*_, _≤_};
 ghost use lib.ListN.{length, getD, drop};
 ghost use lib.Seq.{sets};
+ghost use Rattle.limits.specs.Limits.{fileRecordWidth};
 ghost use Rattle.rules.specs.State.{mainframe};
 ghost use Rattle.memory.specs.Areas.{stateIn, areas};
-ghost use Rattle.engine.specs.Promises.{SteppedAs};
+ghost use Rattle.engine.specs.Needed.{SteppedAs};
 ghost use Rattle.running.specs.Records.{stepFrom};
 ghost use Rattle.running.specs.Runs.{Ran};
 ghost use Rattle.running.specs.Needed.{StepThere, FieldsAre, OutcomeLaid, RecordThere, StepLaid, CountIs, RecordsThere, OpeningThere, OpeningLaid, StepsThere, StepsLaid};
 use acting::Outcome;
+use limits::FILE_RECORD_WIDTH;
 
 // Runs an opening and the step records behind it, and says how many records it has run: of a refused opening only that one.
 // Each answer is laid as three words: refusal, value, count. Of odd sizes: as many whole records are run as there are and as the answers
@@ -61,7 +63,7 @@ pub fn step_record(
 fn records_run(bytes: usize, words: usize) -> usize
     ensures { λ r. ⌜ CountIs bytes words r ⌝ }
 {
-    let whole = bytes / 8;
+    let whole = bytes / FILE_RECORD_WIDTH;
     let room = words / 3;
     if whole < room {
         return whole;
@@ -140,7 +142,7 @@ fn run_step(
     requires { ⌜ RecordThere (now bytes) i (now answers) (now clocks) (now words) (now records) (now marks) ⌝ }
     ensures { λ _. ⌜ StepLaid (now (bytes .entry)) i (stateIn mainframe (now (clocks .entry)) (now (words .entry)) (now (records .entry)) (now (marks .entry))) (now (answers .entry)) (now (answers .exit)) (now (clocks .exit)) (now (words .exit)) (now (records .exit)) (now (marks .exit)) ⌝ }
 {
-    let outcome = step_record(bytes, 8 * i, clocks, words, records, marks);
+    let outcome = step_record(bytes, FILE_RECORD_WIDTH * i, clocks, words, records, marks);
     lay_outcome(answers, 3 * i, outcome);
 }
 
@@ -154,7 +156,7 @@ pub struct Fields {
 
 // The fields of the record from a place on.
 pub fn fields_at(bytes: &[u8], at: usize) -> Fields
-    requires { ⌜ at + 8 ≤ length (now bytes) ⌝ }
+    requires { ⌜ at + fileRecordWidth ≤ length (now bytes) ⌝ }
     ensures { λ r. ⌜ FieldsAre (now (bytes .entry)) at (r .kind) (r .processor) (r .object) (r .value) ⌝ }
 {
     let kind = wide(bytes[at]);

@@ -14,6 +14,8 @@ use mir.Syntax.{w32}
 use mir.Val.{Fits}
 use borrow.Author.Tests.{lt-ltb, le-ltb, eq-eqb, ne-eqb}
 use borrow.Author.Needs.{needs}
+use Rattle.limits.specs.Limits.{pageLimit, processorLimit}
+use Rattle.limits.specs.Sizes.{rankArea, slotBase}
 use Rattle.rules.specs.State.{mainframe, Record}
 use Rattle.rules.proofs.Selected.{Each, each-at}
 use Rattle.memory.specs.Areas.{copyRow}
@@ -30,20 +32,20 @@ use Rattle.spreading.proofs.Spreading.{all-of-more, below-next, spread-
 
 -- what row j gets of the record t, where the copies of page g of some processors get it: processor k + 1 has its copy in row 8 * k + g
 unfoldable pub listedTo : Record → ℕ → List ℕ → ℕ → List Record
-listedTo t g l j = allOf (λ k. cond (eqb j (8 * k + g)) (t ∷ []) []) l
+listedTo t g l j = allOf (λ k. cond (eqb j (pageLimit * k + g)) (t ∷ []) []) l
 
 -- ---- which rows are listed
 
-module _ (t : Record) (g : ℕ) (test : ℕ → Bool) (b : g < 8) (j : ℕ) where
+module _ (t : Record) (g : ℕ) (test : ℕ → Bool) (b : g < pageLimit) (j : ℕ) where
   -- the row is the copy of page g of one of the first n processors, and that one passes
   abbrev gets : ℕ → Bool
-  gets n = eqb (j % 8) g && (ltb (j / 8) n && test (j / 8))
+  gets n = eqb (j % pageLimit) g && (ltb (j / pageLimit) n && test (j / pageLimit))
 
   abbrev one : Bool → List Record
   one x = cond x (t ∷ []) []
 
-  row-is : (k : ℕ) → eqb j (8 * k + g) ≡ (eqb (j % 8) g && eqb (j / 8) k)
-  row-is k = eqb-pair j (8 * k + g) (j % 8) g (j / 8) k (λ e. (omega (arith, e, b), omega (arith, e, b))) (λ e d. omega (arith, e, d))
+  row-is : (k : ℕ) → eqb j (pageLimit * k + g) ≡ (eqb (j % pageLimit) g && eqb (j / pageLimit) k)
+  row-is k = eqb-pair j (pageLimit * k + g) (j % pageLimit) g (j / pageLimit) k (λ e. (omega (arith, e, b), omega (arith, e, b))) (λ e d. omega (arith, e, d))
 
   none-more : (x : Bool) → one (x && false) ≡ []
   none-more true = refl
@@ -52,32 +54,32 @@ module _ (t : Record) (g : ℕ) (test : ℕ → Bool) (b : g < 8) (j : ℕ) wher
   -- the processors that pass get the record, each once
   pub listed-slots : (n : ℕ) → listedTo t g (slotsBy test n) j ≡ cond (gets n) (t ∷ []) []
   unfolding listedTo slotsBy allOf
-  listed-slots zero = sym (rw (le-ltb (j / 8) 0 (omega arith)) (none-more (eqb (j % 8) g)))
-  listed-slots (suc n) = go (test n) refl (ℕ-discrete (j / 8) n) (listed-slots n)
+  listed-slots zero = sym (rw (le-ltb (j / pageLimit) 0 (omega arith)) (none-more (eqb (j % pageLimit) g)))
+  listed-slots (suc n) = go (test n) refl (ℕ-discrete (j / pageLimit) n) (listed-slots n)
     where
       f : ℕ → List Record
-      f k = one (eqb j (8 * k + g))
+      f k = one (eqb j (pageLimit * k + g))
 
-      no-other : (j / 8 ≡ n → ⊥) → f n ≡ []
-      no-other e = ap one (row-is n) ∙ rw (ne-eqb (j / 8) n e) (none-more (eqb (j % 8) g))
+      no-other : (j / pageLimit ≡ n → ⊥) → f n ≡ []
+      no-other e = ap one (row-is n) ∙ rw (ne-eqb (j / pageLimit) n e) (none-more (eqb (j % pageLimit) g))
 
-      this : j / 8 ≡ n → f n ≡ one (eqb (j % 8) g && true)
-      this e = ap one (row-is n) ∙ rw (eq-eqb (j / 8) n e)
+      this : j / pageLimit ≡ n → f n ≡ one (eqb (j % pageLimit) g && true)
+      this e = ap one (row-is n) ∙ rw (eq-eqb (j / pageLimit) n e)
 
-      before : j / 8 ≡ n → one (gets n) ≡ []
-      before e = rw (le-ltb (j / 8) n (omega (arith, e))) (none-more (eqb (j % 8) g))
+      before : j / pageLimit ≡ n → one (gets n) ≡ []
+      before e = rw (le-ltb (j / pageLimit) n (omega (arith, e))) (none-more (eqb (j % pageLimit) g))
 
-      same : (j / 8 ≡ n → ⊥) → one (gets n) ≡ one (gets (suc n))
-      same e = ap (λ (x : Bool). one (eqb (j % 8) g && (x && test (j / 8)))) (sym (below-next (j / 8) n e))
+      same : (j / pageLimit ≡ n → ⊥) → one (gets n) ≡ one (gets (suc n))
+      same e = ap (λ (x : Bool). one (eqb (j % pageLimit) g && (x && test (j / pageLimit)))) (sym (below-next (j / pageLimit) n e))
 
-      at : (x : Bool) → j / 8 ≡ n → test n ≡ x → one (gets (suc n)) ≡ one (eqb (j % 8) g && x)
-      at x e d = ap₂ (λ (y z : Bool). one (eqb (j % 8) g && (y && z))) (lt-ltb (j / 8) (suc n) (omega (arith, e))) (ap test e ∙ d)
+      at : (x : Bool) → j / pageLimit ≡ n → test n ≡ x → one (gets (suc n)) ≡ one (eqb (j % pageLimit) g && x)
+      at x e d = ap₂ (λ (y z : Bool). one (eqb (j % pageLimit) g && (y && z))) (lt-ltb (j / pageLimit) (suc n) (omega (arith, e))) (ap test e ∙ d)
 
-      go : (x : Bool) → test n ≡ x → Dec (j / 8 ≡ n) → allOf f (slotsBy test n) ≡ one (gets n)
+      go : (x : Bool) → test n ≡ x → Dec (j / pageLimit ≡ n) → allOf f (slotsBy test n) ≡ one (gets n)
           → allOf f (cond x (slotsBy test n ++ n ∷ []) (slotsBy test n)) ≡ one (gets (suc n))
       go true d (yes e) ih = all-of-more f (slotsBy test n) n ∙ ap₂ (λ (l k : List Record). l ++ k) (ih ∙ before e) (this e) ∙ sym (at true e d)
       go true d (no e) ih = all-of-more f (slotsBy test n) n ∙ ap₂ (λ (l k : List Record). l ++ k) (ih ∙ same e) (no-other e) ∙ append-nil (one (gets (suc n)))
-      go false d (yes e) ih = ih ∙ before e ∙ sym (at false e d ∙ none-more (eqb (j % 8) g))
+      go false d (yes e) ih = ih ∙ before e ∙ sym (at false e d ∙ none-more (eqb (j % pageLimit) g))
       go false d (no e) ih = ih ∙ same e
 
 -- ---- one record: the copies of the first `taken` processors that are listed have it
@@ -86,11 +88,11 @@ pub record Laying (c r : List ℕ) (g x n : ℕ) (w₀ w l : List ℕ) (m taken 
   pub asked : RecordSpreadable c w₀ r g x n
   pub listed : ListedFor c g x n l m
   pub upto : taken ≤ m
-  pub spread : Spread w₀ w (listedTo (recordOf r (x % 128)) g (take taken l)) taken
+  pub spread : Spread w₀ w (listedTo (recordOf r (x % slotBase)) g (take taken l)) taken
 
 module _ (c w r : List ℕ) (g x n : ℕ) (h : RecordSpreadable c w r g x n) where
   -- the processors can be listed
-  pub laying-listable : (l : List ℕ) → length l ≡ 8 → Listable c g x n l
+  pub laying-listable : (l : List ℕ) → length l ≡ processorLimit → Listable c g x n l
   laying-listable l e = record { clocks = h .clocks; page = h .page; few = h .few; named = h .number .named; room = e }
 
   -- no copy has it yet
@@ -121,7 +123,7 @@ module _ (c r : List ℕ) (g x n : ℕ) (w₀ w l : List ℕ) (m taken : ℕ) (t
     place = record { from = omega arith; to = omega (arith, present, t .asked .few); page = t .asked .page }
 
     -- it has a copy, and the slot a diff
-    pub laying-due : DueThere r (x % 128) w (k + 1) g
+    pub laying-due : DueThere r (x % slotBase) w (k + 1) g
     laying-due =
         let d : NumberThere r x = t .asked .number in
         record {
@@ -129,26 +131,26 @@ module _ (c r : List ℕ) (g x n : ℕ) (w₀ w l : List ℕ) (m taken : ℕ) (t
           there = record { within = d .within; diff-fits = d .diff-fits; legal = d .legal; row-there = copy-there w (k + 1) g (t .spread .words) place };
         }
 
-    row : copyRow mainframe (k + 1) g ≡ 8 * k + g
+    row : copyRow mainframe (k + 1) g ≡ pageLimit * k + g
     unfolding copyRow mainframe
     row = omega arith
 
     -- one copy more has it
-    pub laying-more : (w′ : List ℕ) → w′ ≡ diffLaid w (copyRow mainframe (k + 1) g) (recordOf r (x % 128) .diff) → Laying c r g x n w₀ w′ l m (taken + 1)
+    pub laying-more : (w′ : List ℕ) → w′ ≡ diffLaid w (copyRow mainframe (k + 1) g) (recordOf r (x % slotBase) .diff) → Laying c r g x n w₀ w′ l m (taken + 1)
     unfolding listedTo
     laying-more w′ is =
-        let s : Record = recordOf r (x % 128) in
-        let one = spread-laid w w′ (8 * k + g) s (t .spread .words) (omega (arith, present, t .asked .few, t .asked .page)) (is ∙ ap (λ (i : ℕ). diffLaid w i (s .diff)) row) in
+        let s : Record = recordOf r (x % slotBase) in
+        let one = spread-laid w w′ (pageLimit * k + g) s (t .spread .words) (omega (arith, present, t .asked .few, t .asked .page)) (is ∙ ap (λ (i : ℕ). diffLaid w i (s .diff)) row) in
         record {
           asked = t .asked;
           listed = t .listed;
           upto = omega arith;
           spread =
-              spread-same w₀ w′ (λ j. listedTo s g (take taken l) j ++ cond (eqb j (8 * k + g)) (s ∷ []) []) (listedTo s g (take (taken + 1) l)) (taken + 1)
-              (spread-then w₀ w w′ (listedTo s g (take taken l)) (λ j. cond (eqb j (8 * k + g)) (s ∷ []) []) taken 1 (t .spread) one)
+              spread-same w₀ w′ (λ j. listedTo s g (take taken l) j ++ cond (eqb j (pageLimit * k + g)) (s ∷ []) []) (listedTo s g (take (taken + 1) l)) (taken + 1)
+              (spread-then w₀ w w′ (listedTo s g (take taken l)) (λ j. cond (eqb j (pageLimit * k + g)) (s ∷ []) []) taken 1 (t .spread) one)
               (λ j b.
               sym (ap (λ (q : List ℕ). listedTo s g q j) next
-              ∙ all-of-more (λ i. cond (eqb j (8 * i + g)) (s ∷ []) []) (take taken l) k));
+              ∙ all-of-more (λ i. cond (eqb j (pageLimit * i + g)) (s ∷ []) []) (take taken l) k));
         }
       where
         next : take (taken + 1) l ≡ take taken l ++ k ∷ []
@@ -158,7 +160,7 @@ module _ (c r : List ℕ) (g x n : ℕ) (w₀ w l : List ℕ) (m taken : ℕ) (t
   pub laying-ends : m ≤ taken → Spread w₀ w (recordTo c r n g x) taken
   unfolding recordTo
   laying-ends h =
-      let s : Record = recordOf r (x % 128) in
+      let s : Record = recordOf r (x % slotBase) in
       let all : taken ≡ m = omega (arith, h, t .upto) in
       spread-same w₀ w (listedTo s g (take taken l)) (recordTo c r n g x) taken (t .spread)
       (λ j b.
@@ -166,7 +168,7 @@ module _ (c r : List ℕ) (g x n : ℕ) (w₀ w l : List ℕ) (m taken : ℕ) (t
       ∙ listed-slots s g (λ i. newsAt c (i + 1) g x) (t .asked .page) j n)
 
   -- they are at most eight
-  pub laying-few : m ≤ taken → taken ≤ 8
+  pub laying-few : m ≤ taken → taken ≤ processorLimit
   laying-few h = omega (arith, t .upto, t .listed .within)
 
 -- ---- one page: the first i records are laid
@@ -174,7 +176,7 @@ module _ (c r : List ℕ) (g x n : ℕ) (w₀ w l : List ℕ) (m taken : ℕ) (t
 pub record PageLaying (c r : List ℕ) (g : ℕ) (ranks : List ℕ) (n processors : ℕ) (w₀ w : List ℕ) (i count : ℕ) : Type 0 where
   pub asked : PageSpreadable c w₀ r g ranks n processors
   pub upto : i ≤ n
-  pub few : count ≤ 8 * i
+  pub few : count ≤ processorLimit * i
   pub spread : Spread w₀ w (numbersTo c r processors g (take i ranks)) count
 
 -- none is
@@ -199,7 +201,7 @@ module _ (c r : List ℕ) (g : ℕ) (ranks : List ℕ) (n processors : ℕ) (w�
         number = rw (getD-take n ranks i 0 h) at (each-at (λ x. NumberThere r x) 0 (take n ranks) (t .asked .numbers) i (omega (arith, h, whole)));
       }
 
-  module _ (a : ℕ) (w′ : List ℕ) (h : i < n) (small : a ≤ 8) (s : Spread w w′ (recordTo c r processors g (getD ranks i 0)) a) where
+  module _ (a : ℕ) (w′ : List ℕ) (h : i < n) (small : a ≤ processorLimit) (s : Spread w w′ (recordTo c r processors g (getD ranks i 0)) a) where
     -- the count fits
     pub page-fits : Fits w32 (count + a)
     page-fits = omega (arith, t .few, small, h, t .asked .short)
@@ -226,7 +228,7 @@ module _ (c r : List ℕ) (g : ℕ) (ranks : List ℕ) (n processors : ℕ) (w�
   page-ends h = let e : i ≡ n = omega (arith, t .upto) in rw e at (t .spread)
 
   -- each at most eight times
-  pub page-few : n ≤ i → count ≤ 1024
+  pub page-few : n ≤ i → count ≤ rankArea
   page-few h = omega (arith, t .upto, t .few, t .asked .short)
 
 pub ruleset laying-laws = (laying-listable, laying-begins, laying-there, laying-fits, laying-due, laying-more, laying-ends, laying-few, page-begins, page-there, page-spreadable, page-fits, page-more, page-ends, page-few, needs)

@@ -11,6 +11,7 @@ use lib.Dec.{leb, ltb, eqb}
 use mir.Syntax.{w64}
 use mir.Val.{Fits}
 use borrow.Author.Needs.{needs}
+use Rattle.limits.specs.Sizes.{clockRowLimit, clockWidth, intervalBase, processorBase, processorStep, slotBase}
 use Rattle.clock.specs.Clocks.{entryOf}
 use Rattle.rules.specs.State.{mainframe}
 use Rattle.memory.specs.Areas.{appliedRow}
@@ -31,12 +32,12 @@ module _ (c : List ℕ) (row q : ℕ) (h : EntryThere c row q) where
   entry-some = h .from
 
   -- its entry lies within the clocks
-  pub entry-within : 8 * row + (q - 1) < length c
+  pub entry-within : clockWidth * row + (q - 1) < length c
   entry-within = omega (arith, h .there .within, h .from, h .to)
 
   -- and is the row's
-  pub entry-is : (x : ℕ) → x ≡ getD c (8 * row + (q - 1)) 0 → x ≡ entryOf (rowOf 8 c row) q
-  entry-is x e = e ∙ sym (get-row 8 c row (q - 1) 0 (omega (arith, h .from, h .to))) ∙ entry-at (rowOf 8 c row) q (h .from)
+  pub entry-is : (x : ℕ) → x ≡ getD c (clockWidth * row + (q - 1)) 0 → x ≡ entryOf (rowOf clockWidth c row) q
+  entry-is x e = e ∙ sym (get-row clockWidth c row (q - 1) 0 (omega (arith, h .from, h .to))) ∙ entry-at (rowOf clockWidth c row) q (h .from)
 
 -- ---- the flag of a processor
 
@@ -46,7 +47,7 @@ module _ (c : List ℕ) (p g x : ℕ) (h : NewsThere c p g x) where
   news-place = h .place
 
   -- the number's processor has an entry in every row
-  pub news-applied : (row : ℕ) → row < 593 → EntryThere c row (x / 8192 % 16)
+  pub news-applied : (row : ℕ) → row < clockRowLimit → EntryThere c row (x / processorStep % processorBase)
   news-applied row b =
       record {
         there = record { within = omega (arith, h .clocks) };
@@ -55,15 +56,15 @@ module _ (c : List ℕ) (p g x : ℕ) (h : NewsThere c p g x) where
       }
 
   -- and in the processor's
-  pub news-known : EntryThere c p (x / 8192 % 16)
+  pub news-known : EntryThere c p (x / processorStep % processorBase)
   news-known = news-applied p (omega (arith, h .place .to))
 
   -- the flag says whether the record is news
-  pub news-flag-is : (row a k f b : ℕ) → row ≡ appliedRow mainframe p g → a ≡ entryOf (rowOf 8 c row) (x / 8192 % 16) → k ≡ entryOf (rowOf 8 c p) (x / 8192 % 16)
-      → f ≡ cond (not (eqb (x / 8192 % 16) p)) 1 0 → b ≡ cond (ltb a (x / 128 % 64) && leb (x / 128 % 64) k) 1 0 → f * b ≡ cond (newsAt c p g x) 1 0
+  pub news-flag-is : (row a k f b : ℕ) → row ≡ appliedRow mainframe p g → a ≡ entryOf (rowOf clockWidth c row) (x / processorStep % processorBase) → k ≡ entryOf (rowOf clockWidth c p) (x / processorStep % processorBase)
+      → f ≡ cond (not (eqb (x / processorStep % processorBase) p)) 1 0 → b ≡ cond (ltb a (x / slotBase % intervalBase) && leb (x / slotBase % intervalBase) k) 1 0 → f * b ≡ cond (newsAt c p g x) 1 0
   unfolding newsAt newsTo newsBetween
   news-flag-is row a k f b er ea ek ef eb =
-      both-hold (not (eqb (x / 8192 % 16) p)) (ltb a (x / 128 % 64) && leb (x / 128 % 64) k) f b ef eb
+      both-hold (not (eqb (x / processorStep % processorBase) p)) (ltb a (x / slotBase % intervalBase) && leb (x / slotBase % intervalBase) k) f b ef eb
       ∙ rw (ea, ek, er)
 
 -- ---- the first k processors are looked at

@@ -10,6 +10,8 @@ use lib.ListN.{length, getD, length-append}
 use lib.Seq.{ext-getD, length-sets}
 use lib.Dec.{ltb, eqb}
 use borrow.Author.Tests.{lt-ltb, le-ltb, eq-eqb, ne-eqb}
+use Rattle.limits.specs.Limits.{pageWidth}
+use Rattle.limits.specs.Sizes.{wordArea, wordRowLimit}
 use Rattle.diff.specs.Reading.{applied}
 use Rattle.rules.specs.Fetch.{appliedAll}
 use Rattle.rules.specs.State.{Record}
@@ -87,17 +89,17 @@ total-one n i x b =
 -- ---- records spread
 
 -- none
-pub spread-none : (w : List ℕ) → length w ≡ 4096 → Spread w w (λ j. []) 0
+pub spread-none : (w : List ℕ) → length w ≡ wordArea → Spread w w (λ j. []) 0
 unfolding appliedAll
-spread-none w e = record { words = e; row = λ j b. refl; counted = sym (total-zero 128 (λ j. 0) (λ j b. refl)) }
+spread-none w e = record { words = e; row = λ j b. refl; counted = sym (total-zero wordRowLimit (λ j. 0) (λ j b. refl)) }
 
 -- the same ones said otherwise
-pub spread-same : (w₀ w : List ℕ) (d e : ℕ → List Record) (count : ℕ) → Spread w₀ w d count → ((j : ℕ) → j < 128 → d j ≡ e j) → Spread w₀ w e count
+pub spread-same : (w₀ w : List ℕ) (d e : ℕ → List Record) (count : ℕ) → Spread w₀ w d count → ((j : ℕ) → j < wordRowLimit → d j ≡ e j) → Spread w₀ w e count
 spread-same w₀ w d e count s h =
     record {
       words = s .words;
-      row = λ j b. s .row j b ∙ ap (λ (l : List Record). appliedAll 32 l (rowOf 32 w₀ j)) (h j b);
-      counted = s .counted ∙ total-same 128 (λ j. length (d j)) (λ j. length (e j)) (λ j b. ap length (h j b));
+      row = λ j b. s .row j b ∙ ap (λ (l : List Record). appliedAll pageWidth l (rowOf pageWidth w₀ j)) (h j b);
+      counted = s .counted ∙ total-same wordRowLimit (λ j. length (d j)) (λ j. length (e j)) (λ j b. ap length (h j b));
     }
 
 -- some and then others
@@ -107,43 +109,43 @@ spread-then w₀ w₁ w₂ d e a b s t =
       words = t .words;
       row =
           λ j k.
-          t .row j k ∙ ap (λ (l : List ℕ). appliedAll 32 (e j) l) (s .row j k) ∙ sym (applied-append 32 (d j) (e j) (rowOf 32 w₀ j));
+          t .row j k ∙ ap (λ (l : List ℕ). appliedAll pageWidth (e j) l) (s .row j k) ∙ sym (applied-append pageWidth (d j) (e j) (rowOf pageWidth w₀ j));
       counted =
           rw (s .counted, t .counted)
-          (sym (total-same 128 (λ j. length (d j ++ e j)) (λ j. length (d j) + length (e j)) (λ j k. length-append (d j) (e j))
-          ∙ total-add 128 (λ j. length (d j)) (λ j. length (e j))));
+          (sym (total-same wordRowLimit (λ j. length (d j ++ e j)) (λ j. length (d j) + length (e j)) (λ j k. length-append (d j) (e j))
+          ∙ total-add wordRowLimit (λ j. length (d j)) (λ j. length (e j))));
     }
 
 -- those of one row
-pub spread-row : (w w′ : List ℕ) (row : ℕ) (rs : List Record) → length w ≡ 4096 → row < 128 → w′ ≡ rowApplied w row rs
+pub spread-row : (w w′ : List ℕ) (row : ℕ) (rs : List Record) → length w ≡ wordArea → row < wordRowLimit → w′ ≡ rowApplied w row rs
     → Spread w w′ (λ j. cond (eqb j row) rs []) (length rs)
 unfolding rowApplied
 spread-row w w′ row rs long b e =
     record {
-      words = ap length e ∙ length-sets w (32 * row) page ∙ long;
-      row = λ j k. ap (λ (l : List ℕ). rowOf 32 l j) e ∙ row-of-sets 32 w page row j wide (omega (arith, long, b)) ∙ at j (ℕ-discrete j row);
-      counted = sym (total-same 128 (λ j. length (cond (eqb j row) rs [])) (λ j. cond (eqb j row) (length rs) 0) (λ j k. long-at j (ℕ-discrete j row)) ∙ total-one 128 row (length rs) b);
+      words = ap length e ∙ length-sets w (pageWidth * row) page ∙ long;
+      row = λ j k. ap (λ (l : List ℕ). rowOf pageWidth l j) e ∙ row-of-sets pageWidth w page row j wide (omega (arith, long, b)) ∙ at j (ℕ-discrete j row);
+      counted = sym (total-same wordRowLimit (λ j. length (cond (eqb j row) rs [])) (λ j. cond (eqb j row) (length rs) 0) (λ j k. long-at j (ℕ-discrete j row)) ∙ total-one wordRowLimit row (length rs) b);
     }
   where
     page : List ℕ
-    page = appliedAll 32 rs (rowOf 32 w row)
+    page = appliedAll pageWidth rs (rowOf pageWidth w row)
 
-    wide : length page ≡ 32
-    wide = length-applied-all 32 rs (rowOf 32 w row) ∙ length-row 32 w row (omega (arith, long, b))
+    wide : length page ≡ pageWidth
+    wide = length-applied-all pageWidth rs (rowOf pageWidth w row) ∙ length-row pageWidth w row (omega (arith, long, b))
 
-    none : (l : List ℕ) → appliedAll 32 [] l ≡ l
+    none : (l : List ℕ) → appliedAll pageWidth [] l ≡ l
     none l = unfold appliedAll in refl
 
-    at : (j : ℕ) → Dec (j ≡ row) → cond (eqb j row) page (rowOf 32 w j) ≡ appliedAll 32 (cond (eqb j row) rs []) (rowOf 32 w j)
+    at : (j : ℕ) → Dec (j ≡ row) → cond (eqb j row) page (rowOf pageWidth w j) ≡ appliedAll pageWidth (cond (eqb j row) rs []) (rowOf pageWidth w j)
     at j (yes s) = rw (eq-eqb j row s) (rw s)
-    at j (no s) = rw (ne-eqb j row s) (sym (none (rowOf 32 w j)))
+    at j (no s) = rw (ne-eqb j row s) (sym (none (rowOf pageWidth w j)))
 
     long-at : (j : ℕ) → Dec (j ≡ row) → length (cond (eqb j row) rs []) ≡ cond (eqb j row) (length rs) 0
     long-at j (yes s) = rw (eq-eqb j row s)
     long-at j (no s) = rw (ne-eqb j row s)
 
 -- one record laid into one row
-pub spread-laid : (w w′ : List ℕ) (row : ℕ) (t : Record) → length w ≡ 4096 → row < 128 → w′ ≡ diffLaid w row (t .diff)
+pub spread-laid : (w w′ : List ℕ) (row : ℕ) (t : Record) → length w ≡ wordArea → row < wordRowLimit → w′ ≡ diffLaid w row (t .diff)
     → Spread w w′ (λ j. cond (eqb j row) (t ∷ []) []) 1
 unfolding diffLaid rowApplied appliedAll
 spread-laid w w′ row t long b e = spread-row w w′ row (t ∷ []) long b e
@@ -151,22 +153,22 @@ spread-laid w w′ row t long b e = spread-row w w′ row (t ∷ []) long b e
 -- ---- what is determined
 
 -- words that agree in every row are the same
-words-by-rows : (l k : List ℕ) → length l ≡ 4096 → length k ≡ 4096 → ((j : ℕ) → j < 128 → rowOf 32 l j ≡ rowOf 32 k j) → l ≡ k
+words-by-rows : (l k : List ℕ) → length l ≡ wordArea → length k ≡ wordArea → ((j : ℕ) → j < wordRowLimit → rowOf pageWidth l j ≡ rowOf pageWidth k j) → l ≡ k
 words-by-rows l k el ek h = ext-getD 0 l k (el ∙ sym ek) at
   where
-    in-row : (w : List ℕ) (i : ℕ) → getD (rowOf 32 w (i / 32)) (i % 32) 0 ≡ getD w i 0
-    in-row w i = let e : 32 * (i / 32) + i % 32 ≡ i = omega arith in get-row 32 w (i / 32) (i % 32) 0 (omega arith) ∙ ap (λ (j : ℕ). getD w j 0) e
+    in-row : (w : List ℕ) (i : ℕ) → getD (rowOf pageWidth w (i / pageWidth)) (i % pageWidth) 0 ≡ getD w i 0
+    in-row w i = let e : pageWidth * (i / pageWidth) + i % pageWidth ≡ i = omega arith in get-row pageWidth w (i / pageWidth) (i % pageWidth) 0 (omega arith) ∙ ap (λ (j : ℕ). getD w j 0) e
 
     at : (i : ℕ) → i < length l → getD l i 0 ≡ getD k i 0
-    at i b = sym (in-row l i) ∙ ap (λ (row : List ℕ). getD row (i % 32) 0) (h (i / 32) (omega (arith, b, el))) ∙ in-row k i
+    at i b = sym (in-row l i) ∙ ap (λ (row : List ℕ). getD row (i % pageWidth) 0) (h (i / pageWidth) (omega (arith, b, el))) ∙ in-row k i
 
-module _ (w₀ w w′ : List ℕ) (d e : ℕ → List Record) (a b : ℕ) (s : Spread w₀ w d a) (t : Spread w₀ w′ e b) (h : (j : ℕ) → j < 128 → d j ≡ e j) where
+module _ (w₀ w w′ : List ℕ) (d e : ℕ → List Record) (a b : ℕ) (s : Spread w₀ w d a) (t : Spread w₀ w′ e b) (h : (j : ℕ) → j < wordRowLimit → d j ≡ e j) where
   -- the words by what each row gets
   pub spread-words : w ≡ w′
   spread-words =
       words-by-rows w w′ (s .words) (t .words)
-      (λ j k. s .row j k ∙ ap (λ (l : List Record). appliedAll 32 l (rowOf 32 w₀ j)) (h j k) ∙ sym (t .row j k))
+      (λ j k. s .row j k ∙ ap (λ (l : List Record). appliedAll pageWidth l (rowOf pageWidth w₀ j)) (h j k) ∙ sym (t .row j k))
 
   -- and the count
   pub spread-count : a ≡ b
-  spread-count = s .counted ∙ total-same 128 (λ j. length (d j)) (λ j. length (e j)) (λ j k. ap length (h j k)) ∙ sym (t .counted)
+  spread-count = s .counted ∙ total-same wordRowLimit (λ j. length (d j)) (λ j. length (e j)) (λ j k. ap length (h j k)) ∙ sym (t .counted)

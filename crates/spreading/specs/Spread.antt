@@ -5,6 +5,8 @@ use mathlib.Core.Bool.{Bool, cond, _&&_}
 use mathlib.Core.List.{List, [], _∷_, _++_}
 use lib.ListN.{length}
 use lib.Dec.{ltb, eqb}
+use Rattle.limits.specs.Limits.{pageLimit, pageWidth}
+use Rattle.limits.specs.Sizes.{clockWidth, slotBase, wordArea, wordRowLimit}
 use Rattle.rules.specs.Fetch.{appliedAll}
 use Rattle.rules.specs.State.{mainframe, Record}
 use Rattle.rules.specs.Tables.{total}
@@ -29,11 +31,11 @@ allBelow (suc n) f = allBelow n f ++ f n
 
 -- whether the record of number x is news to processor p's copy of page g
 unfoldable pub newsAt : List ℕ → ℕ → ℕ → ℕ → Bool
-newsAt c p g x = newsTo (rowOf 8 c (appliedRow mainframe p g)) (rowOf 8 c p) p x
+newsAt c p g x = newsTo (rowOf clockWidth c (appliedRow mainframe p g)) (rowOf clockWidth c p) p x
 
 -- what row j gets of the record of number x of page g: the record, where the row is the copy of one of the first n processors and it is news there
 unfoldable pub recordTo : List ℕ → List ℕ → ℕ → ℕ → ℕ → ℕ → List Record
-recordTo c r n g x j = cond (eqb (j % 8) g && (ltb (j / 8) n && newsAt c (j / 8 + 1) g x)) (recordOf r (x % 128) ∷ []) []
+recordTo c r n g x j = cond (eqb (j % pageLimit) g && (ltb (j / pageLimit) n && newsAt c (j / pageLimit + 1) g x)) (recordOf r (x % slotBase) ∷ []) []
 
 -- what it gets of the records of several numbers, in their order
 unfoldable pub numbersTo : List ℕ → List ℕ → ℕ → ℕ → List ℕ → ℕ → List Record
@@ -43,6 +45,6 @@ numbersTo c r n g l j = allOf (λ x. recordTo c r n g x j) l
 
 -- each row j is as before with the records `to j` applied, and the count is how many they are in all
 pub record Spread (w₀ w : List ℕ) (to : ℕ → List Record) (count : ℕ) : Type 0 where
-  pub words : length w ≡ 4096
-  pub row : (j : ℕ) → j < 128 → rowOf 32 w j ≡ appliedAll 32 (to j) (rowOf 32 w₀ j)
-  pub counted : count ≡ total 128 (λ j. length (to j))
+  pub words : length w ≡ wordArea
+  pub row : (j : ℕ) → j < wordRowLimit → rowOf pageWidth w j ≡ appliedAll pageWidth (to j) (rowOf pageWidth w₀ j)
+  pub counted : count ≡ total wordRowLimit (λ j. length (to j))

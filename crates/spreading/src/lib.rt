@@ -5,6 +5,8 @@ ghost use mathlib.Core.Bool.{cond, _&&_};
 ghost use Prim.Native.Nat.{_<_, _≤_};
 ghost use lib.ListN.{length, take};
 ghost use lib.Dec.{leb, ltb};
+ghost use Rattle.limits.specs.Limits.{processorLimit};
+ghost use Rattle.limits.specs.Sizes.{clockWidth, rankArea};
 ghost use Rattle.clock.specs.Clocks.{entryOf};
 ghost use Rattle.memory.specs.Layout.{rowOf};
 ghost use Rattle.spreading.specs.Spread.{newsAt, recordTo, numbersTo, Spread};
@@ -12,7 +14,14 @@ ghost use Rattle.spreading.specs.Needed.{EntryThere, NewsThere, Listable
 use clock::PageId;
 use clock::ProcessorId;
 use fetching::lay_due;
+use limits::CLOCK_WIDTH;
+use limits::INTERVAL_BASE;
+use limits::PROCESSOR_BASE;
+use limits::PROCESSOR_LIMIT;
+use limits::PROCESSOR_STEP;
+use limits::SLOT_BASE;
 use memory::applied_row;
+use memory::wide;
 
 // Lays the records of the first n numbers, all of page g, into the copies of the first `processors` to which they are news, in the order of the
 // numbers. Yields how often a record was laid.
@@ -27,7 +36,7 @@ pub fn spread_page(
 ) -> u32
     requires { ⌜ PageSpreadable (now clocks) (now words) (now records) (g .0) (now ranks) n processors ⌝ }
     ensures { λ r. ⌜ Spread (now (words .entry)) (now (words .exit)) (numbersTo (now (clocks .entry)) (now (records .entry)) processors (g .0) (take n (now (ranks .entry)))) r ⌝ }
-    ensures few { λ r. ⌜ r ≤ 1024 ⌝ }
+    ensures few { λ r. ⌜ r ≤ rankArea ⌝ }
 {
     let mut count: u32 = 0;
     let mut i: usize = 0;
@@ -49,11 +58,11 @@ fn spread_record(
 ) -> u32
     requires { ⌜ RecordSpreadable (now clocks) (now words) (now records) (g .0) x processors ⌝ }
     ensures { λ r. ⌜ Spread (now (words .entry)) (now (words .exit)) (recordTo (now (clocks .entry)) (now (records .entry)) processors (g .0) x) r ⌝ }
-    ensures few { λ r. ⌜ r ≤ 8 ⌝ }
+    ensures few { λ r. ⌜ r ≤ processorLimit ⌝ }
 {
     let mut list = none_listed();
     let m = list_to(x, g, clocks, &mut list, processors);
-    let slot = (x % 128) as usize;
+    let slot = (x % SLOT_BASE) as usize;
     let mut taken: u32 = 0;
     loop {
         let k = taken as usize;
@@ -66,10 +75,10 @@ fn spread_record(
 }
 
 // Room for eight processors.
-fn none_listed() -> [u8; 8]
-    ensures { λ r. ⌜ length r ≡ 8 ⌝ }
+fn none_listed() -> [u8; PROCESSOR_LIMIT]
+    ensures { λ r. ⌜ length r ≡ processorLimit ⌝ }
 {
-    [0; 8]
+    [0; PROCESSOR_LIMIT]
 }
 
 // Lists which of the first `processors` the record of number x is news to, and yields how many. Each is always written, and kept where its flag
@@ -93,18 +102,18 @@ fn news_flag(x: u32, p: ProcessorId, g: PageId, clocks: &[u8]) -> usize
     requires { ⌜ NewsThere (now clocks) (p .0) (g .0) x ⌝ }
     ensures { λ r. ⌜ r ≡ cond (newsAt (now (clocks .entry)) (p .0) (g .0) x) 1 0 ⌝ }
 {
-    let q = (x / 8192 % 16) as usize;
+    let q = (x / PROCESSOR_STEP % PROCESSOR_BASE) as usize;
     let applied = entry_in(clocks, applied_row(p, g), q);
     let known = entry_in(clocks, p.0, q);
-    flag(q != p.0) * flag_between(applied, x / 128 % 64, known)
+    flag(q != p.0) * flag_between(applied, x / SLOT_BASE % INTERVAL_BASE, known)
 }
 
 // The entry of processor q in a row of the clocks.
 fn entry_in(clocks: &[u8], row: usize, q: usize) -> u32
     requires { ⌜ EntryThere (now clocks) row q ⌝ }
-    ensures { λ r. ⌜ r ≡ entryOf (rowOf 8 (now (clocks .entry)) row) q ⌝ }
+    ensures { λ r. ⌜ r ≡ entryOf (rowOf clockWidth (now (clocks .entry)) row) q ⌝ }
 {
-    wide32(clocks[8 * row + (q - 1)])
+    wide32(clocks[CLOCK_WIDTH * row + (q - 1)])
 }
 
 // 1 where a number is above one and not above another, else 0.
@@ -119,12 +128,6 @@ fn flag(x: bool) -> usize
     ensures { λ r. ⌜ r ≡ cond x 1 0 ⌝ }
 {
     if x { 1 } else { 0 }
-}
-
-fn wide(x: u8) -> usize
-    ensures { λ r. ⌜ (r ≡ x) × (r < 256) ⌝ }
-{
-    x as usize
 }
 
 fn wide32(x: u8) -> u32

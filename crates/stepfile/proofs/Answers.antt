@@ -8,8 +8,9 @@ use lib.ListN.{drop, length, replicate, take, take-append-drop}
 use lib.Seq.{length-take-le, sets, sets-eq}
 use borrow.Author.Tests.{not-false, not-true}
 use borrow.Author.Needs.{needs}
+use Rattle.limits.specs.Limits.{fileRecordWidth}
 use Rattle.memory.specs.Areas.{Areas}
-use Rattle.engine.specs.Promises.{OrderIs}
+use Rattle.engine.specs.Needed.{OrderIs}
 use Rattle.passing.specs.Bytes.{bytesTaken}
 use Rattle.passing.proofs.Bytes.{taken-stopped}
 use Rattle.passing.proofs.Passing.{kept-all}
@@ -22,7 +23,7 @@ use Rattle.stepfile.proofs.Cutting.{cut-lines, cut-reached, started}
 use Rattle.stepfile.proofs.Sound.{few-held, few-records, holding-there, room-there}
 
 -- no byte has been fed
-pub nothing-fed : Started (record { number = 0; stopped = false; held = 0; bytes = replicate 8 0 })
+pub nothing-fed : Started (record { number = 0; stopped = false; held = 0; bytes = replicate fileRecordWidth 0 })
 nothing-fed = record { reached = λ a₀. started a₀ }
 
 -- bytes behind which all is as it was are stored at the start
@@ -77,7 +78,7 @@ module _ (p : Progress) (chunk out : List ℕ) (a : Areas) (b : Bool) (e : Feeda
 
 module _ (p : Progress) (chunk out : List ℕ) (e : FeedableIs true p (length chunk) (length out)) where
   -- a run that has stopped is left as it is
-  pub fed-stopped : (a : Areas) → length (p .bytes) ≡ 8 → p .stopped ≡ true
+  pub fed-stopped : (a : Areas) → length (p .bytes) ≡ fileRecordWidth → p .stopped ≡ true
       → ChunkFed (bytesTaken (standing p a) chunk) 0 out (record { progress = p; fed = true; written = 0 }) out a
   unfolding standing progressOf takenAs
   fed-stopped a long s =
@@ -95,7 +96,7 @@ module _ (p : Progress) (chunk out : List ℕ) (e : FeedableIs true p (length ch
           sym (rw (l, ← h .zeros, take-append-drop (q .held) (q .bytes)))
 
   -- what feeding on asks
-  pub feedable-on : (ready : Bool) (c w r m : List ℕ) → p .stopped ≡ false → length (p .bytes) ≡ 8 → OrderIs ready c w r m → Feedable p ready chunk out c w r m
+  pub feedable-on : (ready : Bool) (c w r m : List ℕ) → p .stopped ≡ false → length (p .bytes) ≡ fileRecordWidth → OrderIs ready c w r m → Feedable p ready chunk out c w r m
   feedable-on ready c w r m s long o =
       record {
         few = few-records p (length chunk) (length out) (sym (e .is));

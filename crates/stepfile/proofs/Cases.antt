@@ -5,6 +5,8 @@ use mathlib.Core.Path.{_≡_, refl, sym, ap, _∙_}
 use mathlib.Core.Bool.{true}
 use mathlib.Core.List.{List, [], _∷_, _++_}
 use lib.ListN.{drop, replicate}
+use Rattle.limits.specs.Limits.{fileRecordWidth, stepLimit}
+use Rattle.limits.specs.Sizes.{clockArea, markArea, recordArea, wordArea}
 use Rattle.rules.specs.InOrder.{slotSize, inRange, countsInRange}
 use Rattle.rules.specs.Opening.{openingRefusal}
 use Rattle.rules.specs.Refusals.{Step, Answer}
@@ -17,7 +19,7 @@ use Rattle.opening.specs.Promises.{openingOf, openRefusal, areasOpened}
 use Rattle.running.specs.Records.{stepFrom, stepsIn}
 use Rattle.lines.specs.Decimal.{digitsWithin, digits}
 use Rattle.lines.specs.Lines.{lineBytes}
-use Rattle.taking.specs.Records.{mostSteps, refusalLine, openingTaken, recordTaken}
+use Rattle.taking.specs.Records.{refusalLine, openingTaken, recordTaken}
 use Rattle.passing.specs.Bytes.{heldOn, byteTaken, bytesTaken}
 use Rattle.stepfile.specs.Files.{answerLines, stepCount, endLine, openedBy, stepLines, fileLines}
 use Rattle.stepfile.specs.Feeding.{begun, after, lastLine}
@@ -26,7 +28,7 @@ use Rattle.stepfile.proofs.Whole.{whole-lines}
 
 -- areas of the fixed sizes, all 0
 unfoldable blank : Areas
-blank = areas (replicate 4744 0) (replicate 4096 0) (replicate 17280 0) (replicate 93 0)
+blank = areas (replicate clockArea 0) (replicate wordArea 0) (replicate recordArea 0) (replicate markArea 0)
 
 blank-sizes : rightSizes blank ≡ true
 unfolding rightSizes blank areas sizesRight clockRows wordRows markPlaces slotSize mainframe
@@ -83,7 +85,7 @@ unfoldable lines-0-15 : List ℕ
 lines-0-15 = 48 ∷ 32 ∷ 48 ∷ 32 ∷ 48 ∷ 32 ∷ 48 ∷ 10 ∷ 49 ∷ 32 ∷ 49 ∷ 53 ∷ 32 ∷ 48 ∷ 32 ∷ 48 ∷ 10 ∷ []
 
 cut-record : fileLines cutRecord ≡ lines-0-15
-unfolding cutRecord fileLines stepLines stepCount mostSteps endLine stepsIn answers answerLines openingRefusal countsInRange inRange mainframe openingOf refusalLine lineBytes digits digitsWithin lines-0-15
+unfolding cutRecord fileLines stepLines stepCount endLine stepsIn answers answerLines openingRefusal countsInRange inRange mainframe openingOf refusalLine lineBytes digits digitsWithin lines-0-15
 cut-record = refl
 
 cut-record-fed : fed cutRecord ≡ lines-0-15
@@ -131,15 +133,15 @@ listing-state : openedBy listingBytes ≡ start 2 1 1
 unfolding openedBy openingOf listingBytes start
 listing-state = refl
 
-listing-steps : stepsIn (min (stepCount listingBytes) mostSteps) (drop 8 listingBytes) ≡ listing
-unfolding stepsIn stepFrom stepCount mostSteps listingBytes listing
+listing-steps : stepsIn (min (stepCount listingBytes) stepLimit) (drop fileRecordWidth listingBytes) ≡ listing
+unfolding stepsIn stepFrom stepCount listingBytes listing
 listing-steps = refl
 
 -- the lines of the answers that the rules give (rules/proofs/FromStart.antt)
 listing-file : fileLines listingBytes ≡ listingLines
-unfolding fileLines stepLines stepCount mostSteps endLine answerLines openingRefusal countsInRange inRange mainframe openingOf refusalLine lineBytes digits digitsWithin listingBytes listingLines
+unfolding fileLines stepLines stepCount endLine answerLines openingRefusal countsInRange inRange mainframe openingOf refusalLine lineBytes digits digitsWithin listingBytes listingLines
 listing-file =
-    ap (λ (s : State). refusalLine 0 0 ++ (answerLines 1 (answers mainframe s (stepsIn (min (stepCount listingBytes) mostSteps) (drop 8 listingBytes))) ++ endLine listingBytes)) listing-state
+    ap (λ (s : State). refusalLine 0 0 ++ (answerLines 1 (answers mainframe s (stepsIn (min (stepCount listingBytes) stepLimit) (drop fileRecordWidth listingBytes))) ++ endLine listingBytes)) listing-state
     ∙ ap (λ (ts : List Step). refusalLine 0 0 ++ (answerLines 1 (answers mainframe (start 2 1 1) ts) ++ endLine listingBytes)) listing-steps
     ∙ ap (λ (xs : List Answer). refusalLine 0 0 ++ (answerLines 1 xs ++ endLine listingBytes)) listing-a
 

@@ -8,6 +8,7 @@ use mathlib.Core.List.{List, [], _++_, append-assoc, append-nil}
 use lib.ListN.{drop, drop-of-length-le, length, length-append, take, take-append-drop}
 use lib.Seq.{length-take-le, take-at}
 use borrow.Author.Needs.{needs}
+use Rattle.limits.specs.Limits.{fileRecordWidth}
 use Rattle.memory.specs.Areas.{Areas, areas}
 use Rattle.taking.specs.Records.{Feed, openingTaken, recordTaken, stepTaken, tooManyTaken}
 use Rattle.taking.specs.Needed.{Takeable, Took, standsAt}
@@ -38,7 +39,7 @@ module _ (p : Progress) (ready : Bool) (chunk out c w r m : List ℕ) (h : Feeda
 
   module _ (q : Held) (d : HeldAll (p .held) (p .bytes) chunk 0 q) where
     -- the chunk does not complete the record
-    pub chunk-held : q .count < 8
+    pub chunk-held : q .count < fileRecordWidth
         → ChunkFed (bytesTaken (standing p (areas c w r m)) chunk) 0 out (record { progress = record { number = p .number; stopped = false; held = q .count; bytes = q .bytes }; fed = true; written = 0 }) out (areas c w r m)
     unfolding standing takenAs heldOn
     chunk-held l =
@@ -59,7 +60,7 @@ module _ (p : Progress) (ready : Bool) (chunk out c w r m : List ℕ) (h : Feeda
         })
 
     -- it does
-    pub completes : 8 ≤ q .count → Completes p ready q chunk out c w r m
+    pub completes : fileRecordWidth ≤ q .count → Completes p ready q chunk out c w r m
     completes l = record { feedable = h; held = d; eight = l }
 
 module _ (p : Progress) (ready : Bool) (q : Held) (chunk out c w r m : List ℕ) (h : Completes p ready q chunk out c w r m) where
@@ -75,7 +76,7 @@ module _ (p : Progress) (ready : Bool) (q : Held) (chunk out c w r m : List ℕ)
       }
 
   module _ (s : Stand) (out′ c′ w′ r′ m′ : List ℕ)
-      (k : Took (recordTaken (standsAt (firstStand (p .number) ready) out (areas c w r m)) (take 8 (drop 0 (q .bytes)))) (firstStand (p .number) ready) out s out′ c′ w′ r′ m′) where
+      (k : Took (recordTaken (standsAt (firstStand (p .number) ready) out (areas c w r m)) (take fileRecordWidth (drop 0 (q .bytes)))) (firstStand (p .number) ready) out s out′ c′ w′ r′ m′) where
     pub rest-passable : Passable s chunk (q .next) out′ c′ w′ r′ m′
     unfolding firstStand
     rest-passable =
@@ -86,7 +87,7 @@ module _ (p : Progress) (ready : Bool) (q : Held) (chunk out c w r m : List ℕ)
           order = k .order;
         }
 
-    eight : q .count ≡ 8
+    eight : q .count ≡ fileRecordWidth
     eight = omega (arith, h .eight, h .held .holds .holding .few)
 
     begun : length (take (p .held) (p .bytes)) ≡ p .held
@@ -96,17 +97,17 @@ module _ (p : Progress) (ready : Bool) (q : Held) (chunk out c w r m : List ℕ)
     first = length-take-le (q .next) chunk (h .held .holds .within)
 
     -- the bytes held and those taken are the record
-    whole : take (p .held) (p .bytes) ++ take (q .next) chunk ≡ take 8 (q .bytes)
+    whole : take (p .held) (p .bytes) ++ take (q .next) chunk ≡ take fileRecordWidth (q .bytes)
     whole =
-        let front : length (take (p .held) (p .bytes) ++ take (q .next) chunk) ≡ 8 =
+        let front : length (take (p .held) (p .bytes) ++ take (q .next) chunk) ≡ fileRecordWidth =
         length-append (take (p .held) (p .bytes)) (take (q .next) chunk) ∙ omega (arith, begun, first, h .held .holds .counted, eight) in
-        let same : take 8 (q .bytes) ++ drop (q .next) chunk ≡ take (p .held) (p .bytes) ++ chunk =
+        let same : take fileRecordWidth (q .bytes) ++ drop (q .next) chunk ≡ take (p .held) (p .bytes) ++ chunk =
         ap (λ (n : ℕ). take n (q .bytes) ++ drop (q .next) chunk) (sym eight) ∙ h .held .holds .same in
-        sym (take-at (take (p .held) (p .bytes) ++ take (q .next) chunk) (drop (q .next) chunk) 8 front)
-        ∙ ap (λ (xs : List ℕ). take 8 xs) (append-assoc (take (p .held) (p .bytes)) (take (q .next) chunk) (drop (q .next) chunk))
-        ∙ ap (λ (xs : List ℕ). take 8 (take (p .held) (p .bytes) ++ xs)) (take-append-drop (q .next) chunk)
-        ∙ ap (λ (xs : List ℕ). take 8 xs) (sym same)
-        ∙ take-at (take 8 (q .bytes)) (drop (q .next) chunk) 8 (length-take-le 8 (q .bytes) (omega (arith, h .held .holds .holding .long)))
+        sym (take-at (take (p .held) (p .bytes) ++ take (q .next) chunk) (drop (q .next) chunk) fileRecordWidth front)
+        ∙ ap (λ (xs : List ℕ). take fileRecordWidth xs) (append-assoc (take (p .held) (p .bytes)) (take (q .next) chunk) (drop (q .next) chunk))
+        ∙ ap (λ (xs : List ℕ). take fileRecordWidth (take (p .held) (p .bytes) ++ xs)) (take-append-drop (q .next) chunk)
+        ∙ ap (λ (xs : List ℕ). take fileRecordWidth xs) (sym same)
+        ∙ take-at (take fileRecordWidth (q .bytes)) (drop (q .next) chunk) fileRecordWidth (length-take-le fileRecordWidth (q .bytes) (omega (arith, h .held .holds .holding .long)))
 
     -- what the chunk leads to is what its rest leads to behind the record
     behind-first : bytesTaken (standsAt s out′ (areas c′ w′ r′ m′)) (drop (q .next) chunk) ≡ bytesTaken (standing p (areas c w r m)) chunk
@@ -119,7 +120,7 @@ module _ (p : Progress) (ready : Bool) (q : Held) (chunk out c w r m : List ℕ)
         (taken-record (standing p (areas c w r m)) (take (q .next) chunk) (h .feedable .going) (omega (arith, begun, h .feedable .fewer))
         (omega (arith, begun, first, h .held .holds .counted, eight))
         ∙ ap (λ (xs : List ℕ). recordTaken (standing p (areas c w r m)) xs) whole
-        ∙ record-from p ready out (areas c w r m) (take 8 (q .bytes))
+        ∙ record-from p ready out (areas c w r m) (take fileRecordWidth (q .bytes))
         ∙ sym (k .is)))
 
     pub chunk-taken : (t : Taken) (out″ : List ℕ) (a″ : Areas) → ChunkFed (bytesTaken (standsAt s out′ (areas c′ w′ r′ m′)) (drop (q .next) chunk)) (s .at) out′ t out″ a″
@@ -142,8 +143,8 @@ module _ (number : ℕ) (ready : Bool) (bytes out c w r m : List ℕ) where
   first-takeable h = h
 
   pub first-taken : (s : Stand) (out′ c′ w′ r′ m′ : List ℕ)
-      → Took (recordTaken (standsAt (record { number = number; stopped = false; ready = ready; at = 0 }) out (areas c w r m)) (take 8 (drop 0 bytes))) (record { number = number; stopped = false; ready = ready; at = 0 }) out s out′ c′ w′ r′ m′
-      → Took (recordTaken (standsAt (firstStand number ready) out (areas c w r m)) (take 8 (drop 0 bytes))) (firstStand number ready) out s out′ c′ w′ r′ m′
+      → Took (recordTaken (standsAt (record { number = number; stopped = false; ready = ready; at = 0 }) out (areas c w r m)) (take fileRecordWidth (drop 0 bytes))) (record { number = number; stopped = false; ready = ready; at = 0 }) out s out′ c′ w′ r′ m′
+      → Took (recordTaken (standsAt (firstStand number ready) out (areas c w r m)) (take fileRecordWidth (drop 0 bytes))) (firstStand number ready) out s out′ c′ w′ r′ m′
   unfolding firstStand
   first-taken s out′ c′ w′ r′ m′ k = k
 

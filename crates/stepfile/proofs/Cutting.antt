@@ -8,8 +8,9 @@ use lib.ListN.{length, replicate, length-append}
 use lib.Seq.{take-append-seam, drop-append-seam}
 use lib.Dec.{leb, eqb}
 use borrow.Author.Tests.{le-leb, lt-ltb, leb-true, eqb-false}
+use Rattle.limits.specs.Limits.{fileRecordWidth, stepLimit}
 use Rattle.memory.specs.Areas.{Areas}
-use Rattle.taking.specs.Records.{Feed, mostSteps, openingTaken, stepTaken, tooManyTaken, recordTaken}
+use Rattle.taking.specs.Records.{Feed, openingTaken, stepTaken, tooManyTaken, recordTaken}
 use Rattle.passing.specs.Bytes.{heldOn, byteTaken, bytesTaken}
 use Rattle.passing.proofs.Bytes.{taken-together}
 use Rattle.stepfile.specs.Feeding.{begun, after}
@@ -39,7 +40,7 @@ module _ (l : List ℕ) (f : Feed) where
 
   record-behind : (bytes : List ℕ) → recordTaken (behind l f) bytes ≡ behind l (recordTaken f bytes)
   unfolding recordTaken openingTaken stepTaken tooManyTaken behind
-  record-behind bytes = go (eqb (f .number) 0) (leb (f .number) mostSteps)
+  record-behind bytes = go (eqb (f .number) 0) (leb (f .number) stepLimit)
     where
       go : (a b : Bool) → cond a (openingTaken (behind l f) bytes) (cond b (stepTaken (behind l f) bytes) (tooManyTaken (behind l f)))
           ≡ behind l (cond a (openingTaken f bytes) (cond b (stepTaken f bytes) (tooManyTaken f)))
@@ -71,8 +72,8 @@ taken-unprinted f xs = ap (λ (g : Feed). bytesTaken g xs) (sym (behind-own f)) 
 
 -- fewer than eight bytes are held, and the next number is at most 1,000,001
 pub record Fed (f : Feed) : Type 0 where
-  pub held : length (f .held) < 8
-  pub number : f .number ≤ mostSteps + 1
+  pub held : length (f .held) < fileRecordWidth
+  pub number : f .number ≤ stepLimit + 1
 
 begun-fed : (a : Areas) → Fed (begun a)
 unfolding begun
@@ -80,11 +81,11 @@ begun-fed a = record { held = omega arith; number = omega arith }
 
 record-fed : (f : Feed) (bytes : List ℕ) → Fed f → Fed (recordTaken f bytes)
 unfolding recordTaken openingTaken stepTaken tooManyTaken
-record-fed f bytes h = go (eqb (f .number) 0) (leb (f .number) mostSteps) refl
+record-fed f bytes h = go (eqb (f .number) 0) (leb (f .number) stepLimit) refl
   where
-    go : (x y : Bool) → leb (f .number) mostSteps ≡ y → Fed (cond x (openingTaken f bytes) (cond y (stepTaken f bytes) (tooManyTaken f)))
+    go : (x y : Bool) → leb (f .number) stepLimit ≡ y → Fed (cond x (openingTaken f bytes) (cond y (stepTaken f bytes) (tooManyTaken f)))
     go true y e = record { held = omega arith; number = omega arith }
-    go false true e = record { held = omega arith; number = omega (arith, leb-true (f .number) mostSteps e) }
+    go false true e = record { held = omega arith; number = omega (arith, leb-true (f .number) stepLimit e) }
     go false false e = record { held = omega arith; number = h .number }
 
 byte-fed : (f : Feed) (b : ℕ) → Fed f → Fed (byteTaken f b)
@@ -116,8 +117,8 @@ zeros-zero (suc n) = zeros-zero n
 pub fed-sound : (f : Feed) → Fed f → sound (progressOf f) ≡ true
 unfolding sound progressOf
 fed-sound f h =
-    rw (le-leb (f .number) (mostSteps + 1) (h .number), lt-ltb (length (f .held)) 8 (h .held), drop-append-seam (f .held) (replicate (8 - length (f .held)) 0))
-    (zeros-zero (8 - length (f .held)))
+    rw (le-leb (f .number) (stepLimit + 1) (h .number), lt-ltb (length (f .held)) fileRecordWidth (h .held), drop-append-seam (f .held) (replicate (fileRecordWidth - length (f .held)) 0))
+    (zeros-zero (fileRecordWidth - length (f .held)))
 
 pub after-sound : (a : Areas) (xs : List ℕ) → sound (progressOf (after a xs)) ≡ true
 after-sound a xs = fed-sound (after a xs) (after-fed a xs)
@@ -127,10 +128,10 @@ after-sound a xs = fed-sound (after a xs) (after-fed a xs)
 -- what stands at the progress of what stands
 pub standing-again : (f : Feed) → standing (progressOf f) (f .areas) ≡ unprinted f
 unfolding standing progressOf unprinted
-standing-again f = rw (take-append-seam (f .held) (replicate (8 - length (f .held)) 0))
+standing-again f = rw (take-append-seam (f .held) (replicate (fileRecordWidth - length (f .held)) 0))
 
 -- no byte has been fed
-pub started : (a₀ : Areas) → Reached a₀ [] (record { number = 0; stopped = false; held = 0; bytes = replicate 8 0 }) a₀
+pub started : (a₀ : Areas) → Reached a₀ [] (record { number = 0; stopped = false; held = 0; bytes = replicate fileRecordWidth 0 }) a₀
 unfolding after bytesTaken begun progressOf
 started a₀ = record { progress = refl; areas = refl }
 

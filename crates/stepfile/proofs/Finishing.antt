@@ -9,6 +9,7 @@ use lib.Seq.{length-take-le, sets}
 use lib.Dec.{eqb, ltb}
 use borrow.Author.Tests.{eq-eqb, eqb-true, le-ltb, lt-ltb, ne-eqb, not-false, not-true}
 use borrow.Author.Needs.{needs}
+use Rattle.limits.specs.Limits.{fileRecordWidth, lineLimit}
 use Rattle.lines.specs.Lines.{lineBytes}
 use Rattle.lines.specs.Needed.{Room}
 use Rattle.taking.specs.Records.{refusalLine}
@@ -34,7 +35,7 @@ module _ (p : Progress) where
   within-record z n = record { is = rw (z, ne-eqb (p .number) 0 n) }
 
   -- the line at the end, if there is one
-  module _ (long : length (p .bytes) ≡ 8) (few : p .held < 8) where
+  module _ (long : length (p .bytes) ≡ fileRecordWidth) (few : p .held < fileRecordWidth) where
     last-line : (xs : List ℕ) → length xs ≡ p .held
         → lastLine (p .number) xs (p .stopped) ≡ cond (not (p .stopped) && (eqb (p .number) 0 || ltb 0 (p .held))) (lineBytes (p .number) 15 0 0) []
     unfolding lastLine refusalLine
@@ -89,10 +90,10 @@ module _ (p : Progress) (out : List ℕ) (b : Bool) (e : FeedableIs b p 0 (lengt
     there : feedable p 0 (length out) ≡ true
     there = sym (e .is) ∙ not-false b z
 
-    pub room-for-last : Room out 0 44
+    pub room-for-last : Room out 0 lineLimit
     room-for-last = record { room = omega (arith, room-there p 0 (length out) there) }
 
-    module _ (short : Bool) (x : EndsShort short p) (long : length (p .bytes) ≡ 8) where
+    module _ (short : Bool) (x : EndsShort short p) (long : length (p .bytes) ≡ fileRecordWidth) where
       -- no line
       pub finished-none : not short ≡ true → FinishedAs p out (record { progress = p; fed = true; written = 0 }) out
       finished-none n = finished p out [] out 0 there (finish-none p long (few-held p 0 (length out) there) short x n) refl refl refl (omega arith)

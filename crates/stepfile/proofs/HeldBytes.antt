@@ -10,6 +10,7 @@ use lib.Seq.{drop-cons, drop-drop, drop-set-lt, take-suc-set}
 use lib.Dec.{eqb}
 use borrow.Author.Tests.{eq-eqb, eqb-true, le-ltb, lt-ltb, ne-eqb}
 use borrow.Author.Needs.{needs}
+use Rattle.limits.specs.Limits.{fileRecordWidth}
 use Rattle.stepfile.specs.Promises.{allZero}
 use Rattle.stepfile.specs.Needed.{HeldAll, Holdable, Holding, Holds, ZerosBehind}
 
@@ -20,11 +21,11 @@ pub holds-begin : (held : ℕ) (bytes chunk : List ℕ) (from : ℕ) → Holdabl
 holds-begin held bytes chunk from h = record { holding = h .holding; within = h .within; counted = omega arith; same = refl }
 
 module _ (held : ℕ) (bytes chunk : List ℕ) (from count : ℕ) (kept : List ℕ) (i : ℕ) (h : Holds held bytes chunk from count kept i) where
-  pub place-held : count < 8 → count < length kept
+  pub place-held : count < fileRecordWidth → count < length kept
   place-held l = omega (arith, l, h .holding .long)
 
   -- one more
-  pub holds-more : i < length chunk → count < 8 → Holds held bytes chunk from (count + 1) (set kept count (getD chunk i 0)) (i + 1)
+  pub holds-more : i < length chunk → count < fileRecordWidth → Holds held bytes chunk from (count + 1) (set kept count (getD chunk i 0)) (i + 1)
   holds-more l m =
       record {
         holding =
@@ -37,7 +38,7 @@ module _ (held : ℕ) (bytes chunk : List ℕ) (from count : ℕ) (kept : List �
                   ∙ ap (λ (j : ℕ). drop j kept) (sym (add-one count))
                   ∙ sym (drop-drop 1 count kept)
                   ∙ ap (λ (l : List ℕ). drop 1 l) (h .holding .zeros)
-                  ∙ one-less (8 - count) (8 - suc count) (omega (arith, m)));
+                  ∙ one-less (fileRecordWidth - count) (fileRecordWidth - suc count) (omega (arith, m)));
             };
         within = omega (arith, l);
         counted = omega (arith, h .counted);
@@ -52,7 +53,7 @@ module _ (held : ℕ) (bytes chunk : List ℕ) (from count : ℕ) (kept : List �
       one-less n k e = ap (λ (j : ℕ). drop 1 (replicate {A = ℕ} j 0)) (e ∙ add-one k)
 
   -- eight are held
-  pub held-eight : 8 ≤ count → HeldAll held bytes chunk from (record { count = count; bytes = kept; next = i })
+  pub held-eight : fileRecordWidth ≤ count → HeldAll held bytes chunk from (record { count = count; bytes = kept; next = i })
   held-eight l = record { holds = h; short = λ s. absurd (omega (arith, l, s)) }
 
   -- the chunk has ended
@@ -63,31 +64,31 @@ module _ (held : ℕ) (bytes chunk : List ℕ) (from count : ℕ) (kept : List �
 
 -- so far, from the first behind those held to a place, all are 0
 pub record ZerosTo (held : ℕ) (bytes : List ℕ) (i : ℕ) : Type 0 where
-  pub long : length bytes ≡ 8
-  pub few : held < 8
-  pub upto : i ≤ 8
+  pub long : length bytes ≡ fileRecordWidth
+  pub few : held < fileRecordWidth
+  pub upto : i ≤ fileRecordWidth
   pub same : allZero (drop held bytes) ≡ allZero (drop i bytes)
 
-pub zeros-begin : (held : ℕ) (bytes : List ℕ) → length bytes ≡ 8 → held < 8 → ZerosTo held bytes held
+pub zeros-begin : (held : ℕ) (bytes : List ℕ) → length bytes ≡ fileRecordWidth → held < fileRecordWidth → ZerosTo held bytes held
 zeros-begin held bytes e l = record { long = e; few = l; upto = omega (arith, l); same = refl }
 
-pub too-many-held : (held : ℕ) (bytes : List ℕ) → 8 ≤ held → ZerosBehind false held bytes
-too-many-held held bytes l = record { is = rw (le-ltb held 8 l) }
+pub too-many-held : (held : ℕ) (bytes : List ℕ) → fileRecordWidth ≤ held → ZerosBehind false held bytes
+too-many-held held bytes l = record { is = rw (le-ltb held fileRecordWidth l) }
 
 module _ (held : ℕ) (bytes : List ℕ) (i : ℕ) (h : ZerosTo held bytes i) where
-  pub zero-place : i < 8 → i < length bytes
+  pub zero-place : i < fileRecordWidth → i < length bytes
   zero-place l = omega (arith, l, h .long)
 
-  pub no-zero : i < 8 → (getD bytes i 0 ≡ 0 → ⊥) → ZerosBehind false held bytes
+  pub no-zero : i < fileRecordWidth → (getD bytes i 0 ≡ 0 → ⊥) → ZerosBehind false held bytes
   unfolding allZero
   no-zero l z =
       record {
         is =
             sym
-            (rw (lt-ltb held 8 (h .few), h .same, drop-cons bytes i 0 (zero-place l), ne-eqb (getD bytes i 0) 0 z));
+            (rw (lt-ltb held fileRecordWidth (h .few), h .same, drop-cons bytes i 0 (zero-place l), ne-eqb (getD bytes i 0) 0 z));
       }
 
-  pub one-zero-more : i < 8 → getD bytes i 0 ≡ 0 → ZerosTo held bytes (i + 1)
+  pub one-zero-more : i < fileRecordWidth → getD bytes i 0 ≡ 0 → ZerosTo held bytes (i + 1)
   unfolding allZero
   one-zero-more l z =
       record {
@@ -97,9 +98,9 @@ module _ (held : ℕ) (bytes : List ℕ) (i : ℕ) (h : ZerosTo held bytes i) wh
         same = h .same ∙ rw (drop-cons bytes i 0 (zero-place l), eq-eqb (getD bytes i 0) 0 z, add-one i);
       }
 
-  pub all-zeros : 8 ≤ i → ZerosBehind true held bytes
+  pub all-zeros : fileRecordWidth ≤ i → ZerosBehind true held bytes
   unfolding allZero
-  all-zeros l = record { is = sym (rw (lt-ltb held 8 (h .few), h .same) (none (drop i bytes) (omega (arith, length-drop i bytes, h .long, l)))) }
+  all-zeros l = record { is = sym (rw (lt-ltb held fileRecordWidth (h .few), h .same) (none (drop i bytes) (omega (arith, length-drop i bytes, h .long, l)))) }
     where
       none : (xs : List ℕ) → length xs ≡ 0 → allZero xs ≡ true
       none [] e = refl
@@ -114,9 +115,9 @@ zeros-are (x ∷ xs) e =
     ap (λ (y : ℕ). y ∷ xs) (eqb-true x 0 (both .0)) ∙ ap (λ (ys : List ℕ). 0 ∷ ys) (zeros-are xs (both .1))
 
 -- bytes held, with zeros behind them
-pub holding-of : (held : ℕ) (bytes : List ℕ) → length bytes ≡ 8 → held ≤ 8 → allZero (drop held bytes) ≡ true → Holding held bytes
+pub holding-of : (held : ℕ) (bytes : List ℕ) → length bytes ≡ fileRecordWidth → held ≤ fileRecordWidth → allZero (drop held bytes) ≡ true → Holding held bytes
 holding-of held bytes e l z =
-    let rest : length (drop held bytes) ≡ 8 - held = length-drop held bytes ∙ ap (λ (n : ℕ). n - held) e in
+    let rest : length (drop held bytes) ≡ fileRecordWidth - held = length-drop held bytes ∙ ap (λ (n : ℕ). n - held) e in
     record {
       few = l;
       long = e;

@@ -8,6 +8,7 @@ use mathlib.Core.List.{List, [], _++_, append-nil}
 use lib.ListN.{drop, drop-of-length-le, length, length-drop, replicate, take, take-append-drop}
 use lib.Seq.{length-take-le}
 use borrow.Author.Needs.{needs}
+use Rattle.limits.specs.Limits.{fileRecordWidth}
 use Rattle.memory.specs.Areas.{Areas}
 use Rattle.taking.specs.Records.{Feed}
 use Rattle.taking.specs.Needed.{standsAt}
@@ -59,19 +60,19 @@ module _ (s : Stand) (chunk : List ℕ) (from : ℕ) (h : Endable s chunk from) 
 
   -- a run that has stopped holds none
   pub ended-stopped : s .stopped ≡ true
-      → Ended s chunk from (record { progress = record { number = s .number; stopped = true; held = 0; bytes = replicate 8 0 }; fed = true; written = s .at })
+      → Ended s chunk from (record { progress = record { number = s .number; stopped = true; held = 0; bytes = replicate fileRecordWidth 0 }; fed = true; written = s .at })
   unfolding takenAs progressOf standsAt
   ended-stopped z =
       record { is = λ out a l. sym (ap (λ (f : Feed). takenAs f) (rest-stopped out a z) ∙ rw (z, length-take-le (s .at) out l)) }
 
-  pub none-held : Holdable 0 (replicate 8 0) chunk from
+  pub none-held : Holdable 0 (replicate fileRecordWidth 0) chunk from
   none-held = record { holding = record { few = omega arith; long = refl; zeros = refl }; within = h .within }
 
-  pub ended-held : (q : Held) → s .stopped ≡ false → HeldAll 0 (replicate 8 0) chunk from q
+  pub ended-held : (q : Held) → s .stopped ≡ false → HeldAll 0 (replicate fileRecordWidth 0) chunk from q
       → Ended s chunk from (record { progress = record { number = s .number; stopped = false; held = q .count; bytes = q .bytes }; fed = true; written = s .at })
   unfolding takenAs standsAt heldOn
   ended-held q z d =
-      let few : q .count < 8 = omega (arith, d .holds .counted, d .holds .within, h .few-left z) in
+      let few : q .count < fileRecordWidth = omega (arith, d .holds .counted, d .holds .within, h .few-left z) in
       let all : drop (q .next) chunk ≡ [] = drop-of-length-le chunk {i = q .next} (omega (arith, d .short few)) in
       let rest : drop from chunk ≡ take (q .count) (q .bytes) =
       sym (sym (append-nil (take (q .count) (q .bytes))) ∙ ap (λ (l : List ℕ). take (q .count) (q .bytes) ++ l) (sym all) ∙ d .holds .same) in

@@ -7,58 +7,58 @@ use lib.ListN.{drop, length}
 use lib.Dec.{leb, ltb}
 use borrow.Author.Tests.{le-leb, le-ltb, leb-true, lt-leb, lt-ltb, ltb-true}
 use borrow.Author.Needs.{needs}
-use Rattle.taking.specs.Records.{mostSteps}
+use Rattle.limits.specs.Limits.{fileRecordWidth, lineLimit, stepLimit}
+use Rattle.limits.specs.Sizes.{fileRecordLimit}
 use Rattle.stepfile.specs.Promises.{allZero, feedable, sound}
 use Rattle.stepfile.specs.declared.Progress.{Progress}
 use Rattle.stepfile.specs.Needed.{FeedableIs, Holding, ZerosBehind}
 use Rattle.stepfile.proofs.HeldBytes.{holding-of}
 
 module _ (p : Progress) (chunk room : ℕ) where
-  pub number-too-large : 1000001 < p .number → FeedableIs false p chunk room
-  unfolding feedable sound mostSteps
-  number-too-large l = record { is = rw (lt-leb (p .number) 1000001 l) }
+  pub number-too-large : fileRecordLimit < p .number → FeedableIs false p chunk room
+  unfolding feedable sound
+  number-too-large l = record { is = rw (lt-leb (p .number) fileRecordLimit l) }
 
   and-false : (b : Bool) → (b && false) ≡ false
   and-false true = refl
   and-false false = refl
 
-  pub no-room : room / 44 ≤ chunk / 8 → FeedableIs false p chunk room
+  pub no-room : room / lineLimit ≤ chunk / fileRecordWidth → FeedableIs false p chunk room
   unfolding feedable
-  no-room l = record { is = sym (ap (λ (b : Bool). sound p && b) (le-ltb (chunk / 8) (room / 44) l) ∙ and-false (sound p)) }
+  no-room l = record { is = sym (ap (λ (b : Bool). sound p && b) (le-ltb (chunk / fileRecordWidth) (room / lineLimit) l) ∙ and-false (sound p)) }
 
   and-true : (b : Bool) → b ≡ (b && true)
   and-true true = refl
   and-true false = refl
 
-  pub feedable-when : (b : Bool) → p .number ≤ 1000001 → chunk / 8 < room / 44 → ZerosBehind b (p .held) (p .bytes) → FeedableIs b p chunk room
-  unfolding feedable sound mostSteps
+  pub feedable-when : (b : Bool) → p .number ≤ fileRecordLimit → chunk / fileRecordWidth < room / lineLimit → ZerosBehind b (p .held) (p .bytes) → FeedableIs b p chunk room
+  unfolding feedable sound
   feedable-when b l m z =
-      record { is = rw (le-leb (p .number) 1000001 l, lt-ltb (chunk / 8) (room / 44) m) (z .is ∙ and-true (ltb (p .held) 8 && allZero (drop (p .held) (p .bytes)))) }
+      record { is = rw (le-leb (p .number) fileRecordLimit l, lt-ltb (chunk / fileRecordWidth) (room / lineLimit) m) (z .is ∙ and-true (ltb (p .held) fileRecordWidth && allZero (drop (p .held) (p .bytes)))) }
 
   -- what a chunk that is fed has
   module _ (e : feedable p chunk room ≡ true) where
     is-sound : sound p ≡ true
     unfolding feedable
-    is-sound = and-eq-true-iff (sound p) (ltb (chunk / 8) (room / 44)) .0 e .0
+    is-sound = and-eq-true-iff (sound p) (ltb (chunk / fileRecordWidth) (room / lineLimit)) .0 e .0
 
-    sound-both : ((leb (p .number) (mostSteps + 1) && ltb (p .held) 8) ≡ true) × (allZero (drop (p .held) (p .bytes)) ≡ true)
+    sound-both : ((leb (p .number) (stepLimit + 1) && ltb (p .held) fileRecordWidth) ≡ true) × (allZero (drop (p .held) (p .bytes)) ≡ true)
     unfolding sound
-    sound-both = and-eq-true-iff (leb (p .number) (mostSteps + 1) && ltb (p .held) 8) (allZero (drop (p .held) (p .bytes))) .0 is-sound
+    sound-both = and-eq-true-iff (leb (p .number) (stepLimit + 1) && ltb (p .held) fileRecordWidth) (allZero (drop (p .held) (p .bytes))) .0 is-sound
 
-    pub few-records : p .number ≤ 1000001
-    unfolding mostSteps
-    few-records = leb-true (p .number) 1000001 (and-eq-true-iff (leb (p .number) (mostSteps + 1)) (ltb (p .held) 8) .0 (sound-both .0) .0)
+    pub few-records : p .number ≤ fileRecordLimit
+    few-records = leb-true (p .number) fileRecordLimit (and-eq-true-iff (leb (p .number) (stepLimit + 1)) (ltb (p .held) fileRecordWidth) .0 (sound-both .0) .0)
 
-    pub few-held : p .held < 8
-    few-held = ltb-true (p .held) 8 (and-eq-true-iff (leb (p .number) (mostSteps + 1)) (ltb (p .held) 8) .0 (sound-both .0) .1)
+    pub few-held : p .held < fileRecordWidth
+    few-held = ltb-true (p .held) fileRecordWidth (and-eq-true-iff (leb (p .number) (stepLimit + 1)) (ltb (p .held) fileRecordWidth) .0 (sound-both .0) .1)
 
-    pub holding-there : length (p .bytes) ≡ 8 → Holding (p .held) (p .bytes)
+    pub holding-there : length (p .bytes) ≡ fileRecordWidth → Holding (p .held) (p .bytes)
     holding-there long = holding-of (p .held) (p .bytes) long (omega (arith, few-held)) (sound-both .1)
 
-    pub room-there : 44 * (chunk / 8) + 44 ≤ room
+    pub room-there : lineLimit * (chunk / fileRecordWidth) + lineLimit ≤ room
     unfolding feedable
     room-there =
-        let l : chunk / 8 < room / 44 = ltb-true (chunk / 8) (room / 44) (and-eq-true-iff (sound p) (ltb (chunk / 8) (room / 44)) .0 e .1) in
+        let l : chunk / fileRecordWidth < room / lineLimit = ltb-true (chunk / fileRecordWidth) (room / lineLimit) (and-eq-true-iff (sound p) (ltb (chunk / fileRecordWidth) (room / lineLimit)) .0 e .1) in
         omega (arith, l)
 
 pub ruleset feedable-laws = (number-too-large, no-room, feedable-when, needs)

@@ -9,6 +9,7 @@ use lib.ListN.{length, take, drop, replicate, length-drop}
 use lib.Seq.{take-append-seam, length-take-le}
 use lib.Dec.{ltb, leb, eqb}
 use borrow.Author.Tests.{ltb-true, ltb-false, eqb-true, eqb-false, le-leb, lt-leb, lt-ltb, le-ltb, ne-eqb}
+use Rattle.limits.specs.Limits.{fileRecordWidth, stepLimit}
 use Rattle.rules.specs.InOrder.{countsInRange}
 use Rattle.rules.specs.Opening.{openingRefusal}
 use Rattle.rules.specs.Refusals.{Step, Answer, answer, next}
@@ -19,7 +20,7 @@ use Rattle.opening.specs.Promises.{openingOf, openRefusal, areasOpened}
 use Rattle.engine.specs.Promises.{answerOf, areasAfter}
 use Rattle.running.specs.Records.{stepFrom, stepsIn}
 use Rattle.lines.specs.Lines.{lineBytes}
-use Rattle.taking.specs.Records.{Feed, mostSteps, refusalLine, openingTaken, stepTaken, tooManyTaken, recordTaken}
+use Rattle.taking.specs.Records.{Feed, refusalLine, openingTaken, stepTaken, tooManyTaken, recordTaken}
 use Rattle.taking.proofs.Taking.{step-of-eight}
 use Rattle.passing.specs.Bytes.{heldOn, bytesTaken}
 use Rattle.passing.proofs.Bytes.{taken-stopped, taken-held, eight-first}
@@ -41,7 +42,7 @@ ended f = f .lines ++ lastLine (f .number) (f .held) (f .stopped)
 
 ended-finish : (f : Feed) → f .lines ++ finishLine (progressOf f) ≡ ended f
 unfolding ended finishLine progressOf
-ended-finish f = ap (λ (h : List ℕ). f .lines ++ lastLine (f .number) h (f .stopped)) (take-append-seam (f .held) (replicate (8 - length (f .held)) 0))
+ended-finish f = ap (λ (h : List ℕ). f .lines ++ lastLine (f .number) h (f .stopped)) (take-append-seam (f .held) (replicate (fileRecordWidth - length (f .held)) 0))
 
 -- ---- a step's record
 
@@ -50,13 +51,13 @@ unfoldable answerLine : ℕ → Answer → List ℕ
 answerLine n a = lineBytes n (a .refusal) (a .value) (a .count)
 
 -- a step up to the 1,000,000th is answered by the rules
-step-between : (k : ℕ) (s : State) (l xs : List ℕ) → suc k ≤ mostSteps → Carried s
-    → recordTaken (between (suc k) (holding s) l) (take 8 xs)
+step-between : (k : ℕ) (s : State) (l xs : List ℕ) → suc k ≤ stepLimit → Carried s
+    → recordTaken (between (suc k) (holding s) l) (take fileRecordWidth xs)
     ≡ between (suc (suc k)) (holding (next mainframe s (stepFrom xs))) (l ++ answerLine (suc k) (answer mainframe s (stepFrom xs)))
 unfolding recordTaken stepTaken between answerLine
 step-between k s l xs h c =
-    ap (λ (b : Bool). cond b (openingTaken f bytes) (cond (leb (suc k) mostSteps) (stepTaken f bytes) (tooManyTaken f))) (ne-eqb (suc k) 0 (omega arith))
-    ∙ ap (λ (b : Bool). cond b (stepTaken f bytes) (tooManyTaken f)) (le-leb (suc k) mostSteps h)
+    ap (λ (b : Bool). cond b (openingTaken f bytes) (cond (leb (suc k) stepLimit) (stepTaken f bytes) (tooManyTaken f))) (ne-eqb (suc k) 0 (omega arith))
+    ∙ ap (λ (b : Bool). cond b (stepTaken f bytes) (tooManyTaken f)) (le-leb (suc k) stepLimit h)
     ∙ ap (λ (t : Step). taken (answerOf (holding s) t) (areasAfter (holding s) t)) (step-of-eight xs)
     ∙ ap (λ (a : Answer). taken a (areasAfter (holding s) (stepFrom xs))) (carried-answer s c (stepFrom xs))
     ∙ ap (λ (a : Areas). taken (answer mainframe s (stepFrom xs)) a) (carried-after s c (stepFrom xs))
@@ -65,18 +66,18 @@ step-between k s l xs h c =
     f = between (suc k) (holding s) l
 
     bytes : List ℕ
-    bytes = take 8 xs
+    bytes = take fileRecordWidth xs
 
     taken : Answer → Areas → Feed
     taken x a = between (suc (suc k)) a (l ++ answerLine (suc k) x)
 
 -- one more is too many
-too-many-between : (k : ℕ) (a : Areas) (l bytes : List ℕ) → mostSteps ≤ k
+too-many-between : (k : ℕ) (a : Areas) (l bytes : List ℕ) → stepLimit ≤ k
     → recordTaken (between (suc k) a l) bytes ≡ record { number = suc k; held = []; stopped = true; areas = a; lines = l ++ refusalLine (suc k) 16 }
 unfolding recordTaken tooManyTaken between
 too-many-between k a l bytes h =
-    ap (λ (b : Bool). cond b (openingTaken f bytes) (cond (leb (suc k) mostSteps) (stepTaken f bytes) (tooManyTaken f))) (ne-eqb (suc k) 0 (omega arith))
-    ∙ ap (λ (b : Bool). cond b (stepTaken f bytes) (tooManyTaken f)) (lt-leb (suc k) mostSteps (omega (arith, h)))
+    ap (λ (b : Bool). cond b (openingTaken f bytes) (cond (leb (suc k) stepLimit) (stepTaken f bytes) (tooManyTaken f))) (ne-eqb (suc k) 0 (omega arith))
+    ∙ ap (λ (b : Bool). cond b (stepTaken f bytes) (tooManyTaken f)) (lt-leb (suc k) stepLimit (omega (arith, h)))
   where
     f : Feed
     f = between (suc k) a l
@@ -115,7 +116,7 @@ end-further k n m r = rw (shift m, shift n, further (ltb m n) refl)
 
 -- the line of a step in front of the others
 lines-further : (k n m r : ℕ) (s : State) (xs : List ℕ)
-    → answerLine (suc k) (answer mainframe s (stepFrom xs)) ++ restLines (suc k) (next mainframe s (stepFrom xs)) n m r (drop 8 xs) ≡ restLines k s (suc n) (suc m) r xs
+    → answerLine (suc k) (answer mainframe s (stepFrom xs)) ++ restLines (suc k) (next mainframe s (stepFrom xs)) n m r (drop fileRecordWidth xs) ≡ restLines k s (suc n) (suc m) r xs
 unfolding restLines answerLine answerLines answers stepsIn
 lines-further k n m r s xs =
     sym (append-assoc line others (restEnd (suc k) n m r))
@@ -126,12 +127,12 @@ lines-further k n m r s xs =
     line = answerLine (suc k) (answer mainframe s (stepFrom xs))
 
     others : List ℕ
-    others = answerLines (suc (suc k)) (answers mainframe (next mainframe s (stepFrom xs)) (stepsIn (min n m) (drop 8 xs)))
+    others = answerLines (suc (suc k)) (answers mainframe (next mainframe s (stepFrom xs)) (stepsIn (min n m) (drop fileRecordWidth xs)))
 
     both : suc (min n m) ≡ min (suc n) (suc m)
     both = omega arith
 
-rest-lines : (n m k : ℕ) (s : State) (l xs : List ℕ) (r : ℕ) → length xs ≡ 8 * n + r → r < 8 → k + m ≡ mostSteps → Carried s
+rest-lines : (n m k : ℕ) (s : State) (l xs : List ℕ) (r : ℕ) → length xs ≡ fileRecordWidth * n + r → r < fileRecordWidth → k + m ≡ stepLimit → Carried s
     → ended (bytesTaken (between (suc k) (holding s) l) xs) ≡ l ++ restLines k s n m r xs
 unfolding ended between heldOn restLines answerLines answers stepsIn lastLine restEnd
 rest-lines zero m k s l xs r e b t c =
@@ -147,8 +148,8 @@ rest-lines zero m k s l xs r e b t c =
 rest-lines (suc n) zero k s l xs r e b t c =
     ap (λ (g : Feed). ended g)
     (eight-first (between (suc k) (holding s) l) xs refl refl (omega (arith, e))
-    ∙ ap (λ (g : Feed). bytesTaken g (drop 8 xs)) (too-many-between k (holding s) l (take 8 xs) (omega (arith, t)))
-    ∙ taken-stopped stopped (drop 8 xs) refl)
+    ∙ ap (λ (g : Feed). bytesTaken g (drop fileRecordWidth xs)) (too-many-between k (holding s) l (take fileRecordWidth xs) (omega (arith, t)))
+    ∙ taken-stopped stopped (drop fileRecordWidth xs) refl)
     ∙ append-nil (l ++ refusalLine (suc k) 16)
     ∙ ap (λ (j : ℕ). l ++ refusalLine j 16) number
     ∙ ap (λ (d : Bool). l ++ cond d (refusalLine (k + 0 + 1) 16) (cond (eqb r 0) [] (refusalLine (k + suc n + 1) 15))) (sym (lt-ltb 0 (suc n) (omega arith)))
@@ -165,9 +166,9 @@ rest-lines (suc n) zero k s l xs r e b t c =
 rest-lines (suc n) (suc m) k s l xs r e b t c =
     ap (λ (g : Feed). ended g)
     (eight-first (between (suc k) (holding s) l) xs refl refl (omega (arith, e))
-    ∙ ap (λ (g : Feed). bytesTaken g (drop 8 xs)) (step-between k s l xs (omega (arith, t)) c))
-    ∙ rest-lines n m (suc k) (next mainframe s (stepFrom xs)) (l ++ line) (drop 8 xs) r (omega (arith, e, length-drop 8 xs)) b (omega (arith, t)) (next-carried s (stepFrom xs) c)
-    ∙ append-assoc l line (restLines (suc k) (next mainframe s (stepFrom xs)) n m r (drop 8 xs))
+    ∙ ap (λ (g : Feed). bytesTaken g (drop fileRecordWidth xs)) (step-between k s l xs (omega (arith, t)) c))
+    ∙ rest-lines n m (suc k) (next mainframe s (stepFrom xs)) (l ++ line) (drop fileRecordWidth xs) r (omega (arith, e, length-drop fileRecordWidth xs)) b (omega (arith, t)) (next-carried s (stepFrom xs) c)
+    ∙ append-assoc l line (restLines (suc k) (next mainframe s (stepFrom xs)) n m r (drop fileRecordWidth xs))
     ∙ ap (λ (x : List ℕ). l ++ x) (lines-further k n m r s xs)
   where
     line : List ℕ
@@ -175,42 +176,42 @@ rest-lines (suc n) (suc m) k s l xs r e b t c =
 
 -- ---- the opening
 
-module _ (a₀ : Areas) (file : List ℕ) (sizes : rightSizes a₀ ≡ true) (long : 8 ≤ length file) where
+module _ (a₀ : Areas) (file : List ℕ) (sizes : rightSizes a₀ ≡ true) (long : fileRecordWidth ≤ length file) where
   -- the refusal of its first eight bytes is the rules' refusal of the opening
-  opening-asked : openRefusal (take 8 file) a₀ ≡ openingRefusal mainframe (openingOf (take 8 file))
+  opening-asked : openRefusal (take fileRecordWidth file) a₀ ≡ openingRefusal mainframe (openingOf (take fileRecordWidth file))
   unfolding openRefusal
-  opening-asked = rw (sizes, length-take-le 8 file long)
+  opening-asked = rw (sizes, length-take-le fileRecordWidth file long)
 
   -- what stands behind it
-  opening-taken : after a₀ file ≡ bytesTaken (openingTaken (begun a₀) (take 8 file)) (drop 8 file)
+  opening-taken : after a₀ file ≡ bytesTaken (openingTaken (begun a₀) (take fileRecordWidth file)) (drop fileRecordWidth file)
   unfolding after begun recordTaken
   opening-taken = eight-first (begun a₀) file refl refl long
 
   -- accepted: the opened state lies in the areas
-  accepted-between : openingRefusal mainframe (openingOf (take 8 file)) ≡ 0
-      → openingTaken (begun a₀) (take 8 file) ≡ between 1 (holding (openedBy file)) (refusalLine 0 0)
+  accepted-between : openingRefusal mainframe (openingOf (take fileRecordWidth file)) ≡ 0
+      → openingTaken (begun a₀) (take fileRecordWidth file) ≡ between 1 (holding (openedBy file)) (refusalLine 0 0)
   unfolding openingTaken areasOpened begun between openedBy
   accepted-between e = rw (opening-asked ∙ e)
 
   -- refused: the run has stopped
-  refused-stopped : openingRefusal mainframe (openingOf (take 8 file)) ≡ 2
-      → openingTaken (begun a₀) (take 8 file) ≡ record { number = 1; held = []; stopped = true; areas = a₀; lines = refusalLine 0 2 }
+  refused-stopped : openingRefusal mainframe (openingOf (take fileRecordWidth file)) ≡ 2
+      → openingTaken (begun a₀) (take fileRecordWidth file) ≡ record { number = 1; held = []; stopped = true; areas = a₀; lines = refusalLine 0 2 }
   unfolding openingTaken areasOpened begun
   refused-stopped e = rw (opening-asked ∙ e)
 
-  counted : length (drop 8 file) ≡ 8 * stepCount file + length file % 8
+  counted : length (drop fileRecordWidth file) ≡ fileRecordWidth * stepCount file + length file % fileRecordWidth
   unfolding stepCount
-  counted = omega (arith, length-drop 8 file, long)
+  counted = omega (arith, length-drop fileRecordWidth file, long)
 
   -- the lines of the whole file
-  lines-accepted : openingRefusal mainframe (openingOf (take 8 file)) ≡ 0 → ended (after a₀ file) ≡ refusalLine 0 0 ++ stepLines file
+  lines-accepted : openingRefusal mainframe (openingOf (take fileRecordWidth file)) ≡ 0 → ended (after a₀ file) ≡ refusalLine 0 0 ++ stepLines file
   unfolding stepLines restLines restEnd endLine openedBy
   lines-accepted e =
-      ap (λ (g : Feed). ended g) (opening-taken ∙ ap (λ (g : Feed). bytesTaken g (drop 8 file)) (accepted-between e))
-      ∙ rest-lines (stepCount file) mostSteps 0 (openedBy file) (refusalLine 0 0) (drop 8 file) (length file % 8) counted (omega arith) (omega arith)
-      (opened-carried (openingOf (take 8 file)) e)
-      ∙ ap (λ (j : ℕ). lines j (0 + stepCount file + 1)) (from-zero mostSteps)
-      ∙ ap (λ (j : ℕ). lines (mostSteps + 1) j) (from-zero (stepCount file))
+      ap (λ (g : Feed). ended g) (opening-taken ∙ ap (λ (g : Feed). bytesTaken g (drop fileRecordWidth file)) (accepted-between e))
+      ∙ rest-lines (stepCount file) stepLimit 0 (openedBy file) (refusalLine 0 0) (drop fileRecordWidth file) (length file % fileRecordWidth) counted (omega arith) (omega arith)
+      (opened-carried (openingOf (take fileRecordWidth file)) e)
+      ∙ ap (λ (j : ℕ). lines j (0 + stepCount file + 1)) (from-zero stepLimit)
+      ∙ ap (λ (j : ℕ). lines (stepLimit + 1) j) (from-zero (stepCount file))
     where
       from-zero : (j : ℕ) → 0 + j + 1 ≡ j + 1
       from-zero j = omega arith
@@ -218,14 +219,14 @@ module _ (a₀ : Areas) (file : List ℕ) (sizes : rightSizes a₀ ≡ true) (lo
       lines : ℕ → ℕ → List ℕ
       lines i j =
           refusalLine 0 0
-          ++ (answerLines 1 (answers mainframe (openedBy file) (stepsIn (min (stepCount file) mostSteps) (drop 8 file)))
-          ++ cond (ltb mostSteps (stepCount file)) (refusalLine i 16) (cond (eqb (length file % 8) 0) [] (refusalLine j 15)))
+          ++ (answerLines 1 (answers mainframe (openedBy file) (stepsIn (min (stepCount file) stepLimit) (drop fileRecordWidth file)))
+          ++ cond (ltb stepLimit (stepCount file)) (refusalLine i 16) (cond (eqb (length file % fileRecordWidth) 0) [] (refusalLine j 15)))
 
-  lines-refused : openingRefusal mainframe (openingOf (take 8 file)) ≡ 2 → ended (after a₀ file) ≡ refusalLine 0 2
+  lines-refused : openingRefusal mainframe (openingOf (take fileRecordWidth file)) ≡ 2 → ended (after a₀ file) ≡ refusalLine 0 2
   unfolding ended lastLine
   lines-refused e =
       ap (λ (g : Feed). ended g)
-      (opening-taken ∙ ap (λ (g : Feed). bytesTaken g (drop 8 file)) (refused-stopped e) ∙ taken-stopped stopped (drop 8 file) refl)
+      (opening-taken ∙ ap (λ (g : Feed). bytesTaken g (drop fileRecordWidth file)) (refused-stopped e) ∙ taken-stopped stopped (drop fileRecordWidth file) refl)
       ∙ append-nil (refusalLine 0 2)
     where
       stopped : Feed
@@ -243,7 +244,7 @@ refused-two file = go (eqb (openingOf file .first) 0 && countsInRange mainframe 
 -- ---- the whole file
 
 -- a file that ends before or within its opening
-short-lines : (a₀ : Areas) (file : List ℕ) → length file < 8 → ended (after a₀ file) ≡ refusalLine 0 15
+short-lines : (a₀ : Areas) (file : List ℕ) → length file < fileRecordWidth → ended (after a₀ file) ≡ refusalLine 0 15
 unfolding after begun ended heldOn lastLine
 short-lines a₀ file h = ap (λ (g : Feed). ended g) (taken-held (begun a₀) file refl (omega (arith, h))) ∙ last file
   where
@@ -253,14 +254,14 @@ short-lines a₀ file h = ap (λ (g : Feed). ended g) (taken-held (begun a₀) f
 
 lines-of-whole : (a₀ : Areas) (file : List ℕ) → rightSizes a₀ ≡ true → fileLines file ≡ ended (after a₀ file)
 unfolding fileLines
-lines-of-whole a₀ file sizes = go (ltb (length file) 8) (eqb (openingRefusal mainframe (openingOf (take 8 file))) 0) refl refl
+lines-of-whole a₀ file sizes = go (ltb (length file) fileRecordWidth) (eqb (openingRefusal mainframe (openingOf (take fileRecordWidth file))) 0) refl refl
   where
-    go : (b d : Bool) → ltb (length file) 8 ≡ b → eqb (openingRefusal mainframe (openingOf (take 8 file))) 0 ≡ d
+    go : (b d : Bool) → ltb (length file) fileRecordWidth ≡ b → eqb (openingRefusal mainframe (openingOf (take fileRecordWidth file))) 0 ≡ d
         → cond b (refusalLine 0 15) (cond d (refusalLine 0 0 ++ stepLines file) (refusalLine 0 2)) ≡ ended (after a₀ file)
-    go true d e h = sym (short-lines a₀ file (ltb-true (length file) 8 e))
+    go true d e h = sym (short-lines a₀ file (ltb-true (length file) fileRecordWidth e))
     go false true e h =
-        sym (lines-accepted a₀ file sizes (ltb-false (length file) 8 e) (eqb-true (openingRefusal mainframe (openingOf (take 8 file))) 0 h))
-    go false false e h = sym (lines-refused a₀ file sizes (ltb-false (length file) 8 e) (refused-two (take 8 file) h))
+        sym (lines-accepted a₀ file sizes (ltb-false (length file) fileRecordWidth e) (eqb-true (openingRefusal mainframe (openingOf (take fileRecordWidth file))) 0 h))
+    go false false e h = sym (lines-refused a₀ file sizes (ltb-false (length file) fileRecordWidth e) (refused-two (take fileRecordWidth file) h))
 
 -- the lines printed while a file is fed, and the one at its end, are the lines of the whole file
 pub whole-lines : (a₀ a : Areas) (file : List ℕ) (p : Progress) → rightSizes a₀ ≡ true → Reached a₀ file p a → fileLines file ≡ after a₀ file .lines ++ finishLine p

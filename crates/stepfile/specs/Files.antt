@@ -4,6 +4,7 @@ use mathlib.Core.Bool.{cond}
 use mathlib.Core.List.{List, [], _∷_, _++_}
 use lib.ListN.{length, take, drop}
 use lib.Dec.{ltb, eqb}
+use Rattle.limits.specs.Limits.{fileRecordWidth, stepLimit}
 use Rattle.rules.specs.Opening.{openingRefusal, opened}
 use Rattle.rules.specs.Refusals.{Answer}
 use Rattle.rules.specs.Runs.{answers}
@@ -11,7 +12,7 @@ use Rattle.rules.specs.State.{mainframe, State}
 use Rattle.opening.specs.Promises.{openingOf}
 use Rattle.running.specs.Records.{stepsIn}
 use Rattle.lines.specs.Lines.{lineBytes}
-use Rattle.taking.specs.Records.{mostSteps, refusalLine}
+use Rattle.taking.specs.Records.{refusalLine}
 
 -- "a line a record": the lines of answers, numbered from n on
 unfoldable pub answerLines : ℕ → List Answer → List ℕ
@@ -20,27 +21,27 @@ answerLines n (a ∷ rest) = lineBytes n (a .refusal) (a .value) (a .count) ++ a
 
 -- how many whole records stand behind the opening
 unfoldable pub stepCount : List ℕ → ℕ
-stepCount bytes = (length bytes - 8) / 8
+stepCount bytes = (length bytes - fileRecordWidth) / fileRecordWidth
 
 -- how a file ends: 16 where "a whole record follows the 1,000,000th step record", 15 where "it ends within a record"; "The 15 or 16 line has
 -- the number the next record would have had"
 unfoldable pub endLine : List ℕ → List ℕ
 endLine bytes =
-    cond (ltb mostSteps (stepCount bytes)) (refusalLine (mostSteps + 1) 16)
-    (cond (eqb (length bytes % 8) 0) []
+    cond (ltb stepLimit (stepCount bytes)) (refusalLine (stepLimit + 1) 16)
+    (cond (eqb (length bytes % fileRecordWidth) 0) []
     (refusalLine (stepCount bytes + 1) 15))
 
 -- the state that the opening leaves
 unfoldable pub openedBy : List ℕ → State
-openedBy bytes = opened mainframe (openingOf (take 8 bytes) .counts)
+openedBy bytes = opened mainframe (openingOf (take fileRecordWidth bytes) .counts)
 
 -- the lines of the steps and the end, behind an accepted opening
 unfoldable pub stepLines : List ℕ → List ℕ
-stepLines bytes = answerLines 1 (answers mainframe (openedBy bytes) (stepsIn (min (stepCount bytes) mostSteps) (drop 8 bytes))) ++ endLine bytes
+stepLines bytes = answerLines 1 (answers mainframe (openedBy bytes) (stepsIn (min (stepCount bytes) stepLimit) (drop fileRecordWidth bytes))) ++ endLine bytes
 
 -- the lines of a file: 15 where it ends "before the opening" or within it; "After 2, 15 or 16 it stops"
 unfoldable pub fileLines : List ℕ → List ℕ
 fileLines bytes =
-    cond (ltb (length bytes) 8) (refusalLine 0 15)
-    (cond (eqb (openingRefusal mainframe (openingOf (take 8 bytes))) 0) (refusalLine 0 0 ++ stepLines bytes)
+    cond (ltb (length bytes) fileRecordWidth) (refusalLine 0 15)
+    (cond (eqb (openingRefusal mainframe (openingOf (take fileRecordWidth bytes))) 0) (refusalLine 0 0 ++ stepLines bytes)
     (refusalLine 0 2))

@@ -5,8 +5,10 @@ use mathlib.Core.Bool.{Bool, _&&_, _||_, false, not, true}
 use mathlib.Core.List.{List, _++_}
 use lib.ListN.{drop, length, replicate, take}
 use lib.Dec.{eqb, ltb}
+use Rattle.limits.specs.Limits.{fileRecordWidth, lineLimit}
+use Rattle.limits.specs.Sizes.{fileRecordLimit}
 use Rattle.memory.specs.Areas.{Areas}
-use Rattle.engine.specs.Promises.{OrderIs}
+use Rattle.engine.specs.Needed.{OrderIs}
 use Rattle.taking.specs.Records.{Feed}
 use Rattle.taking.specs.Needed.{Kept, standsAt}
 use Rattle.taking.specs.declared.Stand.{Stand}
@@ -20,7 +22,7 @@ use Rattle.stepfile.specs.declared.Held.{Held}
 
 -- b says whether fewer than eight bytes are held and the others are 0
 pub record ZerosBehind (b : Bool) (held : ℕ) (bytes : List ℕ) : Type 0 where
-  pub is : b ≡ (ltb held 8 && allZero (drop held bytes))
+  pub is : b ≡ (ltb held fileRecordWidth && allZero (drop held bytes))
 
 -- b says whether a chunk of so many bytes is fed
 pub record FeedableIs (b : Bool) (p : Progress) (chunk room : ℕ) : Type 0 where
@@ -34,9 +36,9 @@ pub record EndsShort (b : Bool) (p : Progress) : Type 0 where
 
 -- bytes are held, at most eight, with zeros behind them
 pub record Holding (held : ℕ) (bytes : List ℕ) : Type 0 where
-  pub few : held ≤ 8
-  pub long : length bytes ≡ 8
-  pub zeros : drop held bytes ≡ replicate (8 - held) 0
+  pub few : held ≤ fileRecordWidth
+  pub long : length bytes ≡ fileRecordWidth
+  pub zeros : drop held bytes ≡ replicate (fileRecordWidth - held) 0
 
 -- bytes are held, and the chunk has more from a place on
 pub record Holdable (held : ℕ) (bytes chunk : List ℕ) (from : ℕ) : Type 0 where
@@ -53,7 +55,7 @@ pub record Holds (held : ℕ) (bytes chunk : List ℕ) (from : ℕ) (count : ℕ
 -- until there are eight or the chunk ends
 pub record HeldAll (held : ℕ) (bytes chunk : List ℕ) (from : ℕ) (h : Held) : Type 0 where
   pub holds : Holds held bytes chunk from (h .count) (h .bytes) (h .next)
-  pub short : h .count < 8 → h .next ≡ length chunk
+  pub short : h .count < fileRecordWidth → h .next ≡ length chunk
 
 -- ---- a chunk
 
@@ -67,23 +69,23 @@ takenAs f = record { progress = progressOf f; fed = true; written = length (f .l
 
 -- the progress is one that feeding makes, and not stopped; there is room for the lines of the chunk; ready says whether the areas are in order
 pub record Feedable (p : Progress) (ready : Bool) (chunk out c w r m : List ℕ) : Type 0 where
-  pub few : p .number ≤ 1000001
+  pub few : p .number ≤ fileRecordLimit
   pub going : p .stopped ≡ false
-  pub fewer : p .held < 8
+  pub fewer : p .held < fileRecordWidth
   pub holding : Holding (p .held) (p .bytes)
-  pub room : 44 * (length chunk / 8) + 44 ≤ length out
+  pub room : lineLimit * (length chunk / fileRecordWidth) + lineLimit ≤ length out
   pub order : OrderIs ready c w r m
 
 -- the bytes held and the first of the chunk are eight
 pub record Completes (p : Progress) (ready : Bool) (h : Held) (chunk out c w r m : List ℕ) : Type 0 where
   pub feedable : Feedable p ready chunk out c w r m
   pub held : HeldAll (p .held) (p .bytes) chunk 0 h
-  pub eight : 8 ≤ h .count
+  pub eight : fileRecordWidth ≤ h .count
 
 -- after the last record: fewer than eight bytes are left, or the run has stopped
 pub record Endable (s : Stand) (chunk : List ℕ) (from : ℕ) : Type 0 where
   pub within : from ≤ length chunk
-  pub few-left : s .stopped ≡ false → length chunk < from + 8
+  pub few-left : s .stopped ≡ false → length chunk < from + fileRecordWidth
 
 -- t is the answer of what the bytes behind the last record lead to
 pub record Ended (s : Stand) (chunk : List ℕ) (from : ℕ) (t : Taken) : Type 0 where

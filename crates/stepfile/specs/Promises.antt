@@ -7,8 +7,9 @@ use mathlib.Core.List.{List, [], _∷_, _++_}
 use lib.ListN.{length, take, drop, replicate}
 use lib.Seq.{sets}
 use lib.Dec.{ltb, leb, eqb}
+use Rattle.limits.specs.Limits.{fileRecordWidth, lineLimit, stepLimit}
 use Rattle.memory.specs.Areas.{Areas, rightSizes}
-use Rattle.taking.specs.Records.{Feed, mostSteps}
+use Rattle.taking.specs.Records.{Feed}
 use Rattle.passing.specs.Bytes.{bytesTaken}
 use Rattle.stepfile.specs.Files.{fileLines}
 use Rattle.stepfile.specs.Feeding.{after, lastLine}
@@ -22,11 +23,11 @@ allZero (b ∷ rest) = eqb b 0 && allZero rest
 
 -- a progress that feeding makes: at most 1,000,001 as the next number, fewer than eight bytes held, and zeros behind them
 unfoldable pub sound : Progress → Bool
-sound p = leb (p .number) (mostSteps + 1) && ltb (p .held) 8 && allZero (drop (p .held) (p .bytes))
+sound p = leb (p .number) (stepLimit + 1) && ltb (p .held) fileRecordWidth && allZero (drop (p .held) (p .bytes))
 
 -- the progress of what stands
 unfoldable pub progressOf : Feed → Progress
-progressOf f = record { number = f .number; stopped = f .stopped; held = length (f .held); bytes = f .held ++ replicate (8 - length (f .held)) 0 }
+progressOf f = record { number = f .number; stopped = f .stopped; held = length (f .held); bytes = f .held ++ replicate (fileRecordWidth - length (f .held)) 0 }
 
 -- what stands at a progress with these areas, with nothing printed yet
 unfoldable pub standing : Progress → Areas → Feed
@@ -35,7 +36,7 @@ standing p a = record { number = p .number; held = take (p .held) (p .bytes); st
 -- whether a chunk of so many bytes is fed: the progress is sound, and there is room for the longest line, of 44 bytes, for each record that
 -- the chunk can complete
 unfoldable pub feedable : Progress → ℕ → ℕ → Bool
-feedable p chunk room = sound p && ltb (chunk / 8) (room / 44)
+feedable p chunk room = sound p && ltb (chunk / fileRecordWidth) (room / lineLimit)
 
 -- the answer where nothing is done
 unfoldable pub notTaken : Progress → Taken

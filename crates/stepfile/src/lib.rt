@@ -1,14 +1,18 @@
 // A step file fed in parts, cut anywhere: the lines of its records, as for the whole file.
 ghost use mathlib.Core.Bool.{true};
 ghost use lib.ListN.{length, take, drop};
+ghost use Rattle.limits.specs.Limits.{fileRecordWidth};
 ghost use Rattle.memory.specs.Areas.{areas};
-ghost use Rattle.engine.specs.Promises.{OrderIs};
+ghost use Rattle.engine.specs.Needed.{OrderIs};
 ghost use Rattle.taking.specs.Records.{recordTaken};
 ghost use Rattle.taking.specs.Needed.{standsAt, Takeable, Took};
 ghost use Rattle.passing.specs.Bytes.{bytesTaken};
 ghost use Rattle.passing.specs.Needed.{Passable};
 ghost use Rattle.stepfile.specs.Promises.{standing, Started, FedAs, FinishedAs};
 ghost use Rattle.stepfile.specs.Needed.{ZerosBehind, FeedableIs, EndsShort, firstStand, Holdable, HeldAll, Feedable, Completes, Endable, Ended, ChunkFed};
+use limits::FILE_RECORD_LIMIT;
+use limits::FILE_RECORD_WIDTH;
+use limits::LINE_LIMIT;
 use taking::Stand;
 
 // How far a file has been fed.
@@ -19,7 +23,7 @@ pub struct Progress {
     pub stopped: bool,
     // How many bytes of a record that has begun are held, and those bytes, zeros behind them.
     pub held: usize,
-    pub bytes: [u8; 8],
+    pub bytes: [u8; FILE_RECORD_WIDTH],
 }
 
 // What feeding a chunk answers: how far the file has been fed, whether the chunk was fed, and how many bytes of lines were written.
@@ -32,7 +36,7 @@ pub struct Taken {
 // Bytes held, how many, and the place in the chunk behind the last of them.
 struct Held {
     count: usize,
-    bytes: [u8; 8],
+    bytes: [u8; FILE_RECORD_WIDTH],
     next: usize,
 }
 
@@ -40,7 +44,7 @@ struct Held {
 pub fn start() -> Progress
     ensures { λ r. ⌜ Started r ⌝ }
 {
-    let bytes = [0; 8];
+    let bytes = [0; FILE_RECORD_WIDTH];
     Progress {
         number: 0,
         stopped: false,
@@ -101,10 +105,10 @@ pub fn finish(progress: Progress, lines: &mut [u8]) -> Taken
 fn feedable(progress: Progress, chunk: usize, room: usize) -> bool
     ensures { λ r. ⌜ FeedableIs r progress chunk room ⌝ }
 {
-    if 1000001 < progress.number {
+    if FILE_RECORD_LIMIT < progress.number {
         return false;
     }
-    if room / 44 <= chunk / 8 {
+    if room / LINE_LIMIT <= chunk / FILE_RECORD_WIDTH {
         return false;
     }
     let bytes = progress.bytes;
@@ -112,14 +116,14 @@ fn feedable(progress: Progress, chunk: usize, room: usize) -> bool
 }
 
 // Whether fewer than eight bytes are held, and the others are 0.
-fn zeros_behind(held: usize, bytes: [u8; 8]) -> bool
+fn zeros_behind(held: usize, bytes: [u8; FILE_RECORD_WIDTH]) -> bool
     ensures { λ r. ⌜ ZerosBehind r held bytes ⌝ }
 {
-    if 8 <= held {
+    if FILE_RECORD_WIDTH <= held {
         return false;
     }
     let mut i = held;
-    while i < 8 {
+    while i < FILE_RECORD_WIDTH {
         if bytes[i] != 0 {
             return false;
         }
@@ -188,7 +192,7 @@ fn feed_on(
 {
     let begun = progress.bytes;
     let first = hold(progress.held, begun, chunk, 0);
-    if first.count < 8 {
+    if first.count < FILE_RECORD_WIDTH {
         let bytes = first.bytes;
         let held = Progress {
             number: progress.number,
@@ -216,7 +220,7 @@ fn feed_on(
 }
 
 // Takes bytes of the chunk from a place on behind the bytes held, until there are eight or the chunk ends.
-fn hold(held: usize, bytes: [u8; 8], chunk: &[u8], from: usize) -> Held
+fn hold(held: usize, bytes: [u8; FILE_RECORD_WIDTH], chunk: &[u8], from: usize) -> Held
     requires { ⌜ Holdable held bytes (now chunk) from ⌝ }
     ensures { λ r. ⌜ HeldAll held bytes (now (chunk .entry)) from r ⌝ }
 {
@@ -224,7 +228,7 @@ fn hold(held: usize, bytes: [u8; 8], chunk: &[u8], from: usize) -> Held
     let mut count = held;
     let mut i = from;
     while i < chunk.len() {
-        if 8 <= count {
+        if FILE_RECORD_WIDTH <= count {
             return Held {
                 count,
                 bytes: kept,
@@ -284,7 +288,7 @@ fn feed_begun(
 fn take_begun(
     number: u32,
     ready: bool,
-    bytes: [u8; 8],
+    bytes: [u8; FILE_RECORD_WIDTH],
     lines: &mut [u8],
     clocks: &mut [u8],
     words: &mut [u32],
@@ -292,7 +296,7 @@ fn take_begun(
     marks: &mut [u8],
 ) -> Stand
     requires { ⌜ Takeable (firstStand number ready) bytes 0 (now lines) (now clocks) (now words) (now records) (now marks) ⌝ }
-    ensures { λ r. ⌜ Took (recordTaken (standsAt (firstStand number ready) (now (lines .entry)) (areas (now (clocks .entry)) (now (words .entry)) (now (records .entry)) (now (marks .entry)))) (take 8 (drop 0 bytes))) (firstStand number ready) (now (lines .entry)) r (now (lines .exit)) (now (clocks .exit)) (now (words .exit)) (now (records .exit)) (now (marks .exit)) ⌝ }
+    ensures { λ r. ⌜ Took (recordTaken (standsAt (firstStand number ready) (now (lines .entry)) (areas (now (clocks .entry)) (now (words .entry)) (now (records .entry)) (now (marks .entry)))) (take fileRecordWidth (drop 0 bytes))) (firstStand number ready) (now (lines .entry)) r (now (lines .exit)) (now (clocks .exit)) (now (words .exit)) (now (records .exit)) (now (marks .exit)) ⌝ }
 {
     let stand = Stand {
         number,
@@ -327,7 +331,7 @@ fn hold_rest(stand: Stand, chunk: &[u8], from: usize) -> Taken
     requires { ⌜ Endable stand (now chunk) from ⌝ }
     ensures { λ r. ⌜ Ended stand (now (chunk .entry)) from r ⌝ }
 {
-    let none = [0; 8];
+    let none = [0; FILE_RECORD_WIDTH];
     if stand.stopped {
         let progress = Progress {
             number: stand.number,

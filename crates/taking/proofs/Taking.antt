@@ -12,6 +12,7 @@ use mir.Syntax.{w32}
 use mir.Val.{Fits}
 use borrow.Author.Tests.{eq-eqb, le-leb, lt-leb, ne-eqb, not-false}
 use borrow.Author.Needs.{needs}
+use Rattle.limits.specs.Limits.{fileRecordWidth, lineLimit, stepLimit}
 use Rattle.rules.proofs.InOrderWhen.{in-order-when}
 use Rattle.rules.specs.InOrder.{inOrder}
 use Rattle.rules.specs.Refusals.{Answer, Step}
@@ -19,9 +20,10 @@ use Rattle.rules.specs.State.{mainframe}
 use Rattle.memory.proofs.Encoding.{lent-right}
 use Rattle.memory.specs.Areas.{stateIn, Areas, areas}
 use Rattle.memory.specs.Needed.{Ready}
-use Rattle.acting.specs.Outcomes.{outcomeCount, outcomeRefusal, outcomeValue, told}
+use Rattle.acting.specs.Telling.{outcomeCount, outcomeRefusal, outcomeValue, told}
 use Rattle.checking.specs.Areas.{areasInOrder}
-use Rattle.engine.specs.Promises.{answerOf, areasAfter, OrderIs, SteppedAs}
+use Rattle.engine.specs.Promises.{answerOf, areasAfter}
+use Rattle.engine.specs.Needed.{OrderIs, SteppedAs}
 use Rattle.acting.specs.declared.Outcome.{Outcome}
 use Rattle.acting.specs.declared.Outcome.the-variants.{Done, Refused}
 use Rattle.engine.proofs.Answering.{in-order-after, in-order-answered, out-of-order, out-of-order-untouched, ready-when-fine}
@@ -33,7 +35,7 @@ use Rattle.running.specs.Records.{stepFrom}
 use Rattle.lines.specs.Lines.{lineBytes}
 use Rattle.lines.specs.Needed.{Room}
 use Rattle.lines.proofs.Lines.{at-most-44-bytes}
-use Rattle.taking.specs.Records.{mostSteps, openingTaken, recordTaken, refusalLine, stepTaken, tooManyTaken}
+use Rattle.taking.specs.Records.{openingTaken, recordTaken, refusalLine, stepTaken, tooManyTaken}
 use Rattle.taking.specs.declared.Stand.{Stand}
 use Rattle.taking.specs.Needed.{Answered, Kept, LinePut, OpenedAs, StepTakeable, Steppable, StoppedAt, Takeable, Took, outcomeLine, standsAt}
 
@@ -60,7 +62,7 @@ module _ (out : List ℕ) (at : ℕ) (line : List ℕ) (h : at + length line ≤
       ∙ take-at (take at out ++ line) (drop (at + length line) out) (at + length line) front-long
 
 -- a line stored from a place on
-pub line-put : (out : List ℕ) (at n f v k : ℕ) (out′ : List ℕ) (end : ℕ) → Room out at 44 → Fits w32 n → Fits w32 f → Fits w32 v → Fits w32 k
+pub line-put : (out : List ℕ) (at n f v k : ℕ) (out′ : List ℕ) (end : ℕ) → Room out at lineLimit → Fits w32 n → Fits w32 f → Fits w32 v → Fits w32 k
     → end ≡ at + length (lineBytes n f v k) → out′ ≡ sets out at (lineBytes n f v k)
     → LinePut out at (lineBytes n f v k) out′ end
 line-put out at n f v k out′ end room fn ff fv fk e s =
@@ -108,10 +110,10 @@ same-order b c w r m c′ w′ r′ m′ h e =
 -- ---- a step
 
 -- the step of a record is that of its eight bytes
-pub step-of-eight : (bytes : List ℕ) → stepFrom (take 8 bytes) ≡ stepFrom bytes
+pub step-of-eight : (bytes : List ℕ) → stepFrom (take fileRecordWidth bytes) ≡ stepFrom bytes
 unfolding stepFrom
 step-of-eight bytes =
-    rw (getD-take 8 bytes 0 0 (omega arith), getD-take 8 bytes 1 0 (omega arith), getD-take 8 bytes 2 0 (omega arith), getD-take 8 bytes 3 0 (omega arith), getD-take 8 bytes 4 0 (omega arith), getD-take 8 bytes 5 0 (omega arith), getD-take 8 bytes 6 0 (omega arith), getD-take 8 bytes 7 0 (omega arith))
+    rw (getD-take fileRecordWidth bytes 0 0 (omega arith), getD-take fileRecordWidth bytes 1 0 (omega arith), getD-take fileRecordWidth bytes 2 0 (omega arith), getD-take fileRecordWidth bytes 3 0 (omega arith), getD-take fileRecordWidth bytes 4 0 (omega arith), getD-take fileRecordWidth bytes 5 0 (omega arith), getD-take fileRecordWidth bytes 6 0 (omega arith), getD-take fileRecordWidth bytes 7 0 (omega arith))
 
 module _ (ready : Bool) (bytes : List ℕ) (from : ℕ) (c w r m : List ℕ) (h : Steppable ready bytes from c w r m) where
   -- 1: "not in order"
@@ -152,20 +154,20 @@ stands number stopped ready end out a lines b e f =
 module _ (s : Stand) (bytes : List ℕ) (from : ℕ) (out c w r m : List ℕ) where
   -- a refused opening: nothing is laid
   module _ (n : ℕ) (c′ w′ r′ m′ : List ℕ) (k : ℕ) (out′ : List ℕ) (end : ℕ) (h : Takeable s bytes from out c w r m)
-      (o : OpenedAs (take 8 (drop from bytes)) c w r m n c′ w′ r′ m′) (e : (k ≡ n) × (k ≤ 255)) (p : LinePut out (s .at) (lineBytes 0 k 0 0) out′ end) where
-    opening-line : take end out′ ≡ take (s .at) out ++ refusalLine 0 (openRefusal (take 8 (drop from bytes)) (areas c w r m))
+      (o : OpenedAs (take fileRecordWidth (drop from bytes)) c w r m n c′ w′ r′ m′) (e : (k ≡ n) × (k ≤ 255)) (p : LinePut out (s .at) (lineBytes 0 k 0 0) out′ end) where
+    opening-line : take end out′ ≡ take (s .at) out ++ refusalLine 0 (openRefusal (take fileRecordWidth (drop from bytes)) (areas c w r m))
     unfolding refusalLine
     opening-line = p .lines ∙ ap (λ (j : ℕ). take (s .at) out ++ lineBytes 0 j 0 0) (e .0 ∙ o .refusal)
 
     pub refused-opening-taken : (n ≡ 0 → ⊥)
-        → Took (openingTaken (standsAt s out (areas c w r m)) (take 8 (drop from bytes))) s out (record { number = 1; stopped = true; ready = s .ready; at = end }) out′ c′ w′ r′ m′
+        → Took (openingTaken (standsAt s out (areas c w r m)) (take fileRecordWidth (drop from bytes))) s out (record { number = 1; stopped = true; ready = s .ready; at = end }) out′ c′ w′ r′ m′
     unfolding openingTaken standsAt areasOpened
     refused-opening-taken z =
-        let no : eqb (openRefusal (take 8 (drop from bytes)) (areas c w r m)) 0 ≡ false = ne-eqb _ 0 (λ q. z (o .refusal ∙ q)) in
+        let no : eqb (openRefusal (take fileRecordWidth (drop from bytes)) (areas c w r m)) 0 ≡ false = ne-eqb _ 0 (λ q. z (o .refusal ∙ q)) in
         record {
           is =
               stands 1 true (s .ready) end out′ (areas c′ w′ r′ m′) _ _ opening-line (o .laid)
-              ∙ ap (λ (b : Bool). record { number = 1; held = []; stopped = not b; areas = areasOpened (take 8 (drop from bytes)) (areas c w r m); lines = take (s .at) out ++ refusalLine 0 (openRefusal (take 8 (drop from bytes)) (areas c w r m)) })
+              ∙ ap (λ (b : Bool). record { number = 1; held = []; stopped = not b; areas = areasOpened (take fileRecordWidth (drop from bytes)) (areas c w r m); lines = take (s .at) out ++ refusalLine 0 (openRefusal (take fileRecordWidth (drop from bytes)) (areas c w r m)) })
               (sym no);
           few = omega arith;
           kept = p .kept;
@@ -174,29 +176,29 @@ module _ (s : Stand) (bytes : List ℕ) (from : ℕ) (out c w r m : List ℕ) wh
         }
 
     pub accepted-opening-taken : n ≡ 0
-        → Took (openingTaken (standsAt s out (areas c w r m)) (take 8 (drop from bytes))) s out (record { number = 1; stopped = false; ready = true; at = end }) out′ c′ w′ r′ m′
+        → Took (openingTaken (standsAt s out (areas c w r m)) (take fileRecordWidth (drop from bytes))) s out (record { number = 1; stopped = false; ready = true; at = end }) out′ c′ w′ r′ m′
     unfolding openingTaken standsAt
     accepted-opening-taken z =
-        let yes : eqb (openRefusal (take 8 (drop from bytes)) (areas c w r m)) 0 ≡ true = eq-eqb _ 0 (sym (o .refusal) ∙ z) in
+        let yes : eqb (openRefusal (take fileRecordWidth (drop from bytes)) (areas c w r m)) 0 ≡ true = eq-eqb _ 0 (sym (o .refusal) ∙ z) in
         record {
           is =
               stands 1 false true end out′ (areas c′ w′ r′ m′) _ _ opening-line (o .laid)
-              ∙ ap (λ (b : Bool). record { number = 1; held = []; stopped = not b; areas = areasOpened (take 8 (drop from bytes)) (areas c w r m); lines = take (s .at) out ++ refusalLine 0 (openRefusal (take 8 (drop from bytes)) (areas c w r m)) })
+              ∙ ap (λ (b : Bool). record { number = 1; held = []; stopped = not b; areas = areasOpened (take fileRecordWidth (drop from bytes)) (areas c w r m); lines = take (s .at) out ++ refusalLine 0 (openRefusal (take fileRecordWidth (drop from bytes)) (areas c w r m)) })
               (sym yes);
           few = omega arith;
           kept = p .kept;
           near = p .near;
-          order = ready-order c′ w′ r′ m′ (opened-ready (take 8 (drop from bytes)) c w r m c′ w′ r′ m′ (sym (o .refusal) ∙ z) (o .laid));
+          order = ready-order c′ w′ r′ m′ (opened-ready (take fileRecordWidth (drop from bytes)) c w r m c′ w′ r′ m′ (sym (o .refusal) ∙ z) (o .laid));
         }
 
   -- a step
   pub step-taken : (o : Outcome) (c′ w′ r′ m′ out′ : List ℕ) (end : ℕ) → StepTakeable s bytes from out c w r m
       → Answered (stepFrom (drop from bytes)) c w r m o (s .ready) c′ w′ r′ m′
       → LinePut out (s .at) (outcomeLine (s .number) o) out′ end
-      → Took (stepTaken (standsAt s out (areas c w r m)) (take 8 (drop from bytes))) s out (record { number = s .number + 1; stopped = false; ready = s .ready; at = end }) out′ c′ w′ r′ m′
+      → Took (stepTaken (standsAt s out (areas c w r m)) (take fileRecordWidth (drop from bytes))) s out (record { number = s .number + 1; stopped = false; ready = s .ready; at = end }) out′ c′ w′ r′ m′
   unfolding stepTaken standsAt outcomeLine
   step-taken o c′ w′ r′ m′ out′ end h a p =
-      let t : stepFrom (drop from bytes) ≡ stepFrom (take 8 (drop from bytes)) = sym (step-of-eight (drop from bytes)) in
+      let t : stepFrom (drop from bytes) ≡ stepFrom (take fileRecordWidth (drop from bytes)) = sym (step-of-eight (drop from bytes)) in
       record {
         is =
             stands (s .number + 1) false (s .ready) end out′ (areas c′ w′ r′ m′) _ _
@@ -213,27 +215,27 @@ module _ (s : Stand) (bytes : List ℕ) (from : ℕ) (out c w r m : List ℕ) wh
 
   module _ (s′ : Stand) (out′ c′ w′ r′ m′ : List ℕ) where
     pub first-is-opening : s .number ≡ 0
-        → Took (openingTaken (standsAt s out (areas c w r m)) (take 8 (drop from bytes))) s out s′ out′ c′ w′ r′ m′
-        → Took (recordTaken (standsAt s out (areas c w r m)) (take 8 (drop from bytes))) s out s′ out′ c′ w′ r′ m′
+        → Took (openingTaken (standsAt s out (areas c w r m)) (take fileRecordWidth (drop from bytes))) s out s′ out′ c′ w′ r′ m′
+        → Took (recordTaken (standsAt s out (areas c w r m)) (take fileRecordWidth (drop from bytes))) s out s′ out′ c′ w′ r′ m′
     unfolding recordTaken standsAt
     first-is-opening z h = rw (eq-eqb (s .number) 0 z) h
 
-    pub next-is-step : (s .number ≡ 0 → ⊥) → s .number ≤ 1000000
-        → Took (stepTaken (standsAt s out (areas c w r m)) (take 8 (drop from bytes))) s out s′ out′ c′ w′ r′ m′
-        → Took (recordTaken (standsAt s out (areas c w r m)) (take 8 (drop from bytes))) s out s′ out′ c′ w′ r′ m′
-    unfolding recordTaken standsAt mostSteps
-    next-is-step z l h = rw (ne-eqb (s .number) 0 z, le-leb (s .number) 1000000 l) h
+    pub next-is-step : (s .number ≡ 0 → ⊥) → s .number ≤ stepLimit
+        → Took (stepTaken (standsAt s out (areas c w r m)) (take fileRecordWidth (drop from bytes))) s out s′ out′ c′ w′ r′ m′
+        → Took (recordTaken (standsAt s out (areas c w r m)) (take fileRecordWidth (drop from bytes))) s out s′ out′ c′ w′ r′ m′
+    unfolding recordTaken standsAt
+    next-is-step z l h = rw (ne-eqb (s .number) 0 z, le-leb (s .number) stepLimit l) h
 
-  pub last-is-too-many : (s′ : Stand) (out′ : List ℕ) → Takeable s bytes from out c w r m → (s .number ≡ 0 → ⊥) → 1000000 < s .number
+  pub last-is-too-many : (s′ : Stand) (out′ : List ℕ) → Takeable s bytes from out c w r m → (s .number ≡ 0 → ⊥) → stepLimit < s .number
       → StoppedAt s out s′ out′
-      → Took (recordTaken (standsAt s out (areas c w r m)) (take 8 (drop from bytes))) s out s′ out′ c w r m
-  unfolding recordTaken standsAt mostSteps tooManyTaken refusalLine
+      → Took (recordTaken (standsAt s out (areas c w r m)) (take fileRecordWidth (drop from bytes))) s out s′ out′ c w r m
+  unfolding recordTaken standsAt tooManyTaken refusalLine
   last-is-too-many s′ out′ h z l d =
       record {
         is =
             ap (λ (x : Stand). standsAt x out′ (areas c w r m)) (d .is)
             ∙ stands (s .number) true (s .ready) (s′ .at) out′ (areas c w r m) _ _ (d .put .lines) refl
-            ∙ sym (rw (ne-eqb (s .number) 0 z, lt-leb (s .number) 1000000 l));
+            ∙ sym (rw (ne-eqb (s .number) 0 z, lt-leb (s .number) stepLimit l));
         few = omega (arith, ap (λ (x : Stand). x .number) (d .is), h .few);
         kept = d .put .kept;
         near = d .put .near;
@@ -241,25 +243,25 @@ module _ (s : Stand) (bytes : List ℕ) (from : ℕ) (out c w r m : List ℕ) wh
       }
 
   -- what the ways ask
-  pub room-for-line : Takeable s bytes from out c w r m → Room out (s .at) 44
+  pub room-for-line : Takeable s bytes from out c w r m → Room out (s .at) lineLimit
   room-for-line h = record { room = h .room }
 
-  pub takeable-step : Takeable s bytes from out c w r m → s .number ≤ 1000000 → StepTakeable s bytes from out c w r m
+  pub takeable-step : Takeable s bytes from out c w r m → s .number ≤ stepLimit → StepTakeable s bytes from out c w r m
   takeable-step h l = record { takeable = h; fewer = l }
 
   pub steppable : StepTakeable s bytes from out c w r m → Steppable (s .ready) bytes from c w r m
   steppable h = record { there = h .takeable .there; order = h .takeable .order }
 
-  pub step-room : StepTakeable s bytes from out c w r m → Room out (s .at) 44
+  pub step-room : StepTakeable s bytes from out c w r m → Room out (s .at) lineLimit
   step-room h = record { room = h .takeable .room }
 
 -- the eight bytes of an opening, as a part of the bytes
 pub opened-as : (bytes : List ℕ) (from : ℕ) (c w r m : List ℕ) (n : ℕ) (c′ w′ r′ m′ : List ℕ)
-    → n ≡ openRefusal (take (from + 8 - from) (drop from bytes)) (areas c w r m)
-    → areas c′ w′ r′ m′ ≡ areasOpened (take (from + 8 - from) (drop from bytes)) (areas c w r m)
-    → OpenedAs (take 8 (drop from bytes)) c w r m n c′ w′ r′ m′
+    → n ≡ openRefusal (take (from + fileRecordWidth - from) (drop from bytes)) (areas c w r m)
+    → areas c′ w′ r′ m′ ≡ areasOpened (take (from + fileRecordWidth - from) (drop from bytes)) (areas c w r m)
+    → OpenedAs (take fileRecordWidth (drop from bytes)) c w r m n c′ w′ r′ m′
 opened-as bytes from c w r m n c′ w′ r′ m′ e f =
-    let k : from + 8 - from ≡ 8 = omega arith in
+    let k : from + fileRecordWidth - from ≡ fileRecordWidth = omega arith in
     record {
       refusal = e ∙ ap (λ (j : ℕ). openRefusal (take j (drop from bytes)) (areas c w r m)) k;
       laid = f ∙ ap (λ (j : ℕ). areasOpened (take j (drop from bytes)) (areas c w r m)) k;

@@ -4,11 +4,14 @@ use mathlib.Core.Path.{_≡_}
 use mathlib.Core.Bool.{Bool, true}
 use mathlib.Core.List.{List, [], _++_}
 use lib.ListN.{drop, length, take}
+use Rattle.limits.specs.Limits.{fileRecordWidth, lineLimit, stepLimit}
+use Rattle.limits.specs.Sizes.{fileRecordLimit}
 use Rattle.rules.specs.Refusals.{Step}
 use Rattle.memory.specs.Areas.{Areas, areas}
 use Rattle.opening.specs.Promises.{areasOpened, openRefusal}
-use Rattle.acting.specs.Outcomes.{told}
-use Rattle.engine.specs.Promises.{answerOf, areasAfter, OrderIs}
+use Rattle.acting.specs.Telling.{told}
+use Rattle.engine.specs.Promises.{answerOf, areasAfter}
+use Rattle.engine.specs.Needed.{OrderIs}
 use Rattle.acting.specs.declared.Outcome.{Outcome}
 use Rattle.lines.specs.Lines.{lineBytes}
 use Rattle.taking.specs.Records.{Feed}
@@ -26,7 +29,7 @@ pub record Kept (out : List ℕ) (at : ℕ) (out′ : List ℕ) (at′ : ℕ) : 
 -- a line, at most 44 bytes, stands from a place on behind what stood before it
 pub record LinePut (out : List ℕ) (at : ℕ) (line : List ℕ) (out′ : List ℕ) (end : ℕ) : Type 0 where
   pub kept : Kept out at out′ end
-  pub near : end ≤ at + 44
+  pub near : end ≤ at + lineLimit
   pub lines : take end out′ ≡ take at out ++ line
 
 -- the line of a step's outcome
@@ -41,15 +44,15 @@ standsAt s out a = record { number = s .number; held = []; stopped = s .stopped;
 
 -- a record stands in the bytes from a place on, and there is room for its line
 pub record Takeable (s : Stand) (bytes : List ℕ) (from : ℕ) (out c w r m : List ℕ) : Type 0 where
-  pub few : s .number ≤ 1000001
-  pub there : from + 8 ≤ length bytes
-  pub room : s .at + 44 ≤ length out
+  pub few : s .number ≤ fileRecordLimit
+  pub there : from + fileRecordWidth ≤ length bytes
+  pub room : s .at + lineLimit ≤ length out
   pub order : OrderIs (s .ready) c w r m
 
 -- the same for a step
 pub record StepTakeable (s : Stand) (bytes : List ℕ) (from : ℕ) (out c w r m : List ℕ) : Type 0 where
   pub takeable : Takeable s bytes from out c w r m
-  pub fewer : s .number ≤ 1000000
+  pub fewer : s .number ≤ stepLimit
 
 -- the run has stopped at a record too many: the line 16 stands behind those before it
 pub record StoppedAt (s : Stand) (out : List ℕ) (s′ : Stand) (out′ : List ℕ) : Type 0 where
@@ -58,15 +61,15 @@ pub record StoppedAt (s : Stand) (out : List ℕ) (s′ : Stand) (out′ : List 
 
 -- eight bytes stand from a place on, and ready says whether the areas are in order
 pub record Steppable (ready : Bool) (bytes : List ℕ) (from : ℕ) (c w r m : List ℕ) : Type 0 where
-  pub there : from + 8 ≤ length bytes
+  pub there : from + fileRecordWidth ≤ length bytes
   pub order : OrderIs ready c w r m
 
 -- a record has led to f, of which s′ and the areas tell; the line of the record stands behind those before it
 pub record Took (f : Feed) (s : Stand) (out : List ℕ) (s′ : Stand) (out′ c′ w′ r′ m′ : List ℕ) : Type 0 where
   pub is : standsAt s′ out′ (areas c′ w′ r′ m′) ≡ f
-  pub few : s′ .number ≤ 1000001
+  pub few : s′ .number ≤ fileRecordLimit
   pub kept : Kept out (s .at) out′ (s′ .at)
-  pub near : s′ .at ≤ s .at + 44
+  pub near : s′ .at ≤ s .at + lineLimit
   pub order : OrderIs (s′ .ready) c′ w′ r′ m′
 
 -- the opening in eight bytes has this refusal and leaves these areas

@@ -3,15 +3,12 @@ use Prim.Native.Nat.{ℕ, suc}
 use mathlib.Core.Bool.{Bool, true, false, cond, not}
 use mathlib.Core.List.{List, [], _++_}
 use lib.Dec.{leb, eqb}
+use Rattle.limits.specs.Limits.{stepLimit}
 use Rattle.memory.specs.Areas.{Areas}
 use Rattle.engine.specs.Promises.{answerOf, areasAfter}
 use Rattle.opening.specs.Promises.{openRefusal, areasOpened}
 use Rattle.running.specs.Records.{stepFrom}
 use Rattle.lines.specs.Lines.{lineBytes}
-
--- "the 1,000,000th step record": so many steps are run
-unfoldable pub mostSteps : ℕ
-mostSteps = 1000000
 
 -- the line of record n with a refusal (0 for an accepted opening): "Value 0, count 0"
 unfoldable pub refusalLine : ℕ → ℕ → List ℕ
@@ -61,5 +58,5 @@ tooManyTaken f = record { number = f .number; held = []; stopped = true; areas =
 unfoldable pub recordTaken : Feed → List ℕ → Feed
 recordTaken f bytes =
     cond (eqb (f .number) 0) (openingTaken f bytes)
-    (cond (leb (f .number) mostSteps) (stepTaken f bytes)
+    (cond (leb (f .number) stepLimit) (stepTaken f bytes)
     (tooManyTaken f))

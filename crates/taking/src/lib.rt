@@ -2,6 +2,7 @@
 ghost use mathlib.Core.Path.{_≡_};
 ghost use Prim.Native.Nat.{_+_, _≤_};
 ghost use lib.ListN.{length, take, drop};
+ghost use Rattle.limits.specs.Limits.{fileRecordWidth, lineLimit};
 ghost use Rattle.memory.specs.Areas.{areas};
 ghost use Rattle.running.specs.Records.{stepFrom};
 ghost use Rattle.lines.specs.Lines.{lineBytes};
@@ -9,6 +10,8 @@ ghost use Rattle.lines.specs.Needed.{Room, Counted};
 ghost use Rattle.taking.specs.Records.{openingTaken, stepTaken, recordTaken};
 ghost use Rattle.taking.specs.Needed.{LinePut, outcomeLine, standsAt, Takeable, StepTakeable, StoppedAt, Steppable, Took, OpenedAs, Answered};
 use acting::Outcome;
+use limits::FILE_RECORD_WIDTH;
+use limits::STEP_LIMIT;
 
 // What stands between two records: the number of the next, whether the run has stopped, whether the areas are in order, and how many
 // bytes of lines are written.
@@ -31,12 +34,12 @@ pub fn take_record(
     marks: &mut [u8],
 ) -> Stand
     requires { ⌜ Takeable stand (now bytes) from (now lines) (now clocks) (now words) (now records) (now marks) ⌝ }
-    ensures { λ r. ⌜ Took (recordTaken (standsAt stand (now (lines .entry)) (areas (now (clocks .entry)) (now (words .entry)) (now (records .entry)) (now (marks .entry)))) (take 8 (drop from (now (bytes .entry))))) stand (now (lines .entry)) r (now (lines .exit)) (now (clocks .exit)) (now (words .exit)) (now (records .exit)) (now (marks .exit)) ⌝ }
+    ensures { λ r. ⌜ Took (recordTaken (standsAt stand (now (lines .entry)) (areas (now (clocks .entry)) (now (words .entry)) (now (records .entry)) (now (marks .entry)))) (take fileRecordWidth (drop from (now (bytes .entry))))) stand (now (lines .entry)) r (now (lines .exit)) (now (clocks .exit)) (now (words .exit)) (now (records .exit)) (now (marks .exit)) ⌝ }
 {
     if stand.number == 0 {
         return take_opening(stand, bytes, from, lines, clocks, words, records, marks);
     }
-    if stand.number <= 1000000 {
+    if stand.number <= STEP_LIMIT {
         return take_step(stand, bytes, from, lines, clocks, words, records, marks);
     }
     too_many(stand, lines)
@@ -51,7 +54,7 @@ pub fn put_next(
     number: u32,
     outcome: Outcome,
 ) -> usize
-    requires { ⌜ Room (now out) at 44 ⌝ }
+    requires { ⌜ Room (now out) at lineLimit ⌝ }
     requires { ⌜ Counted digits len number ⌝ }
     ensures { λ r. ⌜ LinePut (now (out .entry)) at (outcomeLine number outcome) (now (out .exit)) r ⌝ }
 {
@@ -79,7 +82,7 @@ pub fn put_line(
     value: u32,
     count: u32,
 ) -> usize
-    requires { ⌜ Room (now out) at 44 ⌝ }
+    requires { ⌜ Room (now out) at lineLimit ⌝ }
     ensures { λ r. ⌜ LinePut (now (out .entry)) at (lineBytes number refusal value count) (now (out .exit)) r ⌝ }
 {
     lines::put_line(out, at, number, refusal, value, count)
@@ -97,7 +100,7 @@ fn take_opening(
     marks: &mut [u8],
 ) -> Stand
     requires { ⌜ Takeable stand (now bytes) from (now lines) (now clocks) (now words) (now records) (now marks) ⌝ }
-    ensures { λ r. ⌜ Took (openingTaken (standsAt stand (now (lines .entry)) (areas (now (clocks .entry)) (now (words .entry)) (now (records .entry)) (now (marks .entry)))) (take 8 (drop from (now (bytes .entry))))) stand (now (lines .entry)) r (now (lines .exit)) (now (clocks .exit)) (now (words .exit)) (now (records .exit)) (now (marks .exit)) ⌝ }
+    ensures { λ r. ⌜ Took (openingTaken (standsAt stand (now (lines .entry)) (areas (now (clocks .entry)) (now (words .entry)) (now (records .entry)) (now (marks .entry)))) (take fileRecordWidth (drop from (now (bytes .entry))))) stand (now (lines .entry)) r (now (lines .exit)) (now (clocks .exit)) (now (words .exit)) (now (records .exit)) (now (marks .exit)) ⌝ }
 {
     let refusal = open_at(bytes, from, clocks, words, records, marks);
     let at = put_line(lines, stand.at, 0, wide(refusal), 0, 0);
@@ -126,10 +129,10 @@ fn open_at(
     records: &mut [u8],
     marks: &mut [u8],
 ) -> u8
-    requires { ⌜ from + 8 ≤ length (now bytes) ⌝ }
-    ensures { λ r. ⌜ OpenedAs (take 8 (drop from (now (bytes .entry)))) (now (clocks .entry)) (now (words .entry)) (now (records .entry)) (now (marks .entry)) r (now (clocks .exit)) (now (words .exit)) (now (records .exit)) (now (marks .exit)) ⌝ }
+    requires { ⌜ from + fileRecordWidth ≤ length (now bytes) ⌝ }
+    ensures { λ r. ⌜ OpenedAs (take fileRecordWidth (drop from (now (bytes .entry)))) (now (clocks .entry)) (now (words .entry)) (now (records .entry)) (now (marks .entry)) r (now (clocks .exit)) (now (words .exit)) (now (records .exit)) (now (marks .exit)) ⌝ }
 {
-    let end = from + 8;
+    let end = from + FILE_RECORD_WIDTH;
     opening::open_mainframe(&bytes[from..end], clocks, words, records, marks)
 }
 
@@ -145,7 +148,7 @@ fn take_step(
     marks: &mut [u8],
 ) -> Stand
     requires { ⌜ StepTakeable stand (now bytes) from (now lines) (now clocks) (now words) (now records) (now marks) ⌝ }
-    ensures { λ r. ⌜ Took (stepTaken (standsAt stand (now (lines .entry)) (areas (now (clocks .entry)) (now (words .entry)) (now (records .entry)) (now (marks .entry)))) (take 8 (drop from (now (bytes .entry))))) stand (now (lines .entry)) r (now (lines .exit)) (now (clocks .exit)) (now (words .exit)) (now (records .exit)) (now (marks .exit)) ⌝ }
+    ensures { λ r. ⌜ Took (stepTaken (standsAt stand (now (lines .entry)) (areas (now (clocks .entry)) (now (words .entry)) (now (records .entry)) (now (marks .entry)))) (take fileRecordWidth (drop from (now (bytes .entry))))) stand (now (lines .entry)) r (now (lines .exit)) (now (clocks .exit)) (now (words .exit)) (now (records .exit)) (now (marks .exit)) ⌝ }
 {
     let outcome = step(stand.ready, bytes, from, clocks, words, records, marks);
     let at = put_outcome(lines, stand.at, stand.number, outcome);
@@ -178,7 +181,7 @@ fn step(
 
 // 16: a whole record follows the 1,000,000th step record.
 fn too_many(stand: Stand, lines: &mut [u8]) -> Stand
-    requires { ⌜ Room (now lines) (stand .at) 44 ⌝ }
+    requires { ⌜ Room (now lines) (stand .at) lineLimit ⌝ }
     ensures { λ r. ⌜ StoppedAt stand (now (lines .entry)) r (now (lines .exit)) ⌝ }
 {
     let at = put_line(lines, stand.at, stand.number, 16, 0, 0);
@@ -192,7 +195,7 @@ fn too_many(stand: Stand, lines: &mut [u8]) -> Stand
 
 // Writes the line of a step from a place on, and says the place behind it.
 fn put_outcome(out: &mut [u8], at: usize, number: u32, outcome: Outcome) -> usize
-    requires { ⌜ Room (now out) at 44 ⌝ }
+    requires { ⌜ Room (now out) at lineLimit ⌝ }
     ensures { λ r. ⌜ LinePut (now (out .entry)) at (outcomeLine number outcome) (now (out .exit)) r ⌝ }
 {
     match outcome {
@@ -212,7 +215,7 @@ fn put_counted(
     value: u32,
     count: u32,
 ) -> usize
-    requires { ⌜ Room (now out) at 44 ⌝ }
+    requires { ⌜ Room (now out) at lineLimit ⌝ }
     requires { ⌜ Counted digits len number ⌝ }
     ensures { λ r. ⌜ LinePut (now (out .entry)) at (lineBytes number refusal value count) (now (out .exit)) r ⌝ }
 {

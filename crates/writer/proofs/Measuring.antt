@@ -8,6 +8,8 @@ use mathlib.Core.List.{List, [], _∷_}
 use lib.ListN.{length, getD, drop, length-append}
 use lib.Dec.{eqb}
 use borrow.Author.Tests.{eq-eqb, ne-eqb}
+use Rattle.limits.specs.Limits.{pageWidth}
+use Rattle.limits.specs.Sizes.{runLimit}
 use Rattle.diff.specs.Format.{setting, difference, ended, runsFrom, runs, setWords}
 use Rattle.writer.specs.Needed.{PagesWhole}
 use Rattle.writer.proofs.Writing.{length-ended, next-word, no-word, wordsLeft, all-words-left, page-end-has-none}
@@ -41,7 +43,7 @@ unfolding runs startsLeft
 all-runs-start old new = runs-start 0 0 (difference old new) ∙ omega arith
 
 module _ (old new : List ℕ) (i : ℕ) (whole : PagesWhole old new) where
-  module _ (this : ℕ) (more : i < 32) (is : this ≡ cond (eqb (getD old i 0) (getD new i 0)) 0 1) where
+  module _ (this : ℕ) (more : i < pageWidth) (is : this ≡ cond (eqb (getD old i 0) (getD new i 0)) 0 1) where
     pub word-starts : (before : ℕ) → startsLeft old new before i ≡ this - before + startsLeft old new this (i + 1)
     unfolding startsLeft startsIn setting
     word-starts before = go (eqb (getD old i 0) (getD new i 0)) refl
@@ -76,7 +78,7 @@ module _ (old new : List ℕ) (i : ℕ) (whole : PagesWhole old new) where
             let here : drop i (difference old new) ≡ some (getD new i 0) ∷ left = next-word old new whole i more ∙ rw e in
             rw (here, one-set) (omega arith)
 
-  pub page-end-starts-none : (before : ℕ) → 32 ≤ i → startsLeft old new before i ≡ 0
+  pub page-end-starts-none : (before : ℕ) → pageWidth ≤ i → startsLeft old new before i ≡ 0
   unfolding startsLeft startsIn
   page-end-starts-none before h = ap (λ (d : List (Option ℕ)). startsIn before d) (no-word old new whole i h)
 
@@ -92,7 +94,7 @@ module _ (old new : ℕ) where
 -- after the first i words of the page, the last of which is set if before is 1: what is counted and what is left are all
 pub record Measuring (old new : List ℕ) (count words before i : ℕ) : Type 0 where
   pub whole : PagesWhole old new
-  pub upto : i ≤ 32
+  pub upto : i ≤ pageWidth
   pub one : before ≤ 1
   pub few-runs : 2 * count ≤ i + before
   pub few-words : words ≤ i
@@ -112,7 +114,7 @@ measuring-begins old new p =
     }
 
 module _ (old new : List ℕ) (count words before i : ℕ) where
-  pub measuring-more : (this r : ℕ) → Measuring old new count words before i → i < 32 → this ≡ cond (eqb (getD old i 0) (getD new i 0)) 0 1 → this ≤ 1
+  pub measuring-more : (this r : ℕ) → Measuring old new count words before i → i < pageWidth → this ≡ cond (eqb (getD old i 0) (getD new i 0)) 0 1 → this ≤ 1
       → r ≡ this - before → Measuring old new (count + r) (words + this) this (i + 1)
   measuring-more this r p more is one starts =
       record {
@@ -125,14 +127,14 @@ module _ (old new : List ℕ) (count words before i : ℕ) where
         all-words = omega (arith, p .all-words, word-counts old new i (p .whole) this more is);
       }
 
-  pub runs-measured : Measuring old new count words before i → 32 ≤ i → count ≡ length (runs (difference old new))
+  pub runs-measured : Measuring old new count words before i → pageWidth ≤ i → count ≡ length (runs (difference old new))
   runs-measured p done = omega (arith, p .all-runs, page-end-starts-none old new i (p .whole) before done)
 
-  pub words-measured : Measuring old new count words before i → 32 ≤ i → words ≡ length (setWords (difference old new))
+  pub words-measured : Measuring old new count words before i → pageWidth ≤ i → words ≡ length (setWords (difference old new))
   words-measured p done = omega (arith, p .all-words, ap length (page-end-has-none old new i (p .whole) done))
 
-  pub runs-few : Measuring old new count words before i → count ≤ 16
+  pub runs-few : Measuring old new count words before i → count ≤ runLimit
   runs-few p = omega (arith, p .few-runs, p .one, p .upto)
 
-  pub words-few : Measuring old new count words before i → words ≤ 32
+  pub words-few : Measuring old new count words before i → words ≤ pageWidth
   words-few p = omega (arith, p .few-words, p .upto)

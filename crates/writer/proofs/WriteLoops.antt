@@ -8,6 +8,8 @@ use lib.ListN.{length, getD, set, drop, length-set, length-append, drop-of-lengt
 use lib.Seq.{sets, length-sets}
 use borrow.Author.Needs.{needs}
 use borrow.Author.Tests.{eq-eqb, ne-eqb, lt-ltb, le-ltb}
+use Rattle.limits.specs.Limits.{pageWidth}
+use Rattle.limits.specs.Sizes.{runLimit}
 use Rattle.diff.specs.Format.{Run, difference, ended, runs, setWords, pairBytes, wordBytes, wordsBytes, bytesOf, written}
 use Rattle.writer.specs.Answers.{writeRefusal, writeAnswer, outAfter}
 use Rattle.writer.specs.Needed.{PagesWhole, RoomForDiff, RoomForRuns, SetAhead, NoneBetween, RoomForPair}
@@ -22,7 +24,7 @@ use Rattle.writer.proofs.Measuring.{words-alike, words-unlike, measurin
 -- no word from the place from up to i is set, and one at i or later is
 pub record Skipping (old new : List ℕ) (from i : ℕ) : Type 0 where
   pub whole : PagesWhole old new
-  pub here : i < 32
+  pub here : i < pageWidth
   pub ahead : 0 < length (setWords (drop i (difference old new)))
   pub none : NoneBetween old new from i
 
@@ -64,8 +66,8 @@ module _ (old new : List ℕ) (from i : ℕ) where
 -- and the words that are left, `left` of them, at `to`
 pub record WritingRuns (old new out₀ out : List ℕ) (from at to offset len left : ℕ) : Type 0 where
   pub whole : PagesWhole old new
-  pub on-page : offset + len + left ≤ 32
-  pub low : to ≤ 33 + 4 * (offset + len)
+  pub on-page : offset + len + left ≤ pageWidth
+  pub low : to ≤ 1 + 2 * runLimit + 4 * (offset + len)
   pub behind : at + 2 * length (runsLeft old new offset len) ≤ to
   pub counted : left ≡ length (wordsLeft old new (offset + len))
   pub room : to + 4 * left ≤ length out
@@ -116,7 +118,7 @@ module _ (old new out₀ out : List ℕ) (from at to offset len left : ℕ) wher
       → getD old (offset + len) 0 ≡ getD new (offset + len) 0 → at′ ≡ at + 2 * min len 1 → out′ ≡ sets out at (pairBytes (ended offset len))
       → WritingRuns old new out₀ out′ from at′ to (offset + len + 1) 0 left
   kept out′ at′ p some e next put =
-      let more : offset + len < 32 = omega (arith, p .on-page) in
+      let more : offset + len < pageWidth = omega (arith, p .on-page) in
       let rest : List Run = runsLeft old new (offset + len + 1) 0 in
       let parts = kept-word-ends-run old new offset len (p .whole) more e in
       let place : at + length (pairBytes (ended offset len)) ≡ at′ = omega (arith, next, length-pair-bytes (ended offset len), length-ended offset len) in
@@ -143,7 +145,7 @@ module _ (old new out₀ out : List ℕ) (from at to offset len left : ℕ) wher
       → SetAhead old new (offset + len + 1)
   unfolding wordsLeft
   set-ahead p some e =
-      let more : offset + len < 32 = omega (arith, p .on-page) in
+      let more : offset + len < pageWidth = omega (arith, p .on-page) in
       record { whole = p .whole; ahead = omega (arith, p .counted, ap length (kept-word-sets-none old new (offset + len) (p .whole) more e)) }
 
   pub runs-kept : (out′ : List ℕ) (at′ offset′ : ℕ) → WritingRuns old new out₀ out from at to offset len left → 0 < left
@@ -159,7 +161,7 @@ module _ (old new out₀ out : List ℕ) (from at to offset len left : ℕ) wher
       → WritingRuns old new out₀ out′ from at (to + 4) offset (len + 1) (left - 1)
   unfolding wordsBytes wordBytes
   runs-set out′ p some e put =
-      let more : offset + len < 32 = omega (arith, p .on-page) in
+      let more : offset + len < pageWidth = omega (arith, p .on-page) in
       let word : ℕ = getD new (offset + len) 0 in
       let pairs : List ℕ = pairBytes (runsLeft old new offset (len + 1)) in
       let rest : List ℕ = wordsBytes (wordsLeft old new (offset + (len + 1))) in
@@ -231,47 +233,47 @@ module _ (old new out : List ℕ) (count words : ℕ) where
 -- ---- the refusals of `write`
 
 module _ (old new out : List ℕ) where
-  pub old-length-refused : (length old ≡ 32 → ⊥) → Refused 14 ≡ writeAnswer 32 old new out
+  pub old-length-refused : (length old ≡ pageWidth → ⊥) → Refused 14 ≡ writeAnswer pageWidth old new out
   unfolding writeAnswer writeRefusal
   old-length-refused h = rw (ne-eqb _ _ h)
 
-  pub old-length-untouched : (length old ≡ 32 → ⊥) → out ≡ outAfter 32 old new out
+  pub old-length-untouched : (length old ≡ pageWidth → ⊥) → out ≡ outAfter pageWidth old new out
   unfolding outAfter writeRefusal
   old-length-untouched h = rw (ne-eqb _ _ h)
 
-  module _ (old-whole : length old ≡ 32) where
-    pub new-length-refused : (length new ≡ 32 → ⊥) → Refused 14 ≡ writeAnswer 32 old new out
+  module _ (old-whole : length old ≡ pageWidth) where
+    pub new-length-refused : (length new ≡ pageWidth → ⊥) → Refused 14 ≡ writeAnswer pageWidth old new out
     unfolding writeAnswer writeRefusal
     new-length-refused h = rw (eq-eqb _ _ old-whole, ne-eqb _ _ h)
 
-    pub new-length-untouched : (length new ≡ 32 → ⊥) → out ≡ outAfter 32 old new out
+    pub new-length-untouched : (length new ≡ pageWidth → ⊥) → out ≡ outAfter pageWidth old new out
     unfolding outAfter writeRefusal
     new-length-untouched h = rw (eq-eqb _ _ old-whole, ne-eqb _ _ h)
 
-    pub pages-whole : length new ≡ 32 → PagesWhole old new
+    pub pages-whole : length new ≡ pageWidth → PagesWhole old new
     pages-whole h = record { old-whole = old-whole; new-whole = h }
 
-    module _ (new-whole : length new ≡ 32) (count words : ℕ) (counted : count ≡ length (runs (difference old new))) (worded : words ≡ length (setWords (difference old new))) where
+    module _ (new-whole : length new ≡ pageWidth) (count words : ℕ) (counted : count ≡ length (runs (difference old new))) (worded : words ≡ length (setWords (difference old new))) where
       long : length (written old new) ≡ 1 + 2 * count + 4 * words
       unfolding written
       long = length-bytes (difference old new) ∙ rw (counted, worded)
 
-      pub out-too-short : length out < 1 + 2 * count + 4 * words → Refused 13 ≡ writeAnswer 32 old new out
+      pub out-too-short : length out < 1 + 2 * count + 4 * words → Refused 13 ≡ writeAnswer pageWidth old new out
       unfolding writeAnswer writeRefusal
       out-too-short h = rw (eq-eqb _ _ old-whole, eq-eqb _ _ new-whole, long, lt-ltb _ _ h)
 
-      pub out-untouched : length out < 1 + 2 * count + 4 * words → out ≡ outAfter 32 old new out
+      pub out-untouched : length out < 1 + 2 * count + 4 * words → out ≡ outAfter pageWidth old new out
       unfolding outAfter writeRefusal
       out-untouched h = rw (eq-eqb _ _ old-whole, eq-eqb _ _ new-whole, long, lt-ltb _ _ h)
 
-      pub room-for-diff : count ≤ 16 → 1 + 2 * count + 4 * words ≤ length out → RoomForDiff old new out count words
+      pub room-for-diff : count ≤ runLimit → 1 + 2 * count + 4 * words ≤ length out → RoomForDiff old new out count words
       room-for-diff f h = record { whole = pages-whole new-whole; counted = counted; worded = worded; few = f; room = h }
 
-      pub length-answered : 1 + 2 * count + 4 * words ≤ length out → Length (1 + 2 * count + 4 * words) ≡ writeAnswer 32 old new out
+      pub length-answered : 1 + 2 * count + 4 * words ≤ length out → Length (1 + 2 * count + 4 * words) ≡ writeAnswer pageWidth old new out
       unfolding writeAnswer writeRefusal
       length-answered h = rw (eq-eqb _ _ old-whole, eq-eqb _ _ new-whole, long, le-ltb _ _ h)
 
-      pub diff-left : (out′ : List ℕ) → 1 + 2 * count + 4 * words ≤ length out → out′ ≡ sets out 0 (written old new) → out′ ≡ outAfter 32 old new out
+      pub diff-left : (out′ : List ℕ) → 1 + 2 * count + 4 * words ≤ length out → out′ ≡ sets out 0 (written old new) → out′ ≡ outAfter pageWidth old new out
       unfolding outAfter writeRefusal
       diff-left out′ h e = e ∙ rw (eq-eqb _ _ old-whole, eq-eqb _ _ new-whole, long, le-ltb _ _ h)
 

@@ -10,6 +10,7 @@ use mathlib.Core.List.{List, [], _∷_, _++_, append-nil}
 use lib.ListN.{length, getD, set, drop, length-set, length-append, length-drop, drop-of-length-le}
 use lib.Seq.{sets, set-comm}
 use borrow.Author.Tests.{eq-eqb, ne-eqb}
+use Rattle.limits.specs.Limits.{pageWidth}
 use Rattle.diff.specs.Format.{Run, setting, difference, ended, runsFrom, runs, setWords, pairBytes, wordBytes}
 use Rattle.writer.specs.Needed.{PagesWhole, NoneBetween, RoomForPair}
 use Rattle.diff.proofs.Theorems.{length-difference}
@@ -106,20 +107,20 @@ difference-at (x ∷ old) (y ∷ new) zero h k = refl
 difference-at (x ∷ old) (y ∷ new) (suc i) h k = difference-at old new i (omega arith) (omega arith)
 
 module _ (old new : List ℕ) (whole : PagesWhole old new) (i : ℕ) where
-  pub next-word : i < 32 → drop i (difference old new) ≡ setting (getD old i 0) (getD new i 0) ∷ drop (i + 1) (difference old new)
+  pub next-word : i < pageWidth → drop i (difference old new) ≡ setting (getD old i 0) (getD new i 0) ∷ drop (i + 1) (difference old new)
   next-word h =
       difference-at old new i (omega (arith, whole .old-whole)) (omega (arith, whole .new-whole))
       ∙ ap (λ (n : ℕ). setting (getD old i 0) (getD new i 0) ∷ drop n (difference old new)) (sym (add-one i))
 
-  kept-word : i < 32 → getD old i 0 ≡ getD new i 0 → drop i (difference old new) ≡ none ∷ drop (i + 1) (difference old new)
+  kept-word : i < pageWidth → getD old i 0 ≡ getD new i 0 → drop i (difference old new) ≡ none ∷ drop (i + 1) (difference old new)
   unfolding setting
   kept-word h e = next-word h ∙ rw (eq-eqb _ _ e)
 
-  set-word : i < 32 → (getD old i 0 ≡ getD new i 0 → ⊥) → drop i (difference old new) ≡ some (getD new i 0) ∷ drop (i + 1) (difference old new)
+  set-word : i < pageWidth → (getD old i 0 ≡ getD new i 0 → ⊥) → drop i (difference old new) ≡ some (getD new i 0) ∷ drop (i + 1) (difference old new)
   unfolding setting
   set-word h e = next-word h ∙ rw (ne-eqb _ _ e)
 
-  pub no-word : 32 ≤ i → drop i (difference old new) ≡ []
+  pub no-word : pageWidth ≤ i → drop i (difference old new) ≡ []
   no-word h =
       drop-of-length-le (difference old new) {i = i}
       (omega (arith, length-difference old new (whole .old-whole ∙ sym (whole .new-whole)), whole .old-whole))
@@ -135,14 +136,14 @@ unfolding runs runsLeft
 all-runs-left old new = refl
 
 module _ (old new : List ℕ) (offset len : ℕ) (whole : PagesWhole old new) where
-  pub kept-word-ends-run : offset + len < 32 → getD old (offset + len) 0 ≡ getD new (offset + len) 0
+  pub kept-word-ends-run : offset + len < pageWidth → getD old (offset + len) 0 ≡ getD new (offset + len) 0
       → runsLeft old new offset len ≡ ended offset len ++ runsLeft old new (offset + len + 1) 0
   unfolding runsLeft runsFrom
   kept-word-ends-run h e =
       ap (λ (d : List (Option ℕ)). runsFrom offset len d) (kept-word old new whole (offset + len) h e)
       ∙ ap (λ (n : ℕ). ended offset len ++ runsFrom (offset + len + 1) 0 (drop n (difference old new))) (sym (add-zero (offset + len + 1)))
 
-  pub set-word-lengthens-run : offset + len < 32 → (getD old (offset + len) 0 ≡ getD new (offset + len) 0 → ⊥)
+  pub set-word-lengthens-run : offset + len < pageWidth → (getD old (offset + len) 0 ≡ getD new (offset + len) 0 → ⊥)
       → runsLeft old new offset len ≡ runsLeft old new offset (len + 1)
   unfolding runsLeft runsFrom
   set-word-lengthens-run h e =
@@ -161,15 +162,15 @@ unfolding wordsLeft
 all-words-left old new = refl
 
 module _ (old new : List ℕ) (i : ℕ) (whole : PagesWhole old new) where
-  pub kept-word-adds-none : i < 32 → getD old i 0 ≡ getD new i 0 → wordsLeft old new i ≡ wordsLeft old new (i + 1)
+  pub kept-word-adds-none : i < pageWidth → getD old i 0 ≡ getD new i 0 → wordsLeft old new i ≡ wordsLeft old new (i + 1)
   unfolding wordsLeft setWords
   kept-word-adds-none h e = ap setWords (kept-word old new whole i h e)
 
-  pub set-word-is-next : i < 32 → (getD old i 0 ≡ getD new i 0 → ⊥) → wordsLeft old new i ≡ getD new i 0 ∷ wordsLeft old new (i + 1)
+  pub set-word-is-next : i < pageWidth → (getD old i 0 ≡ getD new i 0 → ⊥) → wordsLeft old new i ≡ getD new i 0 ∷ wordsLeft old new (i + 1)
   unfolding wordsLeft setWords
   set-word-is-next h e = ap setWords (set-word old new whole i h e)
 
-  pub page-end-has-none : 32 ≤ i → wordsLeft old new i ≡ []
+  pub page-end-has-none : pageWidth ≤ i → wordsLeft old new i ≡ []
   unfolding wordsLeft setWords
   page-end-has-none h = ap setWords (no-word old new whole i h)
 
@@ -180,20 +181,20 @@ set-words-fit [] = omega arith
 set-words-fit (none ∷ d) = omega (arith, set-words-fit d)
 set-words-fit (some v ∷ d) = omega (arith, set-words-fit d)
 
-pub words-left-fit : (old new : List ℕ) (i : ℕ) → PagesWhole old new → i ≤ 32 → i + length (wordsLeft old new i) ≤ 32
+pub words-left-fit : (old new : List ℕ) (i : ℕ) → PagesWhole old new → i ≤ pageWidth → i + length (wordsLeft old new i) ≤ pageWidth
 unfolding wordsLeft
 words-left-fit old new i whole h =
     let d = difference old new in
     omega (arith, set-words-fit (drop i d), length-drop i d, length-difference old new (whole .old-whole ∙ sym (whole .new-whole)), whole .old-whole)
 
 -- where a word is left, the page goes on
-pub word-left-on-page : (old new : List ℕ) (i : ℕ) → PagesWhole old new → 0 < length (setWords (drop i (difference old new))) → i < 32
+pub word-left-on-page : (old new : List ℕ) (i : ℕ) → PagesWhole old new → 0 < length (setWords (drop i (difference old new))) → i < pageWidth
 word-left-on-page old new i whole h =
     let d = difference old new in
     omega (arith, h, set-words-fit (drop i d), length-drop i d, length-difference old new (whole .old-whole ∙ sym (whole .new-whole)), whole .old-whole)
 
 -- a word that is kept and has no run before it changes nothing of what is left
-module _ (old new : List ℕ) (i : ℕ) (whole : PagesWhole old new) (h : i < 32) (e : getD old i 0 ≡ getD new i 0) where
+module _ (old new : List ℕ) (i : ℕ) (whole : PagesWhole old new) (h : i < pageWidth) (e : getD old i 0 ≡ getD new i 0) where
   pub kept-word-starts-none : runsFrom i 0 (drop i (difference old new)) ≡ runsFrom (i + 1) 0 (drop (i + 1) (difference old new))
   unfolding runsFrom ended
   kept-word-starts-none =

@@ -6,9 +6,12 @@ ghost use Prim.Native.Nat.{_+_, _-_, _*_, _≤_, min};
 ghost use lib.ListN.{length};
 ghost use lib.Seq.{sets};
 ghost use lib.Dec.{eqb};
+ghost use Rattle.limits.specs.Limits.{pageWidth};
+ghost use Rattle.limits.specs.Sizes.{runLimit};
 ghost use Rattle.diff.specs.Format.{difference, ended, runs, setWords, pairBytes, wordBytes, wordsBytes, written};
 ghost use Rattle.writer.specs.Answers.{writeAnswer, outAfter};
 ghost use Rattle.writer.specs.Needed.{PagesWhole, RoomForDiff, RoomForRuns, SetAhead, NoneBetween, RoomForPair};
+use limits::PAGE_WIDTH;
 
 // What writing a diff answers: how many bytes it has, or the number of a refusal.
 pub enum Written {
@@ -18,13 +21,13 @@ pub enum Written {
 
 // Writes what turns the page `old` into the page `new` as a diff at the start of `out`.
 pub fn write(old: &[u32], new: &[u32], out: &mut [u8]) -> Written
-    ensures answer { λ r. ⌜ r ≡ writeAnswer 32 (now (old .entry)) (now (new .entry)) (now (out .entry)) ⌝ }
-    ensures memory { λ r. ⌜ now (out .exit) ≡ outAfter 32 (now (old .entry)) (now (new .entry)) (now (out .entry)) ⌝ }
+    ensures answer { λ r. ⌜ r ≡ writeAnswer pageWidth (now (old .entry)) (now (new .entry)) (now (out .entry)) ⌝ }
+    ensures memory { λ r. ⌜ now (out .exit) ≡ outAfter pageWidth (now (old .entry)) (now (new .entry)) (now (out .entry)) ⌝ }
 {
-    if old.len() != 32 {
+    if old.len() != PAGE_WIDTH {
         return Written::Refused(14);
     }
-    if new.len() != 32 {
+    if new.len() != PAGE_WIDTH {
         return Written::Refused(14);
     }
     let size = measure(old, new);
@@ -47,13 +50,13 @@ fn measure(old: &[u32], new: &[u32]) -> Size
     requires { ⌜ PagesWhole (now old) (now new) ⌝ }
     ensures { λ r. ⌜ r .runs ≡ length (runs (difference (now (old .entry)) (now (new .entry)))) ⌝ }
     ensures { λ r. ⌜ r .words ≡ length (setWords (difference (now (old .entry)) (now (new .entry)))) ⌝ }
-    ensures { λ r. ⌜ (r .runs ≤ 16) × (r .words ≤ 32) ⌝ }
+    ensures { λ r. ⌜ (r .runs ≤ runLimit) × (r .words ≤ pageWidth) ⌝ }
 {
     let mut runs: u32 = 0;
     let mut words: u32 = 0;
     let mut before: u32 = 0;
     let mut i: usize = 0;
-    while i < 32 {
+    while i < PAGE_WIDTH {
         let this = unlike(old[i], new[i]);
         runs = runs + starts(before, this);
         words = words + this;

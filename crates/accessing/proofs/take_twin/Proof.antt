@@ -6,4 +6,4 @@ use Rattle.accessing.proofs.take_twin.Tie as tie
 pub take-twin-spec : {M : Type 1} → statement M
 take-twin-spec =
     tie.close
-    (tie.spec (λ c κs. search store-laws) (λ c. search store-laws) (λ c. search store-laws) (λ c κs. search store-laws) (λ c κs. search store-laws) (λ c κs. search store-laws) (λ c. search store-laws) (λ c. search store-laws) (λ c. search store-laws) (λ c. search store-laws))
+    (tie.spec (λ c κs. search store-laws) (λ c. search store-laws) (λ c. search store-laws) (λ c κs. search store-laws) (λ c κs. search store-laws) (λ c κs. search store-laws) (λ c κs. search store-laws) (λ c. search store-laws) (λ c. search store-laws) (λ c. search store-laws))

@@ -13,4 +13,4 @@ abbrev μ-loop : tie.MeasureT-loop
 pub all-arrived-spec : {M : Type 1} → statement M
 all-arrived-spec =
     tie.close
-    (tie.spec Inv-loop μ-loop (λ c. search round-laws) (λ c κs. search round-laws) (λ c. search round-laws) (λ c. search round-laws) (λ c. search round-laws) (λ c κs. search round-laws) (λ c. search round-laws) (λ c. search round-laws) (λ c. search round-laws) (λ c. search round-laws))
+    (tie.spec Inv-loop μ-loop (λ c κs. search round-laws) (λ c. search round-laws) (λ c. search round-laws) (λ c κs. search round-laws) (λ c κs. search round-laws) (λ c. search round-laws) (λ c. search round-laws) (λ c. search round-laws) (λ c. search round-laws))

@@ -6,4 +6,4 @@ use Rattle.barrier.proofs.at_barrier.Tie as tie
 pub at-barrier-spec : {M : Type 1} → statement M
 at-barrier-spec =
     tie.close
-    (tie.spec (λ c κs. search act-laws) (λ c κs. search act-laws) (λ c. search act-laws) (λ c. search act-laws) (λ c. search act-laws) (λ c. search act-laws) (λ c. search act-laws) (λ c. search act-laws))
+    (tie.spec (λ c κs. search act-laws) (λ c κs. search act-laws) (λ c κs. search act-laws) (λ c. search act-laws) (λ c. search act-laws) (λ c. search act-laws) (λ c. search act-laws))

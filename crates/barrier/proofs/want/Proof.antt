@@ -6,4 +6,4 @@ use Rattle.barrier.proofs.want.Tie as tie
 pub want-spec : {M : Type 1} → statement M
 want-spec =
     tie.close
-    (tie.spec (λ c. search round-laws) (λ c. search round-laws) (λ c. search round-laws) (λ c. search round-laws) (λ c. search round-laws))
+    (tie.spec (λ c κs. search round-laws) (λ c. search round-laws) (λ c. search round-laws) (λ c κs. search round-laws) (λ c. search round-laws) (λ c. search round-laws))

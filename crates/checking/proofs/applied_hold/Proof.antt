@@ -2,6 +2,8 @@
 use Prim.Native.Nat.{_-_, _≤_}
 use mathlib.Core.Path.{_≡_}
 use lib.ListN.{length}
+use Rattle.limits.specs.Limits.{pageLimit, processorLimit}
+use Rattle.limits.specs.Sizes.{clockArea}
 use Rattle.marktests.proofs.Passing.{Passed}
 use Rattle.checking.specs.Tests.{appliedHold}
 use Rattle.checking.proofs.ClockTests.{clocks-checked}
@@ -9,10 +11,10 @@ use Rattle.checking.proofs.applied_hold.Statement.{statement}
 use Rattle.checking.proofs.applied_hold.Tie as tie
 
 abbrev Inv-loop : tie.InvT-loop
-Inv-loop clocks processors pages k₀ k = (Passed 8 (appliedHold clocks processors pages) k) × (length clocks ≡ 4744) × (pages ≤ 8)
+Inv-loop clocks processors pages k₀ k = (Passed processorLimit (appliedHold clocks processors pages) k) × (length clocks ≡ clockArea) × (pages ≤ pageLimit)
 
 abbrev μ-loop : tie.MeasureT-loop
-μ-loop clocks processors pages k₀ k = 8 - k
+μ-loop clocks processors pages k₀ k = processorLimit - k
 
 pub applied-hold-spec : {M : Type 1} → statement M
 applied-hold-spec =

@@ -2,6 +2,8 @@
 use Prim.Native.Nat.{_-_, _≤_}
 use mathlib.Core.Path.{_≡_}
 use lib.ListN.{length}
+use Rattle.limits.specs.Limits.{pageLimit, processorLimit}
+use Rattle.limits.specs.Sizes.{wordArea}
 use Rattle.marktests.proofs.Passing.{Passed}
 use Rattle.checking.specs.Tests.{copiesHold}
 use Rattle.checking.proofs.WordTests.{words-checked}
@@ -9,10 +11,10 @@ use Rattle.checking.proofs.copies_hold.Statement.{statement}
 use Rattle.checking.proofs.copies_hold.Tie as tie
 
 abbrev Inv-loop : tie.InvT-loop
-Inv-loop words processors pages k₀ k = (Passed 8 (copiesHold words processors pages) k) × (length words ≡ 4096) × (pages ≤ 8)
+Inv-loop words processors pages k₀ k = (Passed processorLimit (copiesHold words processors pages) k) × (length words ≡ wordArea) × (pages ≤ pageLimit)
 
 abbrev μ-loop : tie.MeasureT-loop
-μ-loop words processors pages k₀ k = 8 - k
+μ-loop words processors pages k₀ k = processorLimit - k
 
 pub copies-hold-spec : {M : Type 1} → statement M
 copies-hold-spec =

@@ -2,6 +2,8 @@
 use Prim.Native.Nat.{_-_}
 use mathlib.Core.Path.{_≡_}
 use lib.ListN.{length}
+use Rattle.limits.specs.Limits.{processorLimit}
+use Rattle.limits.specs.Sizes.{clockArea}
 use Rattle.rules.specs.State.{own}
 use Rattle.marktests.proofs.Passing.{Passed}
 use Rattle.recordtests.specs.Needed.{OwnFit}
@@ -11,10 +13,10 @@ use Rattle.checking.proofs.intervals_hold.Statement.{statement}
 use Rattle.checking.proofs.intervals_hold.Tie as tie
 
 abbrev Inv-loop : tie.InvT-loop
-Inv-loop clocks own k₀ k = (Passed 8 (intervalsHold own clocks) k) × (length clocks ≡ 4744) × (OwnFit own)
+Inv-loop clocks own k₀ k = (Passed processorLimit (intervalsHold own clocks) k) × (length clocks ≡ clockArea) × (OwnFit own)
 
 abbrev μ-loop : tie.MeasureT-loop
-μ-loop clocks own k₀ k = 8 - k
+μ-loop clocks own k₀ k = processorLimit - k
 
 pub intervals-hold-spec : {M : Type 1} → statement M
 intervals-hold-spec =

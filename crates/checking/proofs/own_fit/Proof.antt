@@ -2,6 +2,8 @@
 use Prim.Native.Nat.{_-_}
 use mathlib.Core.Path.{_≡_}
 use lib.ListN.{length}
+use Rattle.limits.specs.Limits.{processorLimit}
+use Rattle.limits.specs.Sizes.{clockWidth}
 use Rattle.rules.specs.State.{own}
 use Rattle.marktests.proofs.Passing.{Passed}
 use Rattle.recordtests.specs.Tests.{ownFits}
@@ -10,10 +12,10 @@ use Rattle.checking.proofs.own_fit.Statement.{statement}
 use Rattle.checking.proofs.own_fit.Tie as tie
 
 abbrev Inv-loop : tie.InvT-loop
-Inv-loop own k₀ k = (Passed 8 (ownFits own) k) × (length own ≡ 8)
+Inv-loop own k₀ k = (Passed processorLimit (ownFits own) k) × (length own ≡ clockWidth)
 
 abbrev μ-loop : tie.MeasureT-loop
-μ-loop own k₀ k = 8 - k
+μ-loop own k₀ k = processorLimit - k
 
 pub own-fit-spec : {M : Type 1} → statement M
 own-fit-spec =

@@ -2,6 +2,8 @@
 use Prim.Native.Nat.{_-_}
 use mathlib.Core.Path.{_≡_}
 use lib.ListN.{length}
+use Rattle.limits.specs.Limits.{processorLimit}
+use Rattle.limits.specs.Sizes.{clockWidth}
 use Rattle.marktests.specs.Needed.{PlacesThere}
 use Rattle.marktests.proofs.Passing.{Kept}
 use Rattle.checking.specs.Tests.{entryWithin}
@@ -10,10 +12,10 @@ use Rattle.checking.proofs.row_within.Statement.{statement}
 use Rattle.checking.proofs.row_within.Tie as tie
 
 abbrev Inv-loop : tie.InvT-loop
-Inv-loop clocks at most all₀ i₀ all i = (Kept 8 (entryWithin most clocks at) i all) × (PlacesThere clocks at 8) × (length most ≡ 8)
+Inv-loop clocks at most all₀ i₀ all i = (Kept processorLimit (entryWithin most clocks at) i all) × (PlacesThere clocks at clockWidth) × (length most ≡ clockWidth)
 
 abbrev μ-loop : tie.MeasureT-loop
-μ-loop clocks at most all₀ i₀ all i = 8 - i
+μ-loop clocks at most all₀ i₀ all i = clockWidth - i
 
 pub row-within-spec : {M : Type 1} → statement M
 row-within-spec =

@@ -1,5 +1,6 @@
 -- `rows_within` meets its contract: the first i rows do not exceed the other clock. Assumes nothing.
 use Prim.Native.Nat.{_-_, _*_}
+use Rattle.limits.specs.Sizes.{clockWidth}
 use Rattle.marktests.specs.Needed.{PlacesThere}
 use Rattle.marktests.proofs.Passing.{Passed}
 use Rattle.checking.specs.Tests.{rowWithin}
@@ -8,7 +9,7 @@ use Rattle.checking.proofs.rows_within.Statement.{statement}
 use Rattle.checking.proofs.rows_within.Tie as tie
 
 abbrev Inv-loop : tie.InvT-loop
-Inv-loop clocks most first n i₀ i = (Passed n (rowWithin most clocks first) i) × (PlacesThere clocks (8 * first) (8 * n))
+Inv-loop clocks most first n i₀ i = (Passed n (rowWithin most clocks first) i) × (PlacesThere clocks (clockWidth * first) (clockWidth * n))
 
 abbrev μ-loop : tie.MeasureT-loop
 μ-loop clocks most first n i₀ i = n - i

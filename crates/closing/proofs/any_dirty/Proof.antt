@@ -1,5 +1,6 @@
 -- `any_dirty` meets its contract: one mark after the other. Assumes nothing.
 use Prim.Native.Nat.{_-_}
+use Rattle.limits.specs.Limits.{pageLimit}
 use Rattle.closing.proofs.NothingDirty.{LookedAt, dirty-laws}
 use Rattle.closing.proofs.any_dirty.Statement.{statement}
 use Rattle.closing.proofs.any_dirty.Tie as tie
@@ -8,7 +9,7 @@ abbrev Inv-loop : tie.InvT-loop
 Inv-loop marks from found₀ i₀ found i = LookedAt marks from found i
 
 abbrev μ-loop : tie.MeasureT-loop
-μ-loop marks from found₀ i₀ found i = 8 - i
+μ-loop marks from found₀ i₀ found i = pageLimit - i
 
 pub any-dirty-spec : {M : Type 1} → statement M
 any-dirty-spec =

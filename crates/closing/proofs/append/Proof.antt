@@ -6,4 +6,4 @@ use Rattle.closing.proofs.append.Tie as tie
 pub append-spec : {M : Type 1} → statement M
 append-spec =
     tie.close
-    (tie.spec (λ c κs. search append-laws) (λ c κs. search append-laws) (λ c. search append-laws) (λ c. search append-laws) (λ c κs. search append-laws) (λ c κs. search append-laws) (λ c. search append-laws) (λ c. search append-laws) (λ c. search append-laws) (λ c. search append-laws) (λ c. search append-laws))
+    (tie.spec (λ c κs. search append-laws) (λ c κs. search append-laws) (λ c. search append-laws) (λ c κs. search append-laws) (λ c κs. search append-laws) (λ c. search append-laws) (λ c κs. search append-laws) (λ c. search append-laws) (λ c. search append-laws) (λ c. search append-laws))

@@ -13,4 +13,4 @@ abbrev μ-loop : tie.MeasureT-loop
 pub record-pages-spec : {M : Type 1} → statement M
 record-pages-spec =
     tie.close
-    (tie.spec Inv-loop μ-loop (λ c. search all-pages-laws) (λ c κs. search all-pages-laws) (λ c. search all-pages-laws) (λ c κs. search all-pages-laws) (λ c. search all-pages-laws) (λ c. search all-pages-laws) (λ c. search all-pages-laws) (λ c. search all-pages-laws) (λ c. search all-pages-laws) (λ c. search all-pages-laws) (λ c. search all-pages-laws) (λ c. search all-pages-laws) (λ c. search all-pages-laws))
+    (tie.spec Inv-loop μ-loop (λ c κs. search all-pages-laws) (λ c. search all-pages-laws) (λ c κs. search all-pages-laws) (λ c. search all-pages-laws) (λ c. search all-pages-laws) (λ c. search all-pages-laws) (λ c. search all-pages-laws) (λ c. search all-pages-laws) (λ c. search all-pages-laws) (λ c. search all-pages-laws) (λ c. search all-pages-laws) (λ c. search all-pages-laws))

@@ -6,4 +6,4 @@ use Rattle.collecting.proofs.rank_standing.Tie as tie
 pub rank-standing-spec : {M : Type 1} → statement M
 rank-standing-spec =
     tie.close
-    (tie.spec (λ c. search ranks-laws) (λ c κs. search ranks-laws) (λ c κs. search ranks-laws) (λ c. search ranks-laws) (λ c. search ranks-laws))
+    (tie.spec (λ c κs. search ranks-laws) (λ c κs. search ranks-laws) (λ c. search ranks-laws) (λ c. search ranks-laws))

@@ -13,4 +13,4 @@ abbrev μ-loop : tie.MeasureT-loop
 pub spread-pages-spec : {M : Type 1} → statement M
 spread-pages-spec =
     tie.close
-    (tie.spec Inv-loop μ-loop (λ c. search fetches-laws) (λ c κs. search fetches-laws) (λ c. search fetches-laws) (λ c κs. search fetches-laws) (λ c. search fetches-laws) (λ c κs. search fetches-laws) (λ c. search fetches-laws) (λ c. search fetches-laws) (λ c. search fetches-laws) (λ c. search fetches-laws) (λ c. search fetches-laws) (λ c. search fetches-laws))
+    (tie.spec Inv-loop μ-loop (λ c κs. search fetches-laws) (λ c κs. search fetches-laws) (λ c. search fetches-laws) (λ c κs. search fetches-laws) (λ c. search fetches-laws) (λ c. search fetches-laws) (λ c. search fetches-laws) (λ c. search fetches-laws) (λ c. search fetches-laws) (λ c. search fetches-laws))

@@ -2,6 +2,8 @@
 use Prim.Native.Nat.{_-_, _≤_}
 use mathlib.Core.Path.{_≡_}
 use lib.ListN.{length}
+use Rattle.limits.specs.Limits.{pageLimit, processorLimit}
+use Rattle.limits.specs.Sizes.{markArea}
 use Rattle.marktests.specs.Tests.{dirtyHold}
 use Rattle.marktests.proofs.Passing.{Passed}
 use Rattle.marktests.proofs.MarkTests.{marks-checked}
@@ -9,10 +11,10 @@ use Rattle.marktests.proofs.dirty_hold.Statement.{statement}
 use Rattle.marktests.proofs.dirty_hold.Tie as tie
 
 abbrev Inv-loop : tie.InvT-loop
-Inv-loop marks own processors pages k₀ k = (Passed 8 (dirtyHold own marks processors pages) k) × (length marks ≡ 93) × (pages ≤ 8)
+Inv-loop marks own processors pages k₀ k = (Passed processorLimit (dirtyHold own marks processors pages) k) × (length marks ≡ markArea) × (pages ≤ pageLimit)
 
 abbrev μ-loop : tie.MeasureT-loop
-μ-loop marks own processors pages k₀ k = 8 - k
+μ-loop marks own processors pages k₀ k = processorLimit - k
 
 pub dirty-hold-spec : {M : Type 1} → statement M
 dirty-hold-spec =

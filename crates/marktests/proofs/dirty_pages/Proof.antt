@@ -2,12 +2,14 @@
 use Prim.Native.Nat.{_-_, _≤_}
 use mathlib.Core.Path.{_≡_}
 use lib.ListN.{length}
+use Rattle.limits.specs.Limits.{pageLimit, processorLimit}
+use Rattle.limits.specs.Sizes.{markArea}
 use Rattle.marktests.proofs.MarkTests.{Summed, marks-checked}
 use Rattle.marktests.proofs.dirty_pages.Statement.{statement}
 use Rattle.marktests.proofs.dirty_pages.Tie as tie
 
 abbrev Inv-loop : tie.InvT-loop
-Inv-loop marks processors pages n₀ k₀ n k = (Summed marks processors pages k n) × (length marks ≡ 93) × (processors ≤ 8) × (pages ≤ 8)
+Inv-loop marks processors pages n₀ k₀ n k = (Summed marks processors pages k n) × (length marks ≡ markArea) × (processors ≤ processorLimit) × (pages ≤ pageLimit)
 
 abbrev μ-loop : tie.MeasureT-loop
 μ-loop marks processors pages n₀ k₀ n k = processors - k

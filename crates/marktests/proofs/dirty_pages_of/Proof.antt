@@ -1,13 +1,15 @@
 -- `dirty_pages_of` meets its contract: n of the first g pages are dirty. Assumes nothing.
 use Prim.Native.Nat.{_+_, _-_, _*_}
 use mathlib.Core.Path.{_≡_}
+use Rattle.limits.specs.Limits.{pageLimit}
+use Rattle.limits.specs.Sizes.{firstDirty}
 use Rattle.marktests.specs.Needed.{MarksOne}
 use Rattle.marktests.proofs.MarkTests.{Counted, marks-checked}
 use Rattle.marktests.proofs.dirty_pages_of.Statement.{statement}
 use Rattle.marktests.proofs.dirty_pages_of.Tie as tie
 
 abbrev Inv-loop : tie.InvT-loop
-Inv-loop marks pages k at n₀ g₀ n g = (Counted marks at pages g n) × (MarksOne marks pages k) × (at ≡ 29 + 8 * k)
+Inv-loop marks pages k at n₀ g₀ n g = (Counted marks at pages g n) × (MarksOne marks pages k) × (at ≡ firstDirty + pageLimit * k)
 
 abbrev μ-loop : tie.MeasureT-loop
 μ-loop marks pages k at n₀ g₀ n g = pages - g

@@ -2,6 +2,8 @@
 use Prim.Native.Nat.{_-_, _≤_}
 use mathlib.Core.Path.{_≡_}
 use lib.ListN.{length}
+use Rattle.limits.specs.Limits.{lockLimit}
+use Rattle.limits.specs.Sizes.{markArea}
 use Rattle.marktests.specs.Tests.{holderWithin}
 use Rattle.marktests.proofs.Passing.{Passed}
 use Rattle.marktests.proofs.MarkTests.{marks-checked}
@@ -9,7 +11,7 @@ use Rattle.marktests.proofs.holders_within.Statement.{statement}
 use Rattle.marktests.proofs.holders_within.Tie as tie
 
 abbrev Inv-loop : tie.InvT-loop
-Inv-loop marks processors locks l₀ l = (Passed locks (holderWithin marks processors) l) × (length marks ≡ 93) × (locks ≤ 16)
+Inv-loop marks processors locks l₀ l = (Passed locks (holderWithin marks processors) l) × (length marks ≡ markArea) × (locks ≤ lockLimit)
 
 abbrev μ-loop : tie.MeasureT-loop
 μ-loop marks processors locks l₀ l = locks - l

@@ -2,12 +2,14 @@
 use Prim.Native.Nat.{_-_, _≤_}
 use mathlib.Core.Path.{_≡_}
 use lib.ListN.{length}
+use Rattle.limits.specs.Limits.{processorLimit}
+use Rattle.limits.specs.Sizes.{markArea}
 use Rattle.marktests.proofs.MarkTests.{AllArrived, marks-checked}
 use Rattle.marktests.proofs.someone_missing.Statement.{statement}
 use Rattle.marktests.proofs.someone_missing.Tie as tie
 
 abbrev Inv-loop : tie.InvT-loop
-Inv-loop marks processors k₀ k = (AllArrived marks processors k) × (length marks ≡ 93) × (processors ≤ 8)
+Inv-loop marks processors k₀ k = (AllArrived marks processors k) × (length marks ≡ markArea) × (processors ≤ processorLimit)
 
 abbrev μ-loop : tie.MeasureT-loop
 μ-loop marks processors k₀ k = processors - k

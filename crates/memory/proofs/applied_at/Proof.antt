@@ -1,5 +1,6 @@
 -- `applied_at` meets its contract: the first g rows are the processor's. Assumes nothing.
 use Prim.Native.Nat.{_-_}
+use Rattle.limits.specs.Limits.{pageLimit}
 use Rattle.memory.proofs.Rows.{AppliedRead, row-laws}
 use Rattle.memory.proofs.applied_at.Statement.{statement}
 use Rattle.memory.proofs.applied_at.Tie as tie
@@ -8,7 +9,7 @@ abbrev Inv-loop : tie.InvT-loop
 Inv-loop clocks p rows₀ g₀ rows g = AppliedRead clocks (p .0) rows g
 
 abbrev μ-loop : tie.MeasureT-loop
-μ-loop clocks p rows₀ g₀ rows g = 8 - g
+μ-loop clocks p rows₀ g₀ rows g = pageLimit - g
 
 pub applied-at-spec : {M : Type 1} → statement M
 applied-at-spec =

@@ -1,14 +1,15 @@
 -- `clock_at` meets its contract: the first i entries are the row's. Assumes nothing.
 use Prim.Native.Nat.{_-_}
+use Rattle.limits.specs.Sizes.{clockWidth}
 use Rattle.memory.proofs.Rows.{RowRead, row-laws}
 use Rattle.memory.proofs.clock_at.Statement.{statement}
 use Rattle.memory.proofs.clock_at.Tie as tie
 
 abbrev Inv-loop : tie.InvT-loop
-Inv-loop clocks row at entries₀ i₀ entries i = RowRead 8 clocks entries row at i
+Inv-loop clocks row at entries₀ i₀ entries i = RowRead clockWidth clocks entries row at i
 
 abbrev μ-loop : tie.MeasureT-loop
-μ-loop clocks row at entries₀ i₀ entries i = 8 - i
+μ-loop clocks row at entries₀ i₀ entries i = clockWidth - i
 
 pub clock-at-spec : {M : Type 1} → statement M
 clock-at-spec =

@@ -1,14 +1,15 @@
 -- `put_clock` meets its contract: the entries from i on are still to be laid into the row. Assumes nothing.
 use Prim.Native.Nat.{_-_}
+use Rattle.limits.specs.Sizes.{clockWidth}
 use Rattle.memory.proofs.Rows.{RowWritten, row-laws}
 use Rattle.memory.proofs.put_clock.Statement.{statement}
 use Rattle.memory.proofs.put_clock.Tie as tie
 
 abbrev Inv-loop : tie.InvT-loop
-Inv-loop clocks₀ row entries at i₀ clocks i = RowWritten 8 clocks₀ clocks entries row at i
+Inv-loop clocks₀ row entries at i₀ clocks i = RowWritten clockWidth clocks₀ clocks entries row at i
 
 abbrev μ-loop : tie.MeasureT-loop
-μ-loop clocks₀ row entries at i₀ clocks i = 8 - i
+μ-loop clocks₀ row entries at i₀ clocks i = clockWidth - i
 
 pub put-clock-spec : {M : Type 1} → statement M
 put-clock-spec =

@@ -1,5 +1,6 @@
 -- `lay_copies` meets its contract: the first k parts are laid. Assumes nothing.
 use Prim.Native.Nat.{_-_}
+use Rattle.limits.specs.Sizes.{partLimit}
 use Rattle.opening.proofs.Opening.{CopiesLaid, laying-laws}
 use Rattle.opening.proofs.lay_copies.Statement.{statement}
 use Rattle.opening.proofs.lay_copies.Tie as tie
@@ -8,7 +9,7 @@ abbrev Inv-loop : tie.InvT-loop
 Inv-loop words₀ copy k₀ words k = CopiesLaid words₀ words copy k
 
 abbrev μ-loop : tie.MeasureT-loop
-μ-loop words₀ copy k₀ words k = 16 - k
+μ-loop words₀ copy k₀ words k = partLimit - k
 
 pub lay-copies-spec : {M : Type 1} → statement M
 lay-copies-spec =

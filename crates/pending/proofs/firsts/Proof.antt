@@ -1,5 +1,6 @@
 -- `firsts` meets its contract: the first places of the first q processors are there. Assumes nothing.
 use Prim.Native.Nat.{_-_}
+use Rattle.limits.specs.Sizes.{clockWidth}
 use Rattle.pending.proofs.Spanning.{FirstsUpto, span-laws}
 use Rattle.pending.proofs.firsts.Statement.{statement}
 use Rattle.pending.proofs.firsts.Tie as tie
@@ -8,7 +9,7 @@ abbrev Inv-loop : tie.InvT-loop
 Inv-loop first lo out₀ q₀ out q = FirstsUpto lo first out q
 
 abbrev μ-loop : tie.MeasureT-loop
-μ-loop first lo out₀ q₀ out q = 8 - q
+μ-loop first lo out₀ q₀ out q = clockWidth - q
 
 pub firsts-spec : {M : Type 1} → statement M
 firsts-spec =

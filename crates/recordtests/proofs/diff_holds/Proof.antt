@@ -6,4 +6,4 @@ use Rattle.recordtests.proofs.diff_holds.Tie as tie
 pub diff-holds-spec : {M : Type 1} → statement M
 diff-holds-spec =
     tie.close
-    (tie.spec (λ c. search records-checked) (λ c. search records-checked) (λ c κs. search records-checked) (λ c. search records-checked) (λ c. search records-checked) (λ c. search records-checked) (λ c. search records-checked) (λ c. search records-checked) (λ c. search records-checked) (λ c κs. search records-checked) (λ c. search records-checked))
+    (tie.spec (λ c κs. search records-checked) (λ c. search records-checked) (λ c κs. search records-checked) (λ c κs. search records-checked) (λ c. search records-checked))

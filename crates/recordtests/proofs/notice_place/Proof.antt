@@ -6,4 +6,4 @@ use Rattle.recordtests.proofs.notice_place.Tie as tie
 pub notice-place-spec : {M : Type 1} → statement M
 notice-place-spec =
     tie.close
-    (tie.spec (λ c. search notices-checked) (λ c. search notices-checked) (λ c κs. search notices-checked) (λ c. search notices-checked) (λ c. search notices-checked) (λ c κs. search notices-checked) (λ c. search notices-checked) (λ c. search notices-checked) (λ c κs. search notices-checked) (λ c. search notices-checked) (λ c. search notices-checked) (λ c. search notices-checked) (λ c. search notices-checked) (λ c. search notices-checked))
+    (tie.spec (λ c κs. search notices-checked) (λ c κs. search notices-checked) (λ c κs. search notices-checked) (λ c. search notices-checked) (λ c. search notices-checked) (λ c. search notices-checked) (λ c. search notices-checked) (λ c. search notices-checked))

@@ -6,4 +6,4 @@ use Rattle.recordtests.proofs.record_holds.Tie as tie
 pub record-holds-spec : {M : Type 1} → statement M
 record-holds-spec =
     tie.close
-    (tie.spec (λ c. search records-checked) (λ c. search records-checked) (λ c κs. search records-checked) (λ c. search records-checked) (λ c. search records-checked) (λ c κs. search records-checked) (λ c. search records-checked) (λ c. search records-checked) (λ c κs. search records-checked) (λ c κs. search records-checked) (λ c. search records-checked) (λ c κs. search records-checked) (λ c. search records-checked))
+    (tie.spec (λ c κs. search records-checked) (λ c κs. search records-checked) (λ c κs. search records-checked) (λ c κs. search records-checked) (λ c. search records-checked) (λ c κs. search records-checked) (λ c. search records-checked))

@@ -1,5 +1,6 @@
 -- `records_sound` meets its contract: the first i records are sound. Assumes nothing.
 use Prim.Native.Nat.{_-_, _≤_}
+use Rattle.limits.specs.Limits.{processorLimit}
 use Rattle.marktests.proofs.Passing.{Passed}
 use Rattle.recordtests.specs.Tests.{recordHolds}
 use Rattle.recordtests.specs.Needed.{SlotsThere}
@@ -8,7 +9,7 @@ use Rattle.recordtests.proofs.records_sound.Statement.{statement}
 use Rattle.recordtests.proofs.records_sound.Tie as tie
 
 abbrev Inv-loop : tie.InvT-loop
-Inv-loop records own processors pages standing i₀ i = (Passed standing (recordHolds own records processors pages) i) × (SlotsThere records standing) × (processors ≤ 8)
+Inv-loop records own processors pages standing i₀ i = (Passed standing (recordHolds own records processors pages) i) × (SlotsThere records standing) × (processors ≤ processorLimit)
 
 abbrev μ-loop : tie.MeasureT-loop
 μ-loop records own processors pages standing i₀ i = standing - i

@@ -1,4 +1,4 @@
--- `refusal` meets its contract: clocks and marks alone decide. Assumes nothing.
+-- `refusal` meets its contract: row 3, then the others. Assumes nothing.
 use Rattle.refusals.proofs.Refusing.{refusal-laws}
 use Rattle.refusals.proofs.refusal.Statement.{statement}
 use Rattle.refusals.proofs.refusal.Tie as tie
@@ -6,4 +6,4 @@ use Rattle.refusals.proofs.refusal.Tie as tie
 pub refusal-spec : {M : Type 1} → statement M
 refusal-spec =
     tie.close
-    (tie.spec (λ c κs. search refusal-laws) (λ c. search refusal-laws))
+    (tie.spec (λ c κs. search refusal-laws) (λ c. search refusal-laws) (λ c κs. search refusal-laws) (λ c. search refusal-laws))

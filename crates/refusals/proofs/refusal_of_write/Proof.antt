@@ -6,4 +6,4 @@ use Rattle.refusals.proofs.refusal_of_write.Tie as tie
 pub refusal-of-write-spec : {M : Type 1} → statement M
 refusal-of-write-spec =
     tie.close
-    (tie.spec (λ c κs. search refusal-laws) (λ c. search refusal-laws) (λ c κs. search refusal-laws) (λ c. search refusal-laws) (λ c κs. search refusal-laws) (λ c. search refusal-laws) (λ c κs. search refusal-laws) (λ c. search refusal-laws) (λ c. search refusal-laws))
+    (tie.spec (λ c κs. search refusal-laws) (λ c. search refusal-laws) (λ c. search refusal-laws) (λ c κs. search refusal-laws) (λ c. search refusal-laws) (λ c κs. search refusal-laws) (λ c. search refusal-laws) (λ c. search refusal-laws))

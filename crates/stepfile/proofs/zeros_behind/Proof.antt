@@ -1,5 +1,6 @@
 -- `zeros_behind` meets its contract: the bytes behind those held are 0 so far. Assumes nothing.
 use Prim.Native.Nat.{_-_}
+use Rattle.limits.specs.Limits.{fileRecordWidth}
 use Rattle.stepfile.proofs.HeldBytes.{ZerosTo, holding-laws}
 use Rattle.stepfile.proofs.zeros_behind.Statement.{statement}
 use Rattle.stepfile.proofs.zeros_behind.Tie as tie
@@ -8,7 +9,7 @@ abbrev Inv-loop : tie.InvT-loop
 Inv-loop held bytes i₀ i = ZerosTo held bytes i
 
 abbrev μ-loop : tie.MeasureT-loop
-μ-loop held bytes i₀ i = 8 - i
+μ-loop held bytes i₀ i = fileRecordWidth - i
 
 pub zeros-behind-spec : {M : Type 1} → statement M
 zeros-behind-spec =

@@ -1,5 +1,6 @@
 -- `measure` meets its contract: what is counted and what is left are all runs and words. Assumes nothing.
 use Prim.Native.Nat.{_-_}
+use Rattle.limits.specs.Limits.{pageWidth}
 use Rattle.writer.proofs.Measuring.{Measuring}
 use Rattle.writer.proofs.WriteLoops.{write-laws}
 use Rattle.writer.proofs.measure.Statement.{statement}
@@ -9,7 +10,7 @@ abbrev Inv-loop : tie.InvT-loop
 Inv-loop old new runs₀ words₀ before₀ i₀ runs words before i = Measuring old new runs words before i
 
 abbrev μ-loop : tie.MeasureT-loop
-μ-loop old new runs₀ words₀ before₀ i₀ runs words before i = 32 - i
+μ-loop old new runs₀ words₀ before₀ i₀ runs words before i = pageWidth - i
 
 pub measure-spec : {M : Type 1} → statement M
 measure-spec =

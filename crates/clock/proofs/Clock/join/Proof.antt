@@ -2,16 +2,17 @@
 use Prim.Native.Nat.{_≤_, _-_}
 use mathlib.Core.Path.{_≡_}
 use lib.ListN.{length, take}
+use Rattle.limits.specs.Sizes.{clockWidth}
 use Rattle.clock.specs.Clocks.{joined}
 use Rattle.clock.proofs.Methods.{clock-laws}
 use Rattle.clock.proofs.Clock.join.Statement.{statement}
 use Rattle.clock.proofs.Clock.join.Tie as tie
 
 abbrev Inv-loop : tie.InvT-loop
-Inv-loop a b out₀ i₀ out i = (i ≤ 8) × (length a ≡ 8) × (length b ≡ 8) × (length out ≡ 8) × (take i out ≡ take i (joined a b))
+Inv-loop a b out₀ i₀ out i = (i ≤ clockWidth) × (length a ≡ clockWidth) × (length b ≡ clockWidth) × (length out ≡ clockWidth) × (take i out ≡ take i (joined a b))
 
 abbrev μ-loop : tie.MeasureT-loop
-μ-loop a b out₀ i₀ out i = 8 - i
+μ-loop a b out₀ i₀ out i = clockWidth - i
 
 pub join-spec : {M : Type 1} → statement M
 join-spec =

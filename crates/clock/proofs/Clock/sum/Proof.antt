@@ -2,16 +2,17 @@
 use Prim.Native.Nat.{_+_, _-_, _*_, _≤_}
 use mathlib.Core.Path.{_≡_}
 use lib.ListN.{length, drop}
+use Rattle.limits.specs.Sizes.{clockWidth}
 use Rattle.clock.specs.Clocks.{sumOf}
 use Rattle.clock.proofs.Methods.{clock-laws}
 use Rattle.clock.proofs.Clock.sum.Statement.{statement}
 use Rattle.clock.proofs.Clock.sum.Tie as tie
 
 abbrev Inv-loop : tie.InvT-loop
-Inv-loop entries total₀ i₀ total i = (i ≤ 8) × (length entries ≡ 8) × (total ≤ 255 * i) × (total + sumOf (drop i entries) ≡ sumOf entries)
+Inv-loop entries total₀ i₀ total i = (i ≤ clockWidth) × (length entries ≡ clockWidth) × (total ≤ 255 * i) × (total + sumOf (drop i entries) ≡ sumOf entries)
 
 abbrev μ-loop : tie.MeasureT-loop
-μ-loop entries total₀ i₀ total i = 8 - i
+μ-loop entries total₀ i₀ total i = clockWidth - i
 
 pub sum-spec : {M : Type 1} → statement M
 sum-spec =

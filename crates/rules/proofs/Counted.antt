@@ -1,0 +1,47 @@
+-- How many of the first steps of a list pass a test: the count by which grants, jobs, adds and messages, requests to come, are told from the
+-- list alone. `counted` goes to specs/Order.antt with the first definition there that cites it. Rests on StrictOrder. Assumes nothing.
+use Prim.Native.Nat.{ℕ, zero, suc, _+_, _≤_, _<_}
+use native.Mathlib.Omega.{arith}
+use native.Mathlib.Decide.{decLt}
+use mathlib.Core.Path.{_≡_}
+use mathlib.Core.Bool.{Bool, true, false, cond}
+use mathlib.Core.List.{List}
+use Rattle.rules.specs.Order.{Event, eventAt}
+use Rattle.rules.proofs.StrictOrder.{never-falls}
+
+-- how many of the first t steps pass the test
+unfoldable pub counted : (Event → Bool) → List Event → ℕ → ℕ
+counted test es zero = 0
+counted test es (suc t) = cond (test (eventAt es t)) (counted test es t + 1) (counted test es t)
+
+module _ (test : Event → Bool) (es : List Event) where
+  -- a step that passes is one more
+  pub counted-passes : (t : ℕ) → test (eventAt es t) ≡ true → counted test es (suc t) ≡ counted test es t + 1
+  unfolding counted
+  counted-passes t e = rw e
+
+  -- one that does not leaves the number
+  pub counted-fails : (t : ℕ) → test (eventAt es t) ≡ false → counted test es (suc t) ≡ counted test es t
+  unfolding counted
+  counted-fails t e = rw e
+
+  counted-step : (t : ℕ) → counted test es t ≤ counted test es (suc t)
+  unfolding counted
+  counted-step t = go (test (eventAt es t))
+    where
+      go : (b : Bool) → counted test es t ≤ cond b (counted test es t + 1) (counted test es t)
+      go true = omega arith
+      go false = omega arith
+
+  -- so the number never falls
+  pub counted-never-falls : (i j : ℕ) → i ≤ j → counted test es i ≤ counted test es j
+  counted-never-falls = never-falls (counted test es) counted-step
+
+  -- and at most one step that passes has a given number of others before it
+  pub counted-once : (i j : ℕ) → test (eventAt es i) ≡ true → test (eventAt es j) ≡ true → counted test es i ≡ counted test es j → i ≡ j
+  counted-once i j a b e = go (decLt i j) (decLt j i)
+    where
+      go : Dec (i < j) → Dec (j < i) → i ≡ j
+      go (yes h) k = absurd (omega (arith, e, counted-passes i a, counted-never-falls (suc i) j h))
+      go (no h) (yes k) = absurd (omega (arith, e, counted-passes j b, counted-never-falls (suc j) i k))
+      go (no h) (no k) = omega (arith, h, k)
