@@ -10,12 +10,18 @@ use Rattle.rules.specs.State.{mainframe, State, withPages}
 use Rattle.rules.specs.Steps.{Effect, pageOfWord, twinTaken, stored}
 use Rattle.memory.specs.Areas.{copyRow, stateIn}
 use Rattle.memory.specs.Needed.{Holds}
+use Rattle.index.specs.Index.{IndexKept}
 
 -- the value and the count answered are those of the effect e, and so is the state that the areas hold
 pub record AnsweredAs (e : Effect) (value count : ℕ) (c w r m : List ℕ) : Type 0 where
   pub answer : value ≡ e .value
   pub applied : count ≡ e .count
   pub areas : Holds c w r m (e .after)
+
+-- the same, and the index is kept
+pub record AnsweredKept (e : Effect) (value count : ℕ) (c w r m x : List ℕ) : Type 0 where
+  pub answered : AnsweredAs e value count c w r m
+  pub kept : IndexKept c r m x
 
 -- "if the page is clean, take the twin", for page g of p
 unfoldable pub twinned : State → ℕ → ℕ → State

@@ -8,11 +8,17 @@ use Rattle.limits.specs.Sizes.{markArea, wordArea, wordLimit}
 use Rattle.rules.specs.State.{mainframe}
 use Rattle.memory.specs.Areas.{stateIn}
 use Rattle.memory.specs.Needed.{Acts}
+use Rattle.index.specs.Index.{IndexKept}
 
 -- p acts, and a is a word of a present page
 pub record ActsOnWord (c w r m : List ℕ) (p a : ℕ) : Type 0 where
   pub acts : Acts c w r m p
   pub word : a < stateIn mainframe c w r m .counts .pages * pageWidth
+
+-- the same, and the index is kept
+pub record AccessesKept (c w r m : List ℕ) (p a : ℕ) (x : List ℕ) : Type 0 where
+  pub word : ActsOnWord c w r m p a
+  pub kept : IndexKept c r m x
 
 -- word a of p has a place
 pub record OnWord (p a : ℕ) : Type 0 where

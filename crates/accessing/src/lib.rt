@@ -7,8 +7,8 @@ ghost use Rattle.limits.specs.Sizes.{wordArea};
 ghost use Rattle.rules.specs.State.{mainframe};
 ghost use Rattle.rules.specs.Steps.{read, write};
 ghost use Rattle.memory.specs.Areas.{stateIn};
-ghost use Rattle.accessing.specs.Needed.{ActsOnWord, OnWord, WordIn, WordThere, PageThere};
-ghost use Rattle.accessing.specs.Effects.{AnsweredAs, wordPlace, TwinTaken, Stored};
+ghost use Rattle.accessing.specs.Needed.{AccessesKept, OnWord, WordIn, WordThere, PageThere};
+ghost use Rattle.accessing.specs.Effects.{AnsweredKept, wordPlace, TwinTaken, Stored};
 use clock::PageId;
 use clock::ProcessorId;
 use limits::PAGE_WIDTH;
@@ -32,11 +32,13 @@ pub fn read_word(
     words: &mut [u32],
     records: &[u8],
     marks: &[u8],
+    index: &mut [u32],
 ) -> Answered
-    requires { ⌜ ActsOnWord (now clocks) (now words) (now records) (now marks) (p .0) w ⌝ }
-    ensures { λ r. ⌜ AnsweredAs (read mainframe (stateIn mainframe (now (clocks .entry)) (now (words .entry)) (now (records .entry)) (now (marks .entry))) (p .0) w) (r .value) (r .count) (now (clocks .exit)) (now (words .exit)) (now (records .entry)) (now (marks .entry)) ⌝ }
+    requires { ⌜ AccessesKept (now clocks) (now words) (now records) (now marks) (p .0) w (now index) ⌝ }
+    ensures { λ r. ⌜ AnsweredKept (read mainframe (stateIn mainframe (now (clocks .entry)) (now (words .entry)) (now (records .entry)) (now (marks .entry))) (p .0) w) (r .value) (r .count) (now (clocks .exit)) (now (words .exit)) (now (records .entry)) (now (marks .entry)) (now (index .exit)) ⌝ }
 {
-    let count = fetching::fetch_page(p, PageId(w / PAGE_WIDTH), clocks, words, records, marks);
+    let g = PageId(w / PAGE_WIDTH);
+    let count = fetching::fetch_page(p, g, clocks, words, records, marks, index);
     let value = word_at(words, p, w);
     Answered { value, count }
 }
@@ -50,17 +52,19 @@ pub fn write_word(
     words: &mut [u32],
     records: &[u8],
     marks: &mut [u8],
+    index: &mut [u32],
 ) -> u32
-    requires { ⌜ ActsOnWord (now clocks) (now words) (now records) (now marks) (p .0) w ⌝ }
-    ensures { λ r. ⌜ AnsweredAs (write mainframe (stateIn mainframe (now (clocks .entry)) (now (words .entry)) (now (records .entry)) (now (marks .entry))) (p .0) w v) 0 r (now (clocks .exit)) (now (words .exit)) (now (records .entry)) (now (marks .exit)) ⌝ }
+    requires { ⌜ AccessesKept (now clocks) (now words) (now records) (now marks) (p .0) w (now index) ⌝ }
+    ensures { λ r. ⌜ AnsweredKept (write mainframe (stateIn mainframe (now (clocks .entry)) (now (words .entry)) (now (records .entry)) (now (marks .entry))) (p .0) w v) 0 r (now (clocks .exit)) (now (words .exit)) (now (records .entry)) (now (marks .exit)) (now (index .exit)) ⌝ }
 {
-    let count = fetching::fetch_page(p, PageId(w / PAGE_WIDTH), clocks, words, records, marks);
+    let g = PageId(w / PAGE_WIDTH);
+    let count = fetching::fetch_page(p, g, clocks, words, records, marks, index);
     store(words, marks, p, w, v);
     count
 }
 
 // Takes the twin of the word's page if that is clean, then stores.
-pub fn store(words: &mut [u32], marks: &mut [u8], p: ProcessorId, w: usize, v: u32)
+fn store(words: &mut [u32], marks: &mut [u8], p: ProcessorId, w: usize, v: u32)
     requires { ⌜ WordThere (now words) (now marks) (p .0) w ⌝ }
     ensures { λ _. ⌜ Stored (now (words .entry)) (now (marks .entry)) (now (words .exit)) (now (marks .exit)) (p .0) w v ⌝ }
 {
@@ -89,7 +93,7 @@ fn put_word(words: &mut [u32], p: ProcessorId, w: usize, v: u32)
 }
 
 // The word in a processor's copy.
-pub fn word_at(words: &[u32], p: ProcessorId, w: usize) -> u32
+fn word_at(words: &[u32], p: ProcessorId, w: usize) -> u32
     requires { ⌜ WordIn (now words) (p .0) w ⌝ }
     ensures { λ r. ⌜ r ≡ getD (now (words .entry)) (wordPlace (p .0) w) 0 ⌝ }
 {

@@ -12,17 +12,22 @@ use Rattle.rules.specs.Refusals.{stepOf, Action, Read, Write, Acquire, Release,
 use Rattle.rules.specs.State.{mainframe, State}
 use Rattle.rules.specs.Steps.{Effect, read, write, acquire, release, arrive}
 use Rattle.rules.proofs.Accepted.{Accepted, accepted-says, present-says, object-there, acquire-there, release-there}
+use Rattle.rules.proofs.Kept.{effect-keeps-order}
+use Rattle.rules.proofs.Timeline.{effect-keeps-counts}
 use Rattle.rules.proofs.KindsOfSteps.{objectIn, known-says}
 use Rattle.memory.specs.Areas.{stateIn}
-use Rattle.memory.specs.Needed.{Acts, Holds}
-use Rattle.collecting.specs.Effects.{CountedAs}
-use Rattle.accessing.specs.Effects.{AnsweredAs}
-use Rattle.accessing.specs.Needed.{ActsOnWord}
+use Rattle.memory.specs.Needed.{Acts, Ready, Holds}
+use Rattle.index.proofs.Kept.{bounds-stay, kept-while-standing}
+use Rattle.index.proofs.Standing.{StillStand, still-stand}
+use Rattle.collecting.specs.Effects.{CountedKept}
+use Rattle.accessing.specs.Effects.{AnsweredKept}
+use Rattle.accessing.specs.Needed.{ActsOnWord, AccessesKept}
 use Rattle.locking.specs.Needed.{ActsOnLock}
 use Rattle.barrier.specs.Effects.{Wanted}
+use Rattle.barrier.specs.Needed.{ArrivesKept}
 use Rattle.acting.specs.declared.Outcome.{Outcome}
 use Rattle.acting.specs.declared.Outcome.the-variants.{Done}
-use Rattle.acting.specs.Needed.{DoneAs, Acting, Accessing, Locking, Meeting}
+use Rattle.acting.specs.Needed.{Acting, ActingKept, Accessing, AccessingKept, Locking, Meeting, MeetingKept, DoneAs, DoneKept}
 
 -- ---- the effect of an action that is known
 
@@ -93,41 +98,60 @@ effect-by s p a b e = ap (λ (x : Action). effect mainframe s p x) e
 
 -- ---- read and write
 
-module _ (c w r m : List ℕ) (k p o v : ℕ) (h : Accessing c w r m k p o v) where
-  -- a read has its word
-  pub read-there : k ≡ 1 → ActsOnWord c w r m p o
+module _ (c w r m : List ℕ) (k p o v : ℕ) (x : List ℕ) (q : AccessingKept c w r m k p o v x) where
+  abbrev h : Accessing c w r m k p o v
+  h = q .accessing
+
+  word-of-read : k ≡ 1 → ActsOnWord c w r m p o
   unfolding objectBound objectIn mainframe
-  read-there e =
+  word-of-read e =
       on-word c w r m k p o v (h .acting)
       (object-there mainframe (stateIn mainframe c w r m) (stepOf k p o v) (Read o) (reads k p o v e) (accepted c w r m k p o v (h .acting) .fields-fit))
 
+  -- a read has its word
+  pub read-there : k ≡ 1 → AccessesKept c w r m p o x
+  read-there e = record { word = word-of-read e; kept = q .kept }
+
   -- a read was done
-  pub read-done : (x n : ℕ) (c′ w′ : List ℕ) → k ≡ 1 → AnsweredAs (read mainframe (stateIn mainframe c w r m) p o) x n c′ w′ r m
-      → DoneAs (effect mainframe (stateIn mainframe c w r m) p (actionOf (stepOf k p o v))) (Done x n) c′ w′ r m
+  pub read-done : (y n : ℕ) (c′ w′ x′ : List ℕ) → k ≡ 1 → AnsweredKept (read mainframe (stateIn mainframe c w r m) p o) y n c′ w′ r m x′
+      → DoneKept (effect mainframe (stateIn mainframe c w r m) p (actionOf (stepOf k p o v))) (Done y n) c′ w′ r m x′
   unfolding effect
-  read-done x n c′ w′ e a =
-      done-by (effect mainframe (stateIn mainframe c w r m) p (actionOf (stepOf k p o v))) (read mainframe (stateIn mainframe c w r m) p o) (Done x n) c′ w′ r m
-      (effect-by (stateIn mainframe c w r m) p (actionOf (stepOf k p o v)) (Read o) (reads k p o v e))
-      (done-with (read mainframe (stateIn mainframe c w r m) p o) x n c′ w′ r m (a .answer) (a .applied) (a .areas))
+  read-done y n c′ w′ x′ e f =
+      let a = f .answered in
+      record {
+        done =
+            done-by (effect mainframe (stateIn mainframe c w r m) p (actionOf (stepOf k p o v))) (read mainframe (stateIn mainframe c w r m) p o) (Done y n) c′ w′ r m
+            (effect-by (stateIn mainframe c w r m) p (actionOf (stepOf k p o v)) (Read o) (reads k p o v e))
+            (done-with (read mainframe (stateIn mainframe c w r m) p o) y n c′ w′ r m (a .answer) (a .applied) (a .areas));
+        kept = f .kept;
+      }
 
   is-write : (k ≡ 1 → ⊥) → k ≡ 2
   is-write z = omega (arith, z, kind-from c w r m k p o v (h .acting), h .last)
 
-  -- a write has its word
-  pub write-there : (k ≡ 1 → ⊥) → ActsOnWord c w r m p o
+  word-of-write : (k ≡ 1 → ⊥) → ActsOnWord c w r m p o
   unfolding objectBound objectIn mainframe
-  write-there z =
+  word-of-write z =
       on-word c w r m k p o v (h .acting)
       (object-there mainframe (stateIn mainframe c w r m) (stepOf k p o v) (Write o v) (writes k p o v (is-write z)) (accepted c w r m k p o v (h .acting) .fields-fit))
 
+  -- a write has its word
+  pub write-there : (k ≡ 1 → ⊥) → AccessesKept c w r m p o x
+  write-there z = record { word = word-of-write z; kept = q .kept }
+
   -- a write was done
-  pub write-done : (n : ℕ) (c′ w′ m′ : List ℕ) → (k ≡ 1 → ⊥) → AnsweredAs (write mainframe (stateIn mainframe c w r m) p o v) 0 n c′ w′ r m′
-      → DoneAs (effect mainframe (stateIn mainframe c w r m) p (actionOf (stepOf k p o v))) (Done 0 n) c′ w′ r m′
+  pub write-done : (n : ℕ) (c′ w′ m′ x′ : List ℕ) → (k ≡ 1 → ⊥) → AnsweredKept (write mainframe (stateIn mainframe c w r m) p o v) 0 n c′ w′ r m′ x′
+      → DoneKept (effect mainframe (stateIn mainframe c w r m) p (actionOf (stepOf k p o v))) (Done 0 n) c′ w′ r m′ x′
   unfolding effect
-  write-done n c′ w′ m′ z a =
-      done-by (effect mainframe (stateIn mainframe c w r m) p (actionOf (stepOf k p o v))) (write mainframe (stateIn mainframe c w r m) p o v) (Done 0 n) c′ w′ r m′
-      (effect-by (stateIn mainframe c w r m) p (actionOf (stepOf k p o v)) (Write o v) (writes k p o v (is-write z)))
-      (done-with (write mainframe (stateIn mainframe c w r m) p o v) 0 n c′ w′ r m′ (a .answer) (a .applied) (a .areas))
+  write-done n c′ w′ m′ x′ z f =
+      let a = f .answered in
+      record {
+        done =
+            done-by (effect mainframe (stateIn mainframe c w r m) p (actionOf (stepOf k p o v))) (write mainframe (stateIn mainframe c w r m) p o v) (Done 0 n) c′ w′ r m′
+            (effect-by (stateIn mainframe c w r m) p (actionOf (stepOf k p o v)) (Write o v) (writes k p o v (is-write z)))
+            (done-with (write mainframe (stateIn mainframe c w r m) p o v) 0 n c′ w′ r m′ (a .answer) (a .applied) (a .areas));
+        kept = f .kept;
+      }
 
 -- ---- acquire and release
 
@@ -167,53 +191,96 @@ module _ (c w r m : List ℕ) (k p o v : ℕ) (h : Locking c w r m k p o v) wher
       (effect-by (stateIn mainframe c w r m) p (actionOf (stepOf k p o v)) (Release o) (releases k p o v (is-release z)))
       (done-with f 0 0 c′ w r′ m′ refl refl a)
 
+-- ---- the index is kept by a step that is no access and no arrival
+
+module _ (c w r m : List ℕ) (k p o v : ℕ) (x : List ℕ) (q : ActingKept c w r m k p o v x) (no-access : 2 < k) (no-arrival : k ≡ 5 → ⊥)
+    (y : Outcome) (c′ w′ r′ m′ : List ℕ) (d : DoneAs (effect mainframe (stateIn mainframe c w r m) p (actionOf (stepOf k p o v))) y c′ w′ r′ m′) where
+  abbrev before : State
+  before = stateIn mainframe c w r m
+
+  after-ready : Ready c′ w′ r′ m′
+  unfolding stepOf
+  after-ready =
+      record {
+        lent = d .areas .lent;
+        in-order = rw (d .areas .is) (effect-keeps-order mainframe before (stepOf k p o v) (q .acting .ready .in-order) (q .acting .accepted));
+      }
+
+  still : StillStand before (stateIn mainframe c′ w′ r′ m′)
+  unfolding stepOf
+  still = rw (d .areas .is) (still-stand mainframe before (stepOf k p o v) (q .acting .ready .in-order) no-access no-arrival)
+
+  apart-done : DoneKept (effect mainframe (stateIn mainframe c w r m) p (actionOf (stepOf k p o v))) y c′ w′ r′ m′ x
+  apart-done =
+      record {
+        done = d;
+        kept =
+            kept-while-standing c w r m c′ w′ r′ m′ (q .acting .ready) after-ready still x
+            (bounds-stay c w r m c′ w′ r′ m′ (ap (λ (s : State). s .counts) (d .areas .is) ∙ effect-keeps-counts mainframe before p (actionOf (stepOf k p o v)))) (q .kept);
+      }
+
 -- ---- arrive and want collection
 
-module _ (c w r m : List ℕ) (k p o v : ℕ) (h : Meeting c w r m k p o v) where
-  -- the processor of an arrival is present
-  pub arrival-there : k ≡ 5 → Acts c w r m p
-  arrival-there e = acts c w r m k p o v (h .acting)
+module _ (c w r m : List ℕ) (k p o v : ℕ) (x : List ℕ) (q : MeetingKept c w r m k p o v x) where
+  abbrev t : Meeting c w r m k p o v
+  t = q .meeting
+
+  -- the processor of an arrival is present, and has not arrived
+  pub arrival-there : k ≡ 5 → ArrivesKept c w r m p x
+  unfolding stepOf
+  arrival-there e =
+      record { arrives = record { acts = acts c w r m k p o v (t .acting); not-arrived = accepted c w r m k p o v (t .acting) .not-arrived }; kept = q .kept }
 
   -- an arrival was done
-  pub arrival-done : (n : ℕ) (c′ w′ r′ m′ : List ℕ) → k ≡ 5 → CountedAs (arrive mainframe (stateIn mainframe c w r m) p) n c′ w′ r′ m′
-      → DoneAs (effect mainframe (stateIn mainframe c w r m) p (actionOf (stepOf k p o v))) (Done 0 n) c′ w′ r′ m′
+  pub arrival-done : (n : ℕ) (c′ w′ r′ m′ x′ : List ℕ) → k ≡ 5 → CountedKept (arrive mainframe (stateIn mainframe c w r m) p) n c′ w′ r′ m′ x′
+      → DoneKept (effect mainframe (stateIn mainframe c w r m) p (actionOf (stepOf k p o v))) (Done 0 n) c′ w′ r′ m′ x′
   unfolding effect
-  arrival-done n c′ w′ r′ m′ e a =
+  arrival-done n c′ w′ r′ m′ x′ e a =
       let f = effect mainframe (stateIn mainframe c w r m) p Arrive in
-      done-by (effect mainframe (stateIn mainframe c w r m) p (actionOf (stepOf k p o v))) f (Done 0 n) c′ w′ r′ m′
-      (effect-by (stateIn mainframe c w r m) p (actionOf (stepOf k p o v)) Arrive (arrives k p o v e))
-      (done-with f 0 n c′ w′ r′ m′ refl (a .applied) (a .areas))
+      record {
+        done =
+            done-by (effect mainframe (stateIn mainframe c w r m) p (actionOf (stepOf k p o v))) f (Done 0 n) c′ w′ r′ m′
+            (effect-by (stateIn mainframe c w r m) p (actionOf (stepOf k p o v)) Arrive (arrives k p o v e))
+            (done-with f 0 n c′ w′ r′ m′ refl (a .counted .applied) (a .counted .areas));
+        kept = a .kept;
+      }
 
   -- the marks have their size
   pub wish-there : (k ≡ 5 → ⊥) → length m ≡ markArea
-  wish-there z = h .acting .ready .lent .marks
+  wish-there z = t .acting .ready .lent .marks
 
   -- the wish was set
   pub wish-done : (m′ : List ℕ) → (k ≡ 5 → ⊥) → Wanted m m′
-      → DoneAs (effect mainframe (stateIn mainframe c w r m) p (actionOf (stepOf k p o v))) (Done 0 0) c w r m′
+      → DoneKept (effect mainframe (stateIn mainframe c w r m) p (actionOf (stepOf k p o v))) (Done 0 0) c w r m′ x
   unfolding effect
   wish-done m′ z a =
       let f = effect mainframe (stateIn mainframe c w r m) p Want in
-      let l = h .acting .ready .lent in
-      let six : k ≡ 6 = omega (arith, z, h .first, kind-to c w r m k p o v (h .acting)) in
-      done-by (effect mainframe (stateIn mainframe c w r m) p (actionOf (stepOf k p o v))) f (Done 0 0) c w r m′
+      let l = t .acting .ready .lent in
+      let six : k ≡ 6 = omega (arith, z, t .first, kind-to c w r m k p o v (t .acting)) in
+      apart-done c w r m k p o v x (record { acting = t .acting; kept = q .kept }) (omega (arith, t .first)) z (Done 0 0) c w r m′
+      (done-by (effect mainframe (stateIn mainframe c w r m) p (actionOf (stepOf k p o v))) f (Done 0 0) c w r m′
       (effect-by (stateIn mainframe c w r m) p (actionOf (stepOf k p o v)) Want (wants k p o v six))
       (done-with f 0 0 c w r m′ refl refl
-      (record { lent = record { clocks = l .clocks; words = l .words; records = l .records; marks = a .marks }; is = a .is c w r }))
+      (record { lent = record { clocks = l .clocks; words = l .words; records = l .records; marks = a .marks }; is = a .is c w r })))
 
 -- ---- the kinds
 
-module _ (c w r m : List ℕ) (k p o v : ℕ) (h : Acting c w r m k p o v) where
+module _ (c w r m : List ℕ) (k p o v : ℕ) (x : List ℕ) (q : ActingKept c w r m k p o v x) where
   -- kinds 1 and 2
-  pub accesses : k ≤ 2 → Accessing c w r m k p o v
-  accesses l = record { acting = h; last = l }
+  pub accesses : k ≤ 2 → AccessingKept c w r m k p o v x
+  accesses l = record { accessing = record { acting = q .acting; last = l }; kept = q .kept }
 
   -- kinds 3 and 4
   pub locks-or-frees : 2 < k → k ≤ 4 → Locking c w r m k p o v
-  locks-or-frees f l = record { acting = h; first = f; last = l }
+  locks-or-frees f l = record { acting = q .acting; first = f; last = l }
+
+  -- which keep the index
+  pub locked-or-freed : 2 < k → k ≤ 4 → (y : Outcome) (c′ w′ r′ m′ : List ℕ) → DoneAs (effect mainframe (stateIn mainframe c w r m) p (actionOf (stepOf k p o v))) y c′ w′ r′ m′
+      → DoneKept (effect mainframe (stateIn mainframe c w r m) p (actionOf (stepOf k p o v))) y c′ w′ r′ m′ x
+  locked-or-freed f l y c′ w′ r′ m′ d = apart-done c w r m k p o v x q f (λ e. omega (arith, e, l)) y c′ w′ r′ m′ d
 
   -- kinds 5 and 6
-  pub meets : 4 < k → Meeting c w r m k p o v
-  meets f = record { acting = h; first = f }
+  pub meets : 4 < k → MeetingKept c w r m k p o v x
+  meets f = record { meeting = record { acting = q .acting; first = f }; kept = q .kept }
 
-pub ruleset acting-laws = (read-there, read-done, write-there, write-done, acquire-has-lock, acquire-done, release-has-lock, release-done, arrival-there, arrival-done, wish-there, wish-done, accesses, locks-or-frees, meets, needs)
+pub ruleset acting-laws = (read-there, read-done, write-there, write-done, acquire-has-lock, acquire-done, release-has-lock, release-done, arrival-there, arrival-done, wish-there, wish-done, accesses, locks-or-frees, locked-or-freed, meets, needs)

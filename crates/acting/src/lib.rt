@@ -1,9 +1,9 @@
-// What an accepted step does to the four areas of lent memory, by its kind, and what it answers.
+// What an accepted step does to the four areas of lent memory, by its kind, and what it answers. The index is kept by every step.
 // Every contract determines the answer and what each area holds afterwards, by the rules' effect on the state that the areas hold.
 ghost use Rattle.rules.specs.State.{mainframe};
 ghost use Rattle.rules.specs.Refusals.{stepOf, actionOf, effect};
 ghost use Rattle.memory.specs.Areas.{stateIn};
-ghost use Rattle.acting.specs.Needed.{DoneAs, Acting, Accessing, Locking, Meeting};
+ghost use Rattle.acting.specs.Needed.{ActingKept, AccessingKept, Locking, MeetingKept, DoneAs, DoneKept};
 use clock::ProcessorId;
 
 // What a step answers: its value and count where it was done, else its refusal.
@@ -22,17 +22,18 @@ pub fn act(
     words: &mut [u32],
     records: &mut [u8],
     marks: &mut [u8],
+    index: &mut [u32],
 ) -> Outcome
-    requires { ⌜ Acting (now clocks) (now words) (now records) (now marks) kind (p .0) object value ⌝ }
-    ensures { λ r. ⌜ DoneAs (effect mainframe (stateIn mainframe (now (clocks .entry)) (now (words .entry)) (now (records .entry)) (now (marks .entry))) (p .0) (actionOf (stepOf kind (p .0) object value))) r (now (clocks .exit)) (now (words .exit)) (now (records .exit)) (now (marks .exit)) ⌝ }
+    requires { ⌜ ActingKept (now clocks) (now words) (now records) (now marks) kind (p .0) object value (now index) ⌝ }
+    ensures { λ r. ⌜ DoneKept (effect mainframe (stateIn mainframe (now (clocks .entry)) (now (words .entry)) (now (records .entry)) (now (marks .entry))) (p .0) (actionOf (stepOf kind (p .0) object value))) r (now (clocks .exit)) (now (words .exit)) (now (records .exit)) (now (marks .exit)) (now (index .exit)) ⌝ }
 {
     if kind <= 2 {
-        return access(kind, p, object, value, clocks, words, records, marks);
+        return access(kind, p, object, value, clocks, words, records, marks, index);
     }
     if kind <= 4 {
         return lock(kind, p, object, value, clocks, words, records, marks);
     }
-    meet(kind, p, object, value, clocks, words, records, marks)
+    meet(kind, p, object, value, clocks, words, records, marks, index)
 }
 
 // Kinds 1 and 2: read and write.
@@ -45,18 +46,19 @@ fn access(
     words: &mut [u32],
     records: &[u8],
     marks: &mut [u8],
+    index: &mut [u32],
 ) -> Outcome
-    requires { ⌜ Accessing (now clocks) (now words) (now records) (now marks) kind (p .0) object value ⌝ }
-    ensures { λ r. ⌜ DoneAs (effect mainframe (stateIn mainframe (now (clocks .entry)) (now (words .entry)) (now (records .entry)) (now (marks .entry))) (p .0) (actionOf (stepOf kind (p .0) object value))) r (now (clocks .exit)) (now (words .exit)) (now (records .entry)) (now (marks .exit)) ⌝ }
+    requires { ⌜ AccessingKept (now clocks) (now words) (now records) (now marks) kind (p .0) object value (now index) ⌝ }
+    ensures { λ r. ⌜ DoneKept (effect mainframe (stateIn mainframe (now (clocks .entry)) (now (words .entry)) (now (records .entry)) (now (marks .entry))) (p .0) (actionOf (stepOf kind (p .0) object value))) r (now (clocks .exit)) (now (words .exit)) (now (records .entry)) (now (marks .exit)) (now (index .exit)) ⌝ }
 {
     if kind == 1 {
-        let answered = accessing::read_word(p, object, clocks, words, records, marks);
+        let answered = accessing::read_word(p, object, clocks, words, records, marks, index);
         return Outcome::Done {
             value: answered.value,
             count: answered.count,
         };
     }
-    let count = accessing::write_word(p, object, value, clocks, words, records, marks);
+    let count = accessing::write_word(p, object, value, clocks, words, records, marks, index);
     Outcome::Done { value: 0, count }
 }
 
@@ -92,12 +94,13 @@ fn meet(
     words: &mut [u32],
     records: &mut [u8],
     marks: &mut [u8],
+    index: &mut [u32],
 ) -> Outcome
-    requires { ⌜ Meeting (now clocks) (now words) (now records) (now marks) kind (p .0) object value ⌝ }
-    ensures { λ r. ⌜ DoneAs (effect mainframe (stateIn mainframe (now (clocks .entry)) (now (words .entry)) (now (records .entry)) (now (marks .entry))) (p .0) (actionOf (stepOf kind (p .0) object value))) r (now (clocks .exit)) (now (words .exit)) (now (records .exit)) (now (marks .exit)) ⌝ }
+    requires { ⌜ MeetingKept (now clocks) (now words) (now records) (now marks) kind (p .0) object value (now index) ⌝ }
+    ensures { λ r. ⌜ DoneKept (effect mainframe (stateIn mainframe (now (clocks .entry)) (now (words .entry)) (now (records .entry)) (now (marks .entry))) (p .0) (actionOf (stepOf kind (p .0) object value))) r (now (clocks .exit)) (now (words .exit)) (now (records .exit)) (now (marks .exit)) (now (index .exit)) ⌝ }
 {
     if kind == 5 {
-        let count = barrier::arrive(p, clocks, words, records, marks);
+        let count = barrier::arrive(p, clocks, words, records, marks, index);
         return Outcome::Done { value: 0, count };
     }
     barrier::want(marks);

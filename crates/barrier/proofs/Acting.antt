@@ -2,33 +2,40 @@
 use Prim.Native.Nat.{ℕ, _*_, _≤_}
 use native.Mathlib.Omega.{arith}
 use mathlib.Core.Path.{_≡_, sym, ap, _∙_}
-use mathlib.Core.Bool.{Bool, true, false, not}
+use mathlib.Core.Bool.{Bool, true, false, not, and-false}
 use mathlib.Core.List.{List}
 use lib.ListN.{length, set, length-set}
 use lib.Seq.{sets, length-sets}
-use borrow.Author.Tests.{not-true, not-false}
+use lib.Dec.{leb, eqb}
+use borrow.Author.Tests.{not-true, not-false, eqb-true, lt-leb}
 use borrow.Author.Needs.{needs}
 use Rattle.limits.specs.Limits.{processorLimit}
 use Rattle.limits.specs.Sizes.{clockWidth}
 use Rattle.clock.specs.Clocks.{joined}
 use Rattle.rules.specs.Close.{closed}
-use Rattle.rules.specs.State.{mainframe, Processor, Barrier, Clocks, withArrived, State, withClocks, withMarks}
+use Rattle.rules.specs.InOrder.{present}
+use Rattle.rules.specs.State.{mainframe, Processor, Barrier, Clocks, withArrived, State, withClocks, withMarks, hasArrived}
 use Rattle.rules.specs.Steps.{learned, atBarrier, allArrived, roundDone, Fetches, arrive}
 use Rattle.rules.specs.Tables.{put}
-use Rattle.rules.proofs.Facts.{Within}
-use Rattle.rules.proofs.KeptBarrier.{round-parts}
+use Rattle.rules.proofs.KeptBarrier.{round-parts, waiting-parts}
+use Rattle.rules.proofs.Facts.{InOrder, Within}
 use Rattle.rules.proofs.KeptParts.{among-when, parts-of, in-order-of}
 use Rattle.memory.specs.Areas.{clockRow, arrivedPlace, clocksIn, stateIn}
 use Rattle.memory.specs.Layout.{rowOf}
-use Rattle.memory.specs.Needed.{Acts, Holds, MarksOf}
-use Rattle.memory.specs.Marks.{processorCount}
-use Rattle.memory.proofs.MarkLaws.{processors-read, arrived-written}
-use Rattle.collecting.specs.Effects.{CountedAs}
-use Rattle.locking.specs.Needed.{TwoRows}
-use Rattle.locking.proofs.Acting.{can-close, processor-within}
-use Rattle.locking.proofs.Learning.{learned-clock}
-use Rattle.barrier.specs.Needed.{RoundComplete, MarksThere}
-use Rattle.barrier.specs.Effects.{ArrivedAll, completed}
+use Rattle.memory.specs.Needed.{Acts, Ready, Holds, MarksOf}
+use Rattle.memory.specs.Marks.{processorCount, arrivedMark}
+use Rattle.memory.proofs.MarkLaws.{processors-read, arrived-read, arrived-written}
+use Rattle.index.specs.Index.{IndexKept}
+use Rattle.index.proofs.Kept.{bounds-stay, kept-while-standing}
+use Rattle.index.proofs.Standing.{StillStand, at-barrier-stand, round-done-stand}
+use Rattle.collecting.specs.Effects.{CountedAs, CountedKept}
+use Rattle.memory.specs.Needed.{TwoRows}
+use Rattle.memory.proofs.Learning.{learned-clock}
+use Rattle.memory.proofs.Rows.{acting-within}
+use Rattle.barrier.specs.Needed.{Arrives, ArrivesKept, AbsentAway, RoundComplete, CompleteKept}
+use Rattle.barrier.specs.Effects.{OneMissing, RoundDone, completed}
+use Rattle.barrier.proofs.Completing.{round-ready}
+use Rattle.barrier.proofs.Counting.{last-arrives}
 
 -- ---- at the barrier
 
@@ -39,18 +46,18 @@ marked s k p = withMarks (withClocks s k) (withArrived (s .marks) (put 0 (s .mar
 module _ (c w r m : List ℕ) (p : ℕ) (a : Acts c w r m p) (c₁ r₁ m₁ : List ℕ) (h : Holds c₁ w r₁ m₁ (closed (stateIn mainframe c w r m) p)) where
   -- the processor's mark has its place
   pub arrived-there : MarksOf m₁ p
-  arrived-there = record { marks = h .lent .marks; from = a .from; to = processor-within c w r m p a }
+  arrived-there = record { marks = h .lent .marks; from = a .from; to = acting-within c w r m p a }
 
   -- the barrier's clock and the processor's have their rows
   pub barrier-rows : TwoRows c₁ 0 p
-  barrier-rows = record { clocks = h .lent .clocks; to-there = omega arith; from-there = omega (arith, processor-within c w r m p a) }
+  barrier-rows = record { clocks = h .lent .clocks; to-there = omega arith; from-there = omega (arith, acting-within c w r m p a) }
 
   -- the barrier's clock has joined the processor's, and the processor is marked
   pub at-barrier : (c₂ m₂ : List ℕ) → c₂ ≡ sets c₁ (clockWidth * 0) (joined (rowOf clockWidth c₁ 0) (rowOf clockWidth c₁ p))
       → m₂ ≡ set m₁ (arrivedPlace mainframe p) 1 → Holds c₂ w r₁ m₂ (atBarrier (stateIn mainframe c w r m) p)
   unfolding atBarrier marked stateIn clockRow mainframe Within
   at-barrier c₂ m₂ e em =
-      let d : p ≤ processorLimit = processor-within c w r m p a in
+      let d : p ≤ processorLimit = acting-within c w r m p a in
       let f : Clocks → Clocks = λ k. learned k Barrier (Processor p) in
       record {
         lent =
@@ -78,60 +85,105 @@ arrive-completes : (s : State) (p : ℕ) → allArrived (atBarrier s p) ≡ true
 unfolding arrive completed
 arrive-completes s p e = rw e
 
-module _ (c w r m : List ℕ) (p : ℕ) (a : Acts c w r m p) (c₁ r₁ m₁ : List ℕ) (h : Holds c₁ w r₁ m₁ (atBarrier (stateIn mainframe c w r m) p)) where
-  same-processors : processorCount m₁ ≡ stateIn mainframe c w r m .counts .processors
-  unfolding atBarrier closed
-  same-processors = sym (processors-read c₁ w r₁ m₁) ∙ ap (λ (s : State). s .counts .processors) (h .is)
+module _ (c w r m : List ℕ) (p : ℕ) (x : List ℕ) (k : ArrivesKept c w r m p x) where
+  abbrev a : Arrives c w r m p
+  a = k .arrives
 
-  few-processors : processorCount m₁ ≤ processorLimit
-  unfolding mainframe
-  few-processors = omega (arith, same-processors, a .in-order .processors-fit)
+  abbrev s : State
+  s = stateIn mainframe c w r m
 
-  -- every processor has its mark
-  pub all-marks-there : MarksThere m₁
-  all-marks-there = record { marks = h .lent .marks; few = few-processors }
+  -- the processor acts
+  pub arrival-acts : Acts c w r m p
+  arrival-acts = a .acts
 
-  -- the round can be completed
-  pub round-complete : RoundComplete c₁ w r₁ m₁
-  round-complete =
-      let s : State = stateIn mainframe c w r m in
+  -- no absent processor has arrived
+  pub absent-away : AbsentAway m
+  unfolding mainframe stateIn hasArrived present
+  absent-away =
+      let o = a .acts .in-order in
       record {
-        lent = h .lent;
-        few = few-processors;
-        in-order =
-            rw (h .is)
-            (in-order-of mainframe (roundDone (atBarrier s p)) (round-parts mainframe s p (parts-of mainframe s (a .in-order)) (among-when (s .counts) p (a .from) (a .to))));
+        marks = a .acts .lent .marks;
+        few = o .processors-fit;
+        absent =
+            record {
+              away =
+                  λ q h k.
+                  eqb-true (arrivedMark m q) 0
+                  (not-false (eqb (arrivedMark m q) 0)
+                  (ap (λ (x : ℕ). not (eqb x 0)) (sym (arrived-read c w r m q (omega arith) k))
+                  ∙ o .absent-not-arrived q (omega arith) (rw (lt-leb q (processorCount m) h) (and-false (leb 1 q)))));
+            };
       }
 
-  module _ (b : Bool) (is : ArrivedAll m₁ b) where
-    answer-is : b ≡ allArrived (atBarrier (stateIn mainframe c w r m) p)
-    answer-is = is .is c₁ w r₁ ∙ ap (λ (s : State). allArrived s) (h .is)
+  ready : Ready c w r m
+  ready = record { lent = a .acts .lent; in-order = a .acts .in-order }
 
-    module _ (no-round : not b ≡ true) where
-      waiting : arrive mainframe (stateIn mainframe c w r m) p ≡ record { after = atBarrier (stateIn mainframe c w r m) p; count = 0 }
-      waiting = arrive-waits (stateIn mainframe c w r m) p (sym answer-is ∙ not-true b no-round)
+  module _ (c₁ r₁ m₁ : List ℕ) (h : Holds c₁ w r₁ m₁ (atBarrier (stateIn mainframe c w r m) p)) where
+    same-processors : processorCount m₁ ≡ s .counts .processors
+    unfolding atBarrier closed
+    same-processors = sym (processors-read c₁ w r₁ m₁) ∙ ap (λ (t : State). t .counts .processors) (h .is)
 
-      -- others are awaited
-      pub waits-done : CountedAs (arrive mainframe (stateIn mainframe c w r m) p) 0 c₁ w r₁ m₁
-      waits-done =
+    round : RoundComplete c₁ w r₁ m₁
+    unfolding mainframe
+    round =
+        record {
+          lent = h .lent;
+          few = omega (arith, same-processors, a .acts .in-order .processors-fit);
+          in-order =
+              rw (h .is)
+              (in-order-of mainframe (roundDone (atBarrier s p)) (round-parts mainframe s p (parts-of mainframe s (a .acts .in-order)) (among-when (s .counts) p (a .acts .from) (a .acts .to))));
+        }
+
+    -- the round can be completed, and then what stood stands
+    pub round-complete : CompleteKept c₁ w r₁ m₁ x
+    unfolding roundDone atBarrier closed
+    round-complete =
+        record {
+          complete = round;
+          kept =
+              λ c₂ m₂ d.
+              let is : stateIn mainframe c₂ w r₁ m₂ ≡ roundDone (atBarrier s p) = d .is w r₁ ∙ ap (λ (t : State). roundDone t) (h .is) in
+              kept-while-standing c w r m c₂ w r₁ m₂ ready (round-ready c₁ w r₁ m₁ c₂ m₂ round d) (rw is (round-done-stand mainframe s p (a .acts .in-order))) x
+              (bounds-stay c w r m c₂ w r₁ m₂ (ap (λ (t : State). t .counts) is)) (k .kept);
+        }
+
+    module _ (b : Bool) (one : OneMissing m b) where
+      answer-is : b ≡ allArrived (atBarrier s p)
+      unfolding allArrived hasArrived stateIn
+      answer-is = one .is c w r ∙ last-arrives s p (a .acts .from) (a .acts .to) (a .not-arrived)
+
+      -- others are awaited, and what stood stands
+      pub not-the-last : not b ≡ true → CountedKept (arrive mainframe (stateIn mainframe c w r m) p) 0 c₁ w r₁ m₁ x
+      unfolding atBarrier closed
+      not-the-last z =
+          let missing : allArrived (atBarrier s p) ≡ false = sym answer-is ∙ not-true b z in
+          let waiting : arrive mainframe s p ≡ record { after = atBarrier s p; count = 0 } = arrive-waits s p missing in
+          let order : InOrder mainframe (atBarrier s p) =
+          in-order-of mainframe (atBarrier s p) (waiting-parts mainframe s p (parts-of mainframe s (a .acts .in-order)) (among-when (s .counts) p (a .acts .from) (a .acts .to)) missing) in
           record {
-            applied = ap (λ (f : Fetches). f .count) (sym waiting);
-            areas = record { lent = h .lent; is = h .is ∙ ap (λ (f : Fetches). f .after) (sym waiting) };
+            counted =
+                record {
+                  applied = ap (λ (f : Fetches). f .count) (sym waiting);
+                  areas = record { lent = h .lent; is = h .is ∙ ap (λ (f : Fetches). f .after) (sym waiting) };
+                };
+            kept =
+                kept-while-standing c w r m c₁ w r₁ m₁ ready (record { lent = h .lent; in-order = rw (h .is) order }) (rw (h .is) (at-barrier-stand mainframe s p (a .acts .in-order))) x
+                (bounds-stay c w r m c₁ w r₁ m₁ (ap (λ (t : State). t .counts) (h .is))) (k .kept);
           }
 
-    module _ (round : not b ≡ false) where
-      completing : completed (stateIn mainframe c₁ w r₁ m₁) ≡ arrive mainframe (stateIn mainframe c w r m) p
-      completing =
-          ap (λ (s : State). completed s) (h .is)
-          ∙ sym (arrive-completes (stateIn mainframe c w r m) p (sym answer-is ∙ not-false b round))
-
-      -- the round is completed
-      pub completes-done : (x : ℕ) (c₂ w₂ m₂ : List ℕ) → CountedAs (completed (stateIn mainframe c₁ w r₁ m₁)) x c₂ w₂ r₁ m₂
-          → CountedAs (arrive mainframe (stateIn mainframe c w r m) p) x c₂ w₂ r₁ m₂
-      completes-done x c₂ w₂ m₂ e =
+      -- the last completes the round
+      pub last-completes : (n : ℕ) (c₂ w₂ m₂ x₂ : List ℕ) → not b ≡ false → CountedKept (completed (stateIn mainframe c₁ w r₁ m₁)) n c₂ w₂ r₁ m₂ x₂
+          → CountedKept (arrive mainframe (stateIn mainframe c w r m) p) n c₂ w₂ r₁ m₂ x₂
+      last-completes n c₂ w₂ m₂ x₂ z e =
+          let completing : completed (stateIn mainframe c₁ w r₁ m₁) ≡ arrive mainframe s p =
+          ap (λ (t : State). completed t) (h .is) ∙ sym (arrive-completes s p (sym answer-is ∙ not-false b z)) in
           record {
-            applied = e .applied ∙ ap (λ (f : Fetches). f .count) completing;
-            areas = record { lent = e .areas .lent; is = e .areas .is ∙ ap (λ (f : Fetches). f .after) completing };
+            counted =
+                record {
+                  applied = e .counted .applied ∙ ap (λ (f : Fetches). f .count) completing;
+                  areas = record { lent = e .counted .areas .lent; is = e .counted .areas .is ∙ ap (λ (f : Fetches). f .after) completing };
+                };
+            kept = e .kept;
           }
 
-pub ruleset act-laws = (can-close, arrived-there, barrier-rows, at-barrier, all-marks-there, round-complete, waits-done, completes-done, needs)
+pub ruleset act-laws = (arrived-there, barrier-rows, at-barrier, arrival-acts, absent-away, round-complete, not-the-last, last-completes, needs)

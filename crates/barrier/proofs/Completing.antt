@@ -3,17 +3,20 @@ use Prim.Native.Nat.{ℕ}
 use mathlib.Core.Path.{_≡_, sym, ap, _∙_}
 use mathlib.Core.Bool.{Bool, true, false, not}
 use mathlib.Core.List.{List}
+use lib.ListN.{length}
 use lib.Dec.{eqb}
 use borrow.Author.Tests.{not-true, not-false}
 use borrow.Author.Needs.{needs}
+use Rattle.limits.specs.Sizes.{markArea}
 use Rattle.rules.specs.State.{mainframe, State}
 use Rattle.rules.specs.Steps.{roundDone, Fetches, collected, wantsCollection}
 use Rattle.memory.specs.Areas.{stateIn}
 use Rattle.memory.specs.Needed.{Lent, Ready}
 use Rattle.memory.specs.Marks.{wishMark}
 use Rattle.memory.proofs.MarkLaws.{wanted-read}
-use Rattle.collecting.specs.Effects.{CountedAs}
-use Rattle.barrier.specs.Needed.{RoundComplete, RoundThere}
+use Rattle.collecting.specs.Needed.{ReadyKept}
+use Rattle.collecting.specs.Effects.{CountedAs, CountedKept}
+use Rattle.barrier.specs.Needed.{RoundComplete, CompleteKept, RoundThere}
 use Rattle.barrier.specs.Effects.{RoundDone, completed}
 
 completed-plain : (s : State) → wantsCollection s ≡ false → completed s ≡ record { after = roundDone s; count = 0 }
@@ -25,8 +28,8 @@ unfolding completed
 completed-collects s e = rw e
 
 -- the clocks and marks of the round
-pub round-there : (c w r m : List ℕ) → RoundComplete c w r m → RoundThere c m
-round-there c w r m h = record { clocks = h .lent .clocks; marks = h .lent .marks; few = h .few }
+pub round-there : (c w r m x : List ℕ) → CompleteKept c w r m x → RoundThere c m
+round-there c w r m x h = record { clocks = h .complete .lent .clocks; marks = h .complete .lent .marks; few = h .complete .few }
 
 module _ (c w r m c₁ m₁ : List ℕ) (h : RoundComplete c w r m) (d : RoundDone c m c₁ m₁) where
   lent-after : Lent c₁ w r m₁
@@ -49,7 +52,7 @@ module _ (c w r m c₁ m₁ : List ℕ) (h : RoundComplete c w r m) (d : RoundDo
         ap (λ (s : State). collected mainframe s) (d .is w r) ∙ sym (completed-collects (stateIn mainframe c w r m) (sym wish-is ∙ e))
 
     -- nothing is collected
-    pub plain-done : not b ≡ true → CountedAs (completed (stateIn mainframe c w r m)) 0 c₁ w r m₁
+    plain-done : not b ≡ true → CountedAs (completed (stateIn mainframe c w r m)) 0 c₁ w r m₁
     plain-done e =
         let none-wanted = plain (not-true b e) in
         record {
@@ -58,7 +61,7 @@ module _ (c w r m c₁ m₁ : List ℕ) (h : RoundComplete c w r m) (d : RoundDo
         }
 
     -- garbage is collected
-    pub collecting-done : (x : ℕ) (c₂ w₂ m₂ : List ℕ) → not b ≡ false → CountedAs (collected mainframe (stateIn mainframe c₁ w r m₁)) x c₂ w₂ r m₂
+    collecting-done : (x : ℕ) (c₂ w₂ m₂ : List ℕ) → not b ≡ false → CountedAs (collected mainframe (stateIn mainframe c₁ w r m₁)) x c₂ w₂ r m₂
         → CountedAs (completed (stateIn mainframe c w r m)) x c₂ w₂ r m₂
     collecting-done x c₂ w₂ m₂ t e =
         let wish = with-collection (not-false b t) in
@@ -67,4 +70,25 @@ module _ (c w r m c₁ m₁ : List ℕ) (h : RoundComplete c w r m) (d : RoundDo
           areas = record { lent = e .areas .lent; is = e .areas .is ∙ ap (λ (f : Fetches). f .after) wish };
         }
 
-pub ruleset complete-laws = (round-there, plain-done, round-ready, collecting-done, needs)
+-- ---- the same with the index
+
+module _ (c w r m x c₁ m₁ : List ℕ) (h : CompleteKept c w r m x) (d : RoundDone c m c₁ m₁) where
+  -- the wish is among the marks
+  pub wish-there : length m₁ ≡ markArea
+  wish-there = d .marks
+
+  -- the state is in order again
+  pub complete-ready : ReadyKept c₁ w r m₁ x
+  complete-ready = record { ready = round-ready c w r m c₁ m₁ (h .complete) d; kept = h .kept c₁ m₁ d }
+
+  module _ (b : Bool) (is : b ≡ not (eqb (wishMark m₁) 0)) where
+    -- nothing is collected
+    pub complete-plain : not b ≡ true → CountedKept (completed (stateIn mainframe c w r m)) 0 c₁ w r m₁ x
+    complete-plain e = record { counted = plain-done c w r m c₁ m₁ (h .complete) d b is e; kept = h .kept c₁ m₁ d }
+
+    -- garbage is collected
+    pub complete-collects : (n : ℕ) (c₂ w₂ m₂ x₂ : List ℕ) → not b ≡ false → CountedKept (collected mainframe (stateIn mainframe c₁ w r m₁)) n c₂ w₂ r m₂ x₂
+        → CountedKept (completed (stateIn mainframe c w r m)) n c₂ w₂ r m₂ x₂
+    complete-collects n c₂ w₂ m₂ x₂ t e = record { counted = collecting-done c w r m c₁ m₁ (h .complete) d b is n c₂ w₂ m₂ t (e .counted); kept = e .kept }
+
+pub ruleset complete-laws = (round-there, wish-there, complete-plain, complete-ready, complete-collects, needs)

@@ -16,8 +16,8 @@ use Rattle.rules.specs.Steps.{learned, allLearned}
 use Rattle.rules.proofs.Facts.{Within}
 use Rattle.memory.specs.Areas.{clockRow, clocksIn}
 use Rattle.memory.specs.Layout.{rowOf}
-use Rattle.locking.specs.Needed.{TwoRows}
-use Rattle.locking.proofs.Learning.{learned-clock}
+use Rattle.memory.specs.Needed.{TwoRows}
+use Rattle.memory.proofs.Learning.{learned-clock}
 use Rattle.barrier.specs.Needed.{ClocksOfFirst}
 use Rattle.barrier.specs.Effects.{HoldsClocks}
 

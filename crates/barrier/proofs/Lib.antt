@@ -1,4 +1,5 @@
 pub mod Learning
 pub mod Rounds
+pub mod Counting
 pub mod Completing
 pub mod Acting

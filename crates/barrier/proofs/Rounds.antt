@@ -1,4 +1,4 @@
--- The barrier's marks and what a completed round leaves; the wish for collection. One law for each way of the code, and
+-- What a completed round leaves; the wish for collection. One law for each way of the code, and
 -- `round-laws`. Assumes nothing.
 use Prim.Native.Nat.{ℕ, suc, _+_, _*_, _≤_, _<_}
 use native.Mathlib.Numerals.{add-one}
@@ -23,63 +23,8 @@ use Rattle.memory.specs.Marks.{processorCount, arrivedMark, wishMark}
 use Rattle.memory.proofs.ClockLaws.{clock-written}
 use Rattle.memory.proofs.MarkLaws.{processors-read, wanted-read, arrived-read, wanted-written, arrived-cleared}
 use Rattle.memory.proofs.RowLaws.{length-row, map-replicate}
-use Rattle.barrier.specs.Needed.{ClocksOfFirst, MarksThere, RoundThere}
-use Rattle.barrier.specs.Effects.{HoldsClocks, ArrivedAll, RoundDone, Wanted}
-
--- ---- whether all processors have arrived
-
--- one that has not arrived, and one that has
-pub still-missing : (b a : Bool) → a ≡ false → false ≡ (b && a)
-still-missing true a e = sym e
-still-missing false a e = refl
-
-pub still-here : (b a : Bool) → a ≡ true → b ≡ (b && a)
-still-here true a e = sym e
-still-here false a e = refl
-
--- b says whether the first k of n processors have arrived
-pub record Arriving (m : List ℕ) (n : ℕ) (b : Bool) (k : ℕ) : Type 0 where
-  pub marks : length m ≡ markArea
-  pub few : n ≤ processorLimit
-  pub count : n ≡ processorCount m
-  pub upto : k ≤ n
-  pub first : (c w r : List ℕ) → every k (λ j. hasArrived (stateIn mainframe c w r m) (suc j)) ≡ b
-
--- none was looked at yet
-pub arriving-begins : (m : List ℕ) (n : ℕ) → MarksThere m → n ≡ processorCount m → Arriving m n true 0
-unfolding every
-arriving-begins m n h e = record { marks = h .marks; few = omega (arith, h .few); count = e; upto = omega arith; first = λ c w r. refl }
-
--- the next has its mark
-pub arriving-there : (m : List ℕ) (n : ℕ) (b : Bool) (k : ℕ) → Arriving m n b k → k < n → MarksOf m (k + 1)
-arriving-there m n b k a h = record { marks = a .marks; from = omega arith; to = omega (arith, a .few) }
-
--- one more was looked at
-pub arriving-more : (m : List ℕ) (n : ℕ) (b x d : Bool) (k : ℕ) → Arriving m n b k → k < n → d ≡ (b && x) → x ≡ not (eqb (arrivedMark m (k + 1)) 0) → Arriving m n d (k + 1)
-unfolding every hasArrived
-arriving-more m n b x d k a h e ex =
-    record {
-      marks = a .marks;
-      few = a .few;
-      count = a .count;
-      upto = omega arith;
-      first =
-          λ c w r.
-          let one : hasArrived (stateIn mainframe c w r m) (suc k) ≡ x =
-          ap (λ (j : ℕ). not (eqb j 0)) (arrived-read c w r m (suc k) (omega arith) (omega (arith, a .few))) ∙ sym (rw (add-one k) at ex) in
-          rw (add-one k) (rw (a .first c w r, one, e));
-    }
-
--- all were
-pub arriving-ends : (m : List ℕ) (n : ℕ) (b : Bool) (k : ℕ) → Arriving m n b k → n ≤ k → ArrivedAll m b
-unfolding allArrived
-arriving-ends m n b k a h =
-    record {
-      is =
-          λ c w r.
-          let e : k ≡ stateIn mainframe c w r m .counts .processors = omega (arith, processors-read c w r m, a .count, a .upto) in
-          sym (ap (λ (j : ℕ). every j (λ i. hasArrived (stateIn mainframe c w r m) (suc i))) (sym e) ∙ a .first c w r);
-    }
+use Rattle.barrier.specs.Needed.{ClocksOfFirst, RoundThere}
+use Rattle.barrier.specs.Effects.{HoldsClocks, RoundDone, Wanted}
 
 -- ---- a completed round
 
@@ -142,4 +87,4 @@ module _ (m : List ℕ) (h : length m ≡ markArea) (b : Bool) (e : b ≡ not (e
   unfolding want
   wish-kept t = record { marks = h; is = λ c w r. rw (wish-read c w r, t) }
 
-pub ruleset round-laws = (still-missing, still-here, arriving-begins, arriving-there, arriving-more, arriving-ends, learners-there, barrier-row-there, round-done, wish-set, wish-kept, needs)
+pub ruleset round-laws = (learners-there, barrier-row-there, round-done, wish-set, wish-kept, needs)

@@ -12,7 +12,7 @@ ghost use Rattle.marktests.specs.Tests.{zeroAt};
 ghost use Rattle.marktests.specs.Needed.{PlacesThere};
 ghost use Rattle.recordtests.specs.Tests.{ownFits};
 ghost use Rattle.recordtests.specs.Needed.{OwnFit};
-ghost use Rattle.checking.specs.Areas.{areasInOrder};
+ghost use Rattle.checking.specs.Areas.{OrderIs};
 ghost use Rattle.checking.specs.Tests.{entryWithin, rowWithin, rowsHold, ownEntries, appliedHold, intervalsHold, clocksHoldWith, copiesHold, countsHold, areasHoldWith, areasHold};
 ghost use Rattle.checking.specs.Needed.{RowsThere, ClocksThere, ClocksOne, IntervalsOne, WordsOne, AreasThere};
 use limits::CLOCK_AREA;
@@ -44,7 +44,7 @@ use recordtests::records_hold;
 
 // Whether lent memory is in order: its areas have the fixed sizes, and the state that they hold is in order.
 pub fn in_order(clocks: &[u8], words: &[u32], records: &[u8], marks: &[u8]) -> bool
-    ensures { λ r. ⌜ r ≡ areasInOrder (now (clocks .entry)) (now (words .entry)) (now (records .entry)) (now (marks .entry)) ⌝ }
+    ensures { λ r. ⌜ OrderIs r (now (clocks .entry)) (now (words .entry)) (now (records .entry)) (now (marks .entry)) ⌝ }
 {
     if clocks.len() != CLOCK_AREA {
         return false;

@@ -17,10 +17,10 @@ use Rattle.rules.specs.Tables.{any}
 use Rattle.rules.proofs.Facts.{InOrder}
 use Rattle.rules.proofs.Space.{closing-finds-room}
 use Rattle.memory.specs.Areas.{recordsIn, stateIn, standingCount}
-use Rattle.memory.specs.Needed.{Holds}
+use Rattle.memory.specs.Needed.{Acts, Holds}
 use Rattle.memory.specs.Marks.{pageCount}
 use Rattle.closing.specs.Parts.{pageRecorded, allRecorded, PageChanged, AnyChanged}
-use Rattle.closing.specs.Needed.{Closable, Recordable}
+use Rattle.closing.specs.Needed.{Recordable}
 
 -- ---- every closing finds room
 
@@ -55,18 +55,18 @@ module _ (s : State) (p : ℕ) where
 
 -- the areas hold the state with the records of the pages below g, and b says whether one of them changed
 pub record RecordingPages (c w r₀ m₀ r m : List ℕ) (p n g : ℕ) (b : Bool) : Type 0 where
-  pub closable : Closable c w r₀ m₀ p
+  pub closable : Acts c w r₀ m₀ p
   pub pages : n ≡ pageCount m₀
   pub upto : g ≤ n
   pub holds : Holds c w r m (withRecords (stateIn mainframe c w r₀ m₀) (recorded (stateIn mainframe c w r₀ m₀) p g))
   pub found : b ≡ any g (changed (stateIn mainframe c w r₀ m₀) p)
 
 -- the number of pages is there
-pub page-count-place : (c w r m : List ℕ) (p : ℕ) → Closable c w r m p → 1 < length m
+pub page-count-place : (c w r m : List ℕ) (p : ℕ) → Acts c w r m p → 1 < length m
 page-count-place c w r m p h = omega (arith, h .lent .marks)
 
 -- before the first page
-pub recording-begins : (c w r m : List ℕ) (p n : ℕ) → Closable c w r m p → n ≡ pageCount m → RecordingPages c w r m r m p n 0 false
+pub recording-begins : (c w r m : List ℕ) (p n : ℕ) → Acts c w r m p → n ≡ pageCount m → RecordingPages c w r m r m p n 0 false
 unfolding recorded any
 recording-begins c w r m p n h e = record { closable = h; pages = e; upto = omega arith; holds = record { lent = h .lent; is = refl }; found = refl }
 

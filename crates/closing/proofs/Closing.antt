@@ -16,14 +16,14 @@ use Rattle.rules.specs.State.{mainframe, State, withClocks, withPages, clock, o
 use Rattle.rules.proofs.Facts.{InOrder}
 use Rattle.rules.proofs.Space.{closing-finds-room}
 use Rattle.memory.specs.Areas.{dirtyPlace, stateIn}
-use Rattle.memory.specs.Needed.{MarksOf, Holds}
+use Rattle.memory.specs.Needed.{Acts, MarksOf, Holds}
 use Rattle.memory.proofs.MarkLaws.{dirty-marks-cleared}
 use Rattle.closing.specs.Parts.{allRecorded, AnyChanged, Ticked}
-use Rattle.closing.specs.Needed.{Closable, Tickable}
+use Rattle.closing.specs.Needed.{Tickable}
 
 -- ---- all of closing
 
-module _ (c w r m : List ℕ) (p : ℕ) (ready : Closable c w r m p) where
+module _ (c w r m : List ℕ) (p : ℕ) (ready : Acts c w r m p) where
   few-processors : InOrder mainframe (stateIn mainframe c w r m) → stateIn mainframe c w r m .counts .processors ≤ processorLimit
   unfolding mainframe
   few-processors f = f .processors-fit

@@ -20,10 +20,9 @@ use Rattle.rules.proofs.Facts.{InOrder}
 use Rattle.rules.proofs.Tables.{any-holds, put-within}
 use Rattle.memory.specs.Areas.{dirtyPlace, pagesIn, stateIn}
 use Rattle.memory.proofs.PageLaws.{dirty-read}
-use Rattle.memory.specs.Needed.{MarksOf, Holds}
+use Rattle.memory.specs.Needed.{Acts, MarksOf, Holds}
 use Rattle.memory.proofs.MarkFunctions.{first-on-page, last-dirty-there}
 use Rattle.closing.specs.Parts.{AnyDirty}
-use Rattle.closing.specs.Needed.{Closable}
 
 -- ---- the marks of a processor, one by one
 
@@ -119,7 +118,7 @@ module _ (s : State) (p : ℕ) where
 
 -- ---- closing
 
-module _ (c w r m : List ℕ) (p : ℕ) (ready : Closable c w r m p) where
+module _ (c w r m : List ℕ) (p : ℕ) (ready : Acts c w r m p) where
   on-machine : p ≤ mainframe .processors
   on-machine = omega (arith, ready .to, ready .in-order .processors-fit)
 

@@ -9,16 +9,8 @@ use Rattle.limits.specs.Sizes.{clockArea, diffLimit, markArea, recordArea, slot
 use Rattle.clock.specs.Clocks.{entryOf}
 use Rattle.rules.specs.State.{mainframe, own}
 use Rattle.rules.specs.Close.{changed}
-use Rattle.rules.proofs.Facts.{InOrder}
 use Rattle.memory.specs.Areas.{stateIn, standingCount}
 use Rattle.memory.specs.Needed.{Lent}
-
--- the areas have their sizes, the state in them is in order, and p is one of its processors
-pub record Closable (c w r m : List ℕ) (p : ℕ) : Type 0 where
-  pub lent : Lent c w r m
-  pub in-order : InOrder mainframe (stateIn mainframe c w r m)
-  pub from : 1 ≤ p
-  pub to : p ≤ stateIn mainframe c w r m .counts .processors
 
 -- page g of p can be recorded: it has its place, and if it changed there is an interval number and a slot for it
 pub record Recordable (c w r m : List ℕ) (p g : ℕ) : Type 0 where

@@ -14,9 +14,9 @@ ghost use Rattle.rules.specs.State.{mainframe, slotBytes};
 ghost use Rattle.rules.specs.Close.{differ, raised, closed};
 ghost use Rattle.memory.specs.Layout.{rowOf};
 ghost use Rattle.memory.specs.Areas.{stateIn};
-ghost use Rattle.memory.specs.Needed.{RowThere, MarksOf, Holds};
+ghost use Rattle.memory.specs.Needed.{Acts, RowThere, MarksOf, Holds};
 ghost use Rattle.closing.specs.Parts.{recordOf, pageRecord, oneMore, pageRecorded, allRecorded, PageChanged, AnyChanged, AnyDirty, Ticked};
-ghost use Rattle.closing.specs.Needed.{Closable, Recordable, Appendable, PageThere, SlotThere, RecordFits, SlotFits, DiffFits, Raisable, Tickable};
+ghost use Rattle.closing.specs.Needed.{Recordable, Appendable, PageThere, SlotThere, RecordFits, SlotFits, DiffFits, Raisable, Tickable};
 use clock::Clock;
 use clock::IntervalId;
 use clock::PageId;
@@ -43,7 +43,7 @@ use writer::Written;
 // Closes the interval of a processor: for each page that changed one record, if there is one the clock of the interval, and clean pages.
 // A processor without a dirty page has nothing to close.
 pub fn close(p: ProcessorId, clocks: &mut [u8], words: &[u32], records: &mut [u8], marks: &mut [u8])
-    requires { ⌜ Closable (now clocks) (now words) (now records) (now marks) (p .0) ⌝ }
+    requires { ⌜ Acts (now clocks) (now words) (now records) (now marks) (p .0) ⌝ }
     ensures { λ _. ⌜ Holds (now (clocks .exit)) (now (words .entry)) (now (records .exit)) (now (marks .exit)) (closed (stateIn mainframe (now (clocks .entry)) (now (words .entry)) (now (records .entry)) (now (marks .entry))) (p .0)) ⌝ }
 {
     if any_dirty(p, marks) {
@@ -81,7 +81,7 @@ fn close_dirty(
     records: &mut [u8],
     marks: &mut [u8],
 )
-    requires { ⌜ Closable (now clocks) (now words) (now records) (now marks) (p .0) ⌝ }
+    requires { ⌜ Acts (now clocks) (now words) (now records) (now marks) (p .0) ⌝ }
     ensures { λ _. ⌜ Holds (now (clocks .exit)) (now (words .entry)) (now (records .exit)) (now (marks .exit)) (closed (stateIn mainframe (now (clocks .entry)) (now (words .entry)) (now (records .entry)) (now (marks .entry))) (p .0)) ⌝ }
 {
     let any = record_pages(p, clocks, words, records, marks);
@@ -99,7 +99,7 @@ fn record_pages(
     records: &mut [u8],
     marks: &mut [u8],
 ) -> bool
-    requires { ⌜ Closable (now clocks) (now words) (now records) (now marks) (p .0) ⌝ }
+    requires { ⌜ Acts (now clocks) (now words) (now records) (now marks) (p .0) ⌝ }
     ensures { λ r. ⌜ AnyChanged (stateIn mainframe (now (clocks .entry)) (now (words .entry)) (now (records .entry)) (now (marks .entry))) (p .0) r ⌝ }
     ensures { λ r. ⌜ Holds (now (clocks .entry)) (now (words .entry)) (now (records .exit)) (now (marks .exit)) (allRecorded (stateIn mainframe (now (clocks .entry)) (now (words .entry)) (now (records .entry)) (now (marks .entry))) (p .0)) ⌝ }
 {

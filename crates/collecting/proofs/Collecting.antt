@@ -1,200 +1,232 @@
--- Every page fetched for every processor, record by record: one law for each way of the code, and `fetches-laws`. Rests on Agreeing. Assumes
--- nothing.
-use Prim.Native.Nat.{ℕ, _+_, _-_, _*_, _≤_, _<_}
+-- Every page fetched for every processor: one law for each way of the code, and `fetches-laws`. Assumes nothing.
+use Prim.Native.Nat.{ℕ, zero, suc, _+_, _*_, _≤_, _<_}
 use native.Mathlib.Numerals.{add-one}
 use native.Mathlib.Omega.{arith}
-use mathlib.Core.Path.{_≡_, sym, ap, _∙_}
+use mathlib.Core.Path.{_≡_, refl, sym, ap, ap₂, _∙_}
 use mathlib.Core.List.{List}
-use lib.ListN.{length, getD, take, drop}
-use mir.Syntax.{w32, w64}
+use lib.ListN.{length}
+use mir.Syntax.{w32}
 use mir.Val.{Fits}
 use borrow.Author.Needs.{needs}
 use Rattle.limits.specs.Limits.{pageLimit, processorLimit, recordLimit}
-use Rattle.limits.specs.Sizes.{markArea, rankArea, wordRowLimit}
-use Rattle.rules.specs.State.{mainframe, Record, State}
-use Rattle.rules.specs.Steps.{Fetches, allFetched}
-use Rattle.rules.proofs.Selected.{Each, each-map}
-use Rattle.memory.specs.Areas.{stateIn, standingCount}
-use Rattle.memory.specs.Layout.{rowOf}
-use Rattle.memory.specs.Needed.{Ready}
+use Rattle.limits.specs.Sizes.{keyArea, markArea}
+use Rattle.rules.specs.Fetch.{fetched, fetchCount}
+use Rattle.rules.specs.State.{mainframe, Counts, State}
+use Rattle.rules.specs.Steps.{Fetches, pagesFetched, allFetched}
+use Rattle.rules.proofs.Facts.{InOrder}
+use Rattle.rules.proofs.KeptFetch.{fetched-parts}
+use Rattle.rules.proofs.KeptParts.{among-when, Parts, parts-of, in-order-of}
+use Rattle.memory.specs.Areas.{stateIn}
 use Rattle.memory.specs.Marks.{pageCount, processorCount}
+use Rattle.memory.specs.Needed.{Ready}
 use Rattle.memory.proofs.MarkLaws.{processors-read, pages-read}
-use Rattle.ranking.specs.Needed.{PickThere, FetchableRanked}
-use Rattle.ranking.proofs.News.{ranked-there}
-use Rattle.spreading.specs.Spread.{allBelow, numbersTo, Spread}
-use Rattle.spreading.specs.Needed.{NumberThere, PageSpreadable}
-use Rattle.spreading.proofs.Spreading.{spread-none, spread-then, spread-words, spread-count}
-use Rattle.collecting.specs.Needed.{PagesRanked, RowSpreadable}
-use Rattle.collecting.specs.Spreads.{pageTo, pagesTo}
-use Rattle.collecting.specs.Effects.{CountedAs}
-use Rattle.collecting.proofs.Settling.{settledAll, length-settled-all}
-use Rattle.collecting.proofs.Order.{allFetchedTo, AllReached, all-reached}
-use Rattle.collecting.proofs.Agreeing.{row-fetchable, rows-agree}
+use Rattle.index.specs.Index.{IndexKept}
+use Rattle.fetching.specs.Needed.{Fetchable, FetchableKept, BroughtKept}
+use Rattle.fetching.proofs.Fetching.{fetch-few}
+use Rattle.collecting.specs.Needed.{ReadyKept, ProcessorFetches}
+use Rattle.collecting.specs.Effects.{CountedKept}
 
--- ---- spread_row
+-- ---- a fetch keeps order
 
-module _ (c w r l counts : List ℕ) (g n : ℕ) (h : RowSpreadable c w r l counts g n) where
-  -- the page has a count
-  pub row-counted : g < length counts
-  row-counted = omega (arith, h .pages, h .row .page)
+fetched-in-order : (s : State) (p g : ℕ) → InOrder mainframe s → 1 ≤ p → p ≤ s .counts .processors → g < s .counts .pages → InOrder mainframe (fetched mainframe s p g)
+fetched-in-order s p g o h k l =
+    let f : Parts mainframe s = parts-of mainframe s o in
+    in-order-of mainframe (fetched mainframe s p g)
+    (fetched-parts mainframe s p g f (record { counts = f .counts; processor = among-when (s .counts) p h k; page = l }))
 
-  -- the places of its row are numbers of a machine word, in words and in bytes
-  pub row-from-fits : Fits w64 (recordLimit * g)
-  row-from-fits = omega (arith, h .row .page)
+-- so do those of one processor, and the counts stay
+pages-kept : (s : State) (p n : ℕ) → InOrder mainframe s → 1 ≤ p → p ≤ s .counts .processors → n ≤ s .counts .pages
+    → InOrder mainframe (pagesFetched mainframe s p n .after) × (pagesFetched mainframe s p n .after .counts ≡ s .counts)
+unfolding pagesFetched fetched
+pages-kept s p zero o h k l = (o, refl)
+pages-kept s p (suc g) o h k l =
+    let q = pages-kept s p g o h k (omega arith) in
+    let f : State = pagesFetched mainframe s p g .after in
+    let processors : f .counts .processors ≡ s .counts .processors = ap (λ (n : Counts). n .processors) (q .1) in
+    let pages : f .counts .pages ≡ s .counts .pages = ap (λ (n : Counts). n .pages) (q .1) in
+    (fetched-in-order f p g (q .0) h (omega (arith, processors)) (omega (arith, pages)), q .1)
 
-  pub row-to-fits : Fits w64 (recordLimit * g + recordLimit)
-  row-to-fits = omega (arith, h .row .page)
+-- areas with the same marks hold states with the same counts
+same-counts : (c c′ w w′ r r′ m : List ℕ) → stateIn mainframe c′ w′ r′ m .counts ≡ stateIn mainframe c w r m .counts
+unfolding stateIn
+same-counts c c′ w w′ r r′ m = refl
 
-  pub row-bytes-fit : Fits w64 (recordLimit * g * 4)
-  row-bytes-fit = omega (arith, h .row .page)
+-- ---- fetch_pages
 
-  -- its row lies within the ranks
-  pub row-within : recordLimit * g + recordLimit ≤ length l
-  row-within = omega (arith, h .whole, h .row .page)
+-- processor p has fetched the first g pages
+pub record PagesFetching (c₀ w₀ r m : List ℕ) (p n : ℕ) (c w x : List ℕ) (count g : ℕ) : Type 0 where
+  pub ready : Ready c w r m
+  pub kept : IndexKept c r m x
+  pub from : 1 ≤ p
+  pub to : p ≤ stateIn mainframe c w r m .counts .processors
+  pub pages : n ≡ stateIn mainframe c w r m .counts .pages
+  pub few-pages : n ≤ pageLimit
+  pub upto : g ≤ n
+  pub holds : stateIn mainframe c w r m ≡ pagesFetched mainframe (stateIn mainframe c₀ w₀ r m) p g .after
+  pub counted : count ≡ pagesFetched mainframe (stateIn mainframe c₀ w₀ r m) p g .count
+  pub few : count ≤ recordLimit * g
 
-  row-is : take (recordLimit * g + recordLimit - recordLimit * g) (drop (recordLimit * g) l) ≡ rowOf recordLimit l g
-  unfolding rowOf
-  row-is = let d : recordLimit * g + recordLimit - recordLimit * g ≡ recordLimit = omega arith in ap (λ (j : ℕ). take j (drop (recordLimit * g) l)) d
+module _ (c w r m : List ℕ) (p : ℕ) (x : List ℕ) (h : ProcessorFetches c w r m p x) where
+  -- the marks have their size
+  pub pages-marks : length m ≡ markArea
+  pages-marks = h .ready .lent .marks
 
-  -- its records can be laid
-  pub row-spreadable : (k : ℕ) → k ≡ getD counts g 0 → PageSpreadable c w r g (take (recordLimit * g + recordLimit - recordLimit * g) (drop (recordLimit * g) l)) k n
-  row-spreadable k e = rw (e, row-is) (h .row)
-
-  -- and then each row has what it gets of them
-  pub row-spread : (k count : ℕ) (w′ : List ℕ) → k ≡ getD counts g 0
-      → Spread w w′ (numbersTo c r n g (take k (take (recordLimit * g + recordLimit - recordLimit * g) (drop (recordLimit * g) l)))) count → Spread w w′ (pageTo c r l counts n g) count
-  unfolding pageTo
-  row-spread k count w′ e s = rw (e, row-is) at s
-
--- ---- spread_pages: the records of the first g pages are laid
-
-pub record PagesSpreading (c w₀ w r m l counts : List ℕ) (n pages g count : ℕ) : Type 0 where
-  pub ready : Ready c w₀ r m
-  pub ranked : PagesRanked c r m l counts
-  pub processors-are : n ≡ processorCount m
-  pub pages-are : pages ≡ pageCount m
-  pub upto : g ≤ pages
-  pub few : count ≤ rankArea * g
-  pub spread : Spread w₀ w (pagesTo c r l counts n g) count
-
-module _ (c w r m : List ℕ) (a : Ready c w r m) where
-  -- the counts of processors and pages are among the marks
-  pub counts-there : length m ≡ markArea
-  counts-there = a .lent .marks
-
-  -- none is laid
-  pub spreading-begins : (l counts : List ℕ) (n pages : ℕ) → PagesRanked c r m l counts → n ≡ processorCount m → pages ≡ pageCount m
-      → PagesSpreading c w w r m l counts n pages 0 0
-  unfolding pagesTo allBelow
-  spreading-begins l counts n pages k en ep =
-      record { ready = a; ranked = k; processors-are = en; pages-are = ep; upto = omega arith; few = omega arith; spread = spread-none w (a .lent .words) }
-
-module _ (c w₀ w r m l counts : List ℕ) (n pages g count : ℕ) (t : PagesSpreading c w₀ w r m l counts n pages g count) where
-  -- there are at most eight processors and pages
-  processors-few : n ≤ processorLimit
-  unfolding mainframe
-  processors-few = omega (arith, t .processors-are, processors-read c w₀ r m, t .ready .in-order .processors-fit)
-
-  pages-few : pages ≤ pageLimit
-  unfolding mainframe
-  pages-few = omega (arith, t .pages-are, pages-read c w₀ r m, t .ready .in-order .pages-fit)
-
-  -- the next page's records can be laid
-  pub spreading-there : g < pages → RowSpreadable c w r l counts g n
-  spreading-there h =
+  -- no page is fetched yet
+  pub pages-begin : (n : ℕ) → (n ≡ pageCount m) × (n < 256) → PagesFetching c w r m p n c w x 0 0
+  unfolding pagesFetched mainframe
+  pages-begin n e =
+      let is : n ≡ stateIn mainframe c w r m .counts .pages = e .0 ∙ sym (pages-read c w r m) in
       record {
-        whole = t .ranked .whole;
-        pages = t .ranked .pages;
-        row =
-            record {
-              clocks = t .ready .lent .clocks;
-              words = t .spread .words;
-              page = omega (arith, h, pages-few);
-              few = processors-few;
-              within = from-row .within;
-              short = t .ranked .few g (omega (arith, h, pages-few));
-              numbers = each-map (λ x. PickThere r x w₀ 1 g) (λ x. NumberThere r x) (take (getD counts g 0) (rowOf recordLimit l g)) (λ x e. there x e) first;
-            };
+        ready = h .ready;
+        kept = h .kept;
+        from = h .from;
+        to = h .to;
+        pages = is;
+        few-pages = omega (arith, is, h .ready .in-order .pages-fit);
+        upto = omega arith;
+        holds = refl;
+        counted = refl;
+        few = omega arith;
       }
-    where
-      from-row : FetchableRanked c w₀ r m 1 g (rowOf recordLimit l g) (getD counts g 0)
-      from-row =
-          row-fetchable c w₀ r m l counts (t .ready) (t .ranked) 1 g (omega arith) (omega (arith, processors-read c w₀ r m, t .ready .in-order .some-processor)) (omega (arith, h, t .pages-are))
 
-      first : Each (λ x. PickThere r x w₀ 1 g) (take (getD counts g 0) (rowOf recordLimit l g))
-      first = ranked-there c w₀ r m 1 g (rowOf recordLimit l g) (getD counts g 0) from-row
+module _ (c₀ w₀ r m : List ℕ) (p n : ℕ) (c w x : List ℕ) (count g : ℕ) (t : PagesFetching c₀ w₀ r m p n c w x count g) where
+  page-fetchable : g < n → Fetchable c w r m p g
+  page-fetchable b =
+      record {
+        lent = t .ready .lent;
+        in-order = t .ready .in-order;
+        some-processor = t .from;
+        processor-present = t .to;
+        page-present = omega (arith, b, t .pages);
+      }
 
-      there : (x : ℕ) → PickThere r x w₀ 1 g → NumberThere r x
-      there x e = record { named = e .named; within = e .due .there .within; diff-fits = e .due .there .diff-fits; legal = e .due .there .legal }
+  -- the next page can be fetched
+  pub pages-next : g < n → FetchableKept c w r m p g x
+  pages-next b = record { fetchable = page-fetchable b; kept = t .kept }
 
-  module _ (a : ℕ) (w′ : List ℕ) (h : g < pages) (small : a ≤ rankArea) (s : Spread w w′ (pageTo c r l counts n g) a) where
-    -- the sum has room
-    pub spreading-fits : Fits w32 (count + a)
-    spreading-fits = omega (arith, t .few, small, h, pages-few)
+  module _ (c′ w′ : List ℕ) (y : ℕ) (x′ : List ℕ) (b : g < n) (k : BroughtKept c w r m p g c′ w′ y x′) where
+    few-more : y ≤ recordLimit
+    few-more = fetch-few c w r m p g (page-fetchable b) c′ w′ y (k .brought)
 
-    -- those of one page more are laid
-    pub spreading-more : PagesSpreading c w₀ w′ r m l counts n pages (g + 1) (count + a)
-    unfolding pagesTo allBelow
-    spreading-more =
+    -- the counts fit
+    pub pages-fit : Fits w32 (count + y)
+    pages-fit = omega (arith, t .few, t .few-pages, b, few-more)
+
+    -- one page more is fetched
+    pub pages-more : PagesFetching c₀ w₀ r m p n c′ w′ x′ (count + y) (g + 1)
+    unfolding pagesFetched
+    pages-more =
+        let counts : stateIn mainframe c′ w′ r m .counts ≡ stateIn mainframe c w r m .counts = same-counts c c′ w w′ r r m in
         record {
-          ready = t .ready;
-          ranked = t .ranked;
-          processors-are = t .processors-are;
-          pages-are = t .pages-are;
-          upto = omega arith;
-          few = omega (arith, t .few, small);
-          spread = rw (add-one g) (spread-then w₀ w w′ (pagesTo c r l counts n g) (pageTo c r l counts n g) count a (t .spread) s);
+          ready =
+              record {
+                lent = k .brought .lent;
+                in-order = rw (k .brought .holds) (fetched-in-order (stateIn mainframe c w r m) p g (t .ready .in-order) (t .from) (t .to) (omega (arith, b, t .pages)));
+              };
+          kept = k .kept;
+          from = t .from;
+          to = rw counts (t .to);
+          pages = rw counts (t .pages);
+          few-pages = t .few-pages;
+          upto = omega (arith, b);
+          holds = rw (add-one g) (k .brought .holds ∙ ap (λ (s : State). fetched mainframe s p g) (t .holds));
+          counted = rw (add-one g) (ap₂ _+_ (t .counted) (k .brought .counted ∙ ap (λ (s : State). fetchCount s p g) (t .holds)));
+          few = omega (arith, t .few, few-more);
         }
 
-  -- those of all pages are
-  pub spreading-ends : pages ≤ g → Spread w₀ w (pagesTo c r l counts (processorCount m) (pageCount m)) count
-  spreading-ends h =
-      let e : g ≡ pageCount m = omega (arith, h, t .upto, t .pages-are) in
-      rw (t .processors-are, e) at (t .spread)
-
--- ---- all fetches
-
-module _ (c w r m : List ℕ) (a : Ready c w r m) where
-  -- with the clocks settled the areas hold the state after all fetches
-  pub all-fetched : (l counts w′ : List ℕ) (count : ℕ) → PagesRanked c r m l counts → Spread w w′ (pagesTo c r l counts (processorCount m) (pageCount m)) count
-      → CountedAs (allFetched mainframe (stateIn mainframe c w r m) (stateIn mainframe c w r m .counts .processors)) count (settledAll c (processorCount m) (pageCount m)) w′ r m
-  all-fetched l counts w′ count ranked s =
+  -- all are
+  pub pages-end : n ≤ g → n ≡ pageCount m → CountedKept (pagesFetched mainframe (stateIn mainframe c₀ w₀ r m) p (pageCount m)) count c w r m x
+  pages-end b e =
+      let is : g ≡ pageCount m = omega (arith, b, t .upto, e) in
       record {
-        applied = spread-count w w′ (last .words) laid due count (after .count) s (last .spread) same ∙ ap (λ (k : ℕ). allFetched mainframe state k .count) all;
-        areas =
-            record {
-              lent =
-                  record {
-                    clocks = length-settled-all c (processorCount m) (pageCount m) ∙ a .lent .clocks;
-                    words = s .words;
-                    records = a .lent .records;
-                    marks = a .lent .marks;
-                  };
-              is =
-                  rw (spread-words w w′ (last .words) laid due count (after .count) s (last .spread) same) (last .is)
-                  ∙ ap (λ (k : ℕ). allFetched mainframe state k .after) all;
-            };
+        counted = record { applied = rw (← is) (t .counted); areas = record { lent = t .ready .lent; is = rw (← is) (t .holds) } };
+        kept = t .kept;
       }
-    where
-      state : State
-      state = stateIn mainframe c w r m
 
-      laid : ℕ → List Record
-      laid = pagesTo c r l counts (processorCount m) (pageCount m)
+  pub pages-few : n ≤ g → count ≤ keyArea
+  pages-few b = omega (arith, t .few, t .few-pages, t .upto, b)
 
-      due : ℕ → List Record
-      due = allFetchedTo c r (standingCount m) (processorCount m) (pageCount m)
+-- ---- fetch_all
 
-      last : AllReached c w r m (processorCount m)
-      last = all-reached c w r m a (processorCount m) (omega arith)
+-- the first k processors have fetched every page
+pub record AllFetching (c₀ w₀ r m : List ℕ) (n : ℕ) (c w x : List ℕ) (count k : ℕ) : Type 0 where
+  pub ready : Ready c w r m
+  pub kept : IndexKept c r m x
+  pub processors : n ≡ stateIn mainframe c w r m .counts .processors
+  pub few-processors : n ≤ processorLimit
+  pub upto : k ≤ n
+  pub holds : stateIn mainframe c w r m ≡ allFetched mainframe (stateIn mainframe c₀ w₀ r m) k .after
+  pub counted : count ≡ allFetched mainframe (stateIn mainframe c₀ w₀ r m) k .count
+  pub few : count ≤ keyArea * k
 
-      after : Fetches
-      after = allFetched mainframe state (processorCount m)
+module _ (c w r m x : List ℕ) (h : ReadyKept c w r m x) where
+  -- the marks have their size
+  pub all-marks : length m ≡ markArea
+  all-marks = h .ready .lent .marks
 
-      same : (j : ℕ) → j < wordRowLimit → laid j ≡ due j
-      same j b = rows-agree c w r m l counts a ranked j
+  -- no processor has fetched yet
+  pub all-begin : (n : ℕ) → (n ≡ processorCount m) × (n < 256) → AllFetching c w r m n c w x 0 0
+  unfolding allFetched mainframe
+  all-begin n e =
+      let is : n ≡ stateIn mainframe c w r m .counts .processors = e .0 ∙ sym (processors-read c w r m) in
+      record {
+        ready = h .ready;
+        kept = h .kept;
+        processors = is;
+        few-processors = omega (arith, is, h .ready .in-order .processors-fit);
+        upto = omega arith;
+        holds = refl;
+        counted = refl;
+        few = omega arith;
+      }
 
-      all : processorCount m ≡ state .counts .processors
-      all = sym (processors-read c w r m)
+module _ (c₀ w₀ r m : List ℕ) (n : ℕ) (c w x : List ℕ) (count k : ℕ) (t : AllFetching c₀ w₀ r m n c w x count k) where
+  -- the next processor can fetch
+  pub all-next : k < n → ProcessorFetches c w r m (k + 1) x
+  all-next b = record { ready = t .ready; kept = t .kept; from = omega arith; to = omega (arith, b, t .processors) }
 
-pub ruleset fetches-laws = (row-counted, row-from-fits, row-to-fits, row-bytes-fit, row-within, row-spreadable, row-spread, counts-there, spreading-begins, spreading-there, spreading-fits, spreading-more, spreading-ends, needs)
+  module _ (c′ w′ : List ℕ) (y : ℕ) (x′ : List ℕ) (b : k < n) (d : y ≤ keyArea)
+      (e : CountedKept (pagesFetched mainframe (stateIn mainframe c w r m) (k + 1) (pageCount m)) y c′ w′ r m x′) where
+    -- the counts fit
+    pub all-fit : Fits w32 (count + y)
+    all-fit = omega (arith, t .few, t .few-processors, b, d)
+
+    counts : stateIn mainframe c′ w′ r m .counts ≡ stateIn mainframe c w r m .counts
+    counts = same-counts c c′ w w′ r r m
+
+    pages : pageCount m ≡ stateIn mainframe c₀ w₀ r m .counts .pages
+    pages = sym (pages-read c₀ w₀ r m)
+
+    -- one processor more has
+    pub all-more : AllFetching c₀ w₀ r m n c′ w′ x′ (count + y) (k + 1)
+    unfolding allFetched
+    all-more =
+        let same : pagesFetched mainframe (stateIn mainframe c w r m) (k + 1) (pageCount m)
+        ≡ pagesFetched mainframe (allFetched mainframe (stateIn mainframe c₀ w₀ r m) k .after) (suc k) (stateIn mainframe c₀ w₀ r m .counts .pages) =
+        rw (t .holds, add-one k, pages) refl in
+        record {
+          ready = record { lent = e .counted .areas .lent; in-order = after };
+          kept = e .kept;
+          processors = rw counts (t .processors);
+          few-processors = t .few-processors;
+          upto = omega (arith, b);
+          holds = rw (add-one k) (e .counted .areas .is ∙ ap (λ (f : Fetches). f .after) same);
+          counted = rw (add-one k) (ap₂ _+_ (t .counted) (e .counted .applied ∙ ap (λ (f : Fetches). f .count) same));
+          few = omega (arith, t .few, d);
+        }
+      where
+        after : InOrder mainframe (stateIn mainframe c′ w′ r m)
+        after =
+            rw (e .counted .areas .is)
+            (pages-kept (stateIn mainframe c w r m) (k + 1) (pageCount m) (t .ready .in-order) (omega arith) (omega (arith, b, t .processors)) (omega (arith, pages-read c w r m)) .0)
+
+  -- all have
+  pub all-end : n ≤ k → n ≡ processorCount m → CountedKept (allFetched mainframe (stateIn mainframe c₀ w₀ r m) (processorCount m)) count c w r m x
+  all-end b e =
+      let is : k ≡ processorCount m = omega (arith, b, t .upto, e) in
+      record {
+        counted = record { applied = rw (← is) (t .counted); areas = record { lent = t .ready .lent; is = rw (← is) (t .holds) } };
+        kept = t .kept;
+      }
+
+pub ruleset fetches-laws = (pages-marks, pages-begin, pages-next, pages-fit, pages-more, pages-end, pages-few, all-marks, all-begin, all-next, all-fit, all-more, all-end, needs)

@@ -1,33 +1,41 @@
--- What is emptied once all have fetched, and the collection put together: one law for each way of the code, and `empty-laws`. Rests on
--- Collecting. Assumes nothing.
-use Prim.Native.Nat.{ℕ}
+-- What is emptied once all have fetched, and the collection put together: one law for each way of the code, and `empty-laws`. Assumes
+-- nothing.
+use Prim.Native.Nat.{ℕ, _<_}
 use mathlib.Core.Path.{_≡_, sym, ap, _∙_}
+use mathlib.Core.Bool.{and-false}
 use mathlib.Core.List.{List}
 use lib.ListN.{length, set, length-set, replicate, length-replicate}
+use lib.Dec.{leb}
 use borrow.Author.Needs.{needs}
+use borrow.Author.Tests.{lt-leb}
 use Rattle.limits.specs.Limits.{wantedPlace}
-use Rattle.limits.specs.Sizes.{markArea}
-use Rattle.rules.specs.State.{mainframe, Clocks, withWanted, State, withClocks, withMarks}
-use Rattle.rules.specs.Steps.{allCleared, emptied, collected}
-use Rattle.memory.specs.Areas.{clocksIn, recordsIn, stateIn}
+use Rattle.limits.specs.Sizes.{indexArea, markArea}
+use Rattle.rules.specs.InOrder.{present, presentHolder}
+use Rattle.rules.specs.State.{mainframe, Processor, withWanted, State, withMarks, clock, own}
+use Rattle.rules.specs.Steps.{allFetched, emptied, collected}
+use Rattle.memory.specs.Areas.{recordsIn, stateIn}
 use Rattle.memory.specs.Needed.{Ready}
-use Rattle.memory.specs.Marks.{pageCount, processorCount, withStanding}
+use Rattle.memory.specs.Marks.{processorCount, withStanding}
 use Rattle.memory.proofs.ClockLaws.{clocks-zeros}
-use Rattle.memory.proofs.MarkLaws.{standing-written, standing-length, wanted-written}
-use Rattle.spreading.specs.Spread.{Spread}
-use Rattle.collecting.specs.Needed.{PagesRanked, ClocksAndMarks}
-use Rattle.collecting.specs.Effects.{CountedAs, Emptied}
-use Rattle.collecting.specs.Spreads.{pagesTo}
-use Rattle.collecting.proofs.Settling.{settledAll, length-settled-all}
-use Rattle.collecting.proofs.Collecting.{all-fetched}
+use Rattle.memory.proofs.MarkLaws.{standing-written, standing-length, wanted-written, processors-read}
+use Rattle.index.specs.Index.{forgotten}
+use Rattle.index.proofs.Kept.{bounds-stay, forgotten-kept}
+use Rattle.collecting.specs.Needed.{ReadyKept, madeIntervals, OnlyMade, Emptiable}
+use Rattle.collecting.specs.Effects.{CountedKept, Emptied}
+
+-- ---- empty
+
+-- the clocks of the processors can be cleared
+pub empty-clocks : (c m : List ℕ) (n : ℕ) → Emptiable c m → (n ≡ processorCount m) × (n < 256) → OnlyMade c n
+empty-clocks c m n h e = rw (e .0) (h .clocks)
 
 -- the records go, all clocks are zeros, the wish is clear
-pub emptied-areas : (c m c′ m₁ m₂ : List ℕ) → ClocksAndMarks c m → c′ ≡ replicate (length c) 0 → m₁ ≡ withStanding m 0 → m₂ ≡ set m₁ wantedPlace 0 → Emptied c m c′ m₂
+pub emptied-areas : (c m c′ m₁ m₂ : List ℕ) → Emptiable c m → c′ ≡ replicate (length c) 0 → m₁ ≡ withStanding m 0 → m₂ ≡ set m₁ wantedPlace 0 → Emptied c m c′ m₂
 unfolding emptied stateIn recordsIn
 emptied-areas c m c′ m₁ m₂ h e e₁ e₂ =
     let long : length m₁ ≡ markArea = ap length e₁ ∙ standing-length m 0 (h .marks) in
     record {
-      clocks = ap length e ∙ length-replicate {A = ℕ} (length c) 0 ∙ h .clocks;
+      clocks = ap length e ∙ length-replicate {A = ℕ} (length c) 0 ∙ h .clocks .clocks;
       marks = ap length e₂ ∙ length-set m₁ wantedPlace 0 ∙ long;
       is =
           λ w r.
@@ -38,34 +46,46 @@ emptied-areas c m c′ m₁ m₂ h e e₁ e₂ =
           ∙ rw (e, clocks-zeros c);
     }
 
--- the areas of the clocks and of the marks have their sizes
-pub clocks-and-marks : (c w r m : List ℕ) → Ready c w r m → ClocksAndMarks c m
-clocks-and-marks c w r m a = record { clocks = a .lent .clocks; marks = a .lent .marks }
+-- ---- collect
 
--- cleared clocks are the same whatever they were
-cleared-same : (c c′ : List ℕ) → length c ≡ length c′ → allCleared (clocksIn mainframe c) ≡ allCleared (clocksIn mainframe c′)
-cleared-same c c′ e = sym (clocks-zeros c) ∙ ap (λ (n : ℕ). clocksIn mainframe (replicate n 0)) e ∙ clocks-zeros c′
-
--- so it is all the same whether they were settled
-emptied-settled : (c w r m : List ℕ) (n pages : ℕ) → emptied (stateIn mainframe c w r m) ≡ emptied (stateIn mainframe (settledAll c n pages) w r m)
-unfolding emptied stateIn
-emptied-settled c w r m n pages =
-    ap (λ (k : Clocks). withClocks (emptied (stateIn mainframe c w r m)) k) (cleared-same c (settledAll c n pages) (sym (length-settled-all c n pages)))
-
--- all records are laid into all copies, then all was emptied
-pub collected-done : (c w r m l counts w′ c′ m′ : List ℕ) (x : ℕ) → Ready c w r m → PagesRanked c r m l counts → Spread w w′ (pagesTo c r l counts (processorCount m) (pageCount m)) x
-    → Emptied c m c′ m′ → CountedAs (collected mainframe (stateIn mainframe c w r m)) x c′ w′ r m′
-unfolding collected
-collected-done c w r m l counts w′ c′ m′ x a k s e =
-    let h = all-fetched c w r m a l counts w′ x k s in
-    let t = h .areas .lent in
+-- what the fetches left can be emptied: in order says that absent processors made no intervals, and that those not made keep zeros
+pub fetched-emptiable : (c w r m : List ℕ) → Ready c w r m → Emptiable c m
+unfolding own clock stateIn madeIntervals presentHolder present mainframe
+fetched-emptiable c w r m h =
     record {
-      applied = h .applied;
-      areas =
+      clocks =
           record {
-            lent = record { clocks = e .clocks; words = t .words; records = t .records; marks = e .marks };
-            is = e .is w′ r ∙ emptied-settled c w′ r m (processorCount m) (pageCount m) ∙ ap (λ (u : State). emptied u) (h .areas .is);
+            clocks = h .lent .clocks;
+            few = h .in-order .processors-fit;
+            fits = h .in-order .own-fits;
+            absent = λ p b. h .in-order .absent-clock (Processor p) p (rw (lt-leb p (processorCount m) b) (and-false (leb 1 p)));
+            later = h .in-order .later-interval;
           };
+      marks = h .lent .marks;
     }
 
-pub ruleset empty-laws = (emptied-areas, clocks-and-marks, collected-done, needs)
+module _ (c w r m x : List ℕ) (h : ReadyKept c w r m x) (n : ℕ) (c₁ w₁ x₁ : List ℕ)
+    (f : CountedKept (allFetched mainframe (stateIn mainframe c w r m) (processorCount m)) n c₁ w₁ r m x₁) where
+  -- the index has its size
+  pub index-long : length x₁ ≡ indexArea
+  index-long = f .kept .ranked .long
+
+  -- and then all is collected
+  pub collected-done : (c₂ m₂ x₂ : List ℕ) → Emptied c₁ m c₂ m₂ → x₂ ≡ forgotten x₁ → CountedKept (collected mainframe (stateIn mainframe c w r m)) n c₂ w₁ r m₂ x₂
+  unfolding collected emptied
+  collected-done c₂ m₂ x₂ e ex =
+      let all : processorCount m ≡ stateIn mainframe c w r m .counts .processors = sym (processors-read c w r m) in
+      record {
+        counted =
+            record {
+              applied = f .counted .applied ∙ ap (λ (k : ℕ). allFetched mainframe (stateIn mainframe c w r m) k .count) all;
+              areas =
+                  record {
+                    lent = record { clocks = e .clocks; words = f .counted .areas .lent .words; records = f .counted .areas .lent .records; marks = e .marks };
+                    is = e .is w₁ r ∙ ap (λ (u : State). emptied u) (f .counted .areas .is ∙ ap (λ (k : ℕ). allFetched mainframe (stateIn mainframe c w r m) k .after) all);
+                  };
+            };
+        kept = rw ex (forgotten-kept c₁ r m c₂ r m₂ x₁ (f .kept) (bounds-stay c₁ w₁ r m c₂ w₁ r m₂ (ap (λ (u : State). u .counts) (e .is w₁ r))));
+      }
+
+pub ruleset empty-laws = (empty-clocks, emptied-areas, fetched-emptiable, index-long, collected-done, needs)

@@ -1,6 +1,3 @@
-pub mod Ranked
-pub mod Settling
-pub mod Order
-pub mod Agreeing
 pub mod Collecting
+pub mod Clearing
 pub mod Emptying

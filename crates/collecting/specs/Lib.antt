@@ -1,3 +1,2 @@
 pub mod Needed
-pub mod Spreads
 pub mod Effects

@@ -2,34 +2,49 @@
 use Prim.Native.Nat.{ℕ, _≤_, _<_}
 use mathlib.Core.Path.{_≡_}
 use mathlib.Core.List.{List}
-use lib.ListN.{length, getD, take}
-use Rattle.limits.specs.Limits.{pageLimit, recordLimit}
-use Rattle.limits.specs.Sizes.{clockArea, markArea, rankArea}
-use Rattle.memory.specs.Layout.{rowOf}
-use Rattle.memory.specs.Areas.{standingCount}
-use Rattle.ranking.specs.Needed.{Rankable}
-use Rattle.ranking.specs.Ranks.{pageNumbers}
-use Rattle.spreading.specs.Needed.{PageSpreadable}
+use lib.ListN.{length}
+use Rattle.limits.specs.Limits.{intervalLimit, processorLimit}
+use Rattle.limits.specs.Sizes.{clockArea, markArea}
+use Rattle.clock.specs.Clocks.{entryOf}
+use Rattle.rules.specs.State.{mainframe, Processor, Interval, clockOf}
+use Rattle.memory.specs.Areas.{clocksIn, stateIn}
+use Rattle.memory.specs.Marks.{processorCount}
+use Rattle.memory.specs.Needed.{Ready, ClocksOf}
+use Rattle.index.specs.Index.{IndexKept}
 
--- the records that stand can be ranked
-pub record StandingRankable (c r m l : List ℕ) : Type 0 where
-  pub marks : length m ≡ markArea
-  pub rankable : Rankable c r (standingCount m) l
+-- the areas hold a state in order, and the index is kept
+pub record ReadyKept (c w r m x : List ℕ) : Type 0 where
+  pub ready : Ready c w r m
+  pub kept : IndexKept c r m x
 
--- the row of each page begins with the numbers of the page's records, upwards, and `counts` says how many they are
-pub record PagesRanked (c r m l counts : List ℕ) : Type 0 where
-  pub whole : length l ≡ rankArea
-  pub pages : pageLimit ≤ length counts
-  pub few : (g : ℕ) → g < pageLimit → getD counts g 0 ≤ recordLimit
-  pub row : (g : ℕ) → g < pageLimit → take (getD counts g 0) (rowOf recordLimit l g) ≡ pageNumbers c r g (standingCount m)
+-- the same, and p is one of its processors
+pub record ProcessorFetches (c w r m : List ℕ) (p : ℕ) (x : List ℕ) : Type 0 where
+  pub ready : Ready c w r m
+  pub kept : IndexKept c r m x
+  pub from : 1 ≤ p
+  pub to : p ≤ stateIn mainframe c w r m .counts .processors
 
--- the row of a page begins with numbers whose records can be laid into the copies of the first n processors
-pub record RowSpreadable (c w r l counts : List ℕ) (g n : ℕ) : Type 0 where
-  pub whole : length l ≡ rankArea
-  pub pages : pageLimit ≤ length counts
-  pub row : PageSpreadable c w r g (rowOf recordLimit l g) (getD counts g 0) n
+-- ---- clearing the clocks
 
--- the areas of the clocks and of the marks
-pub record ClocksAndMarks (c m : List ℕ) : Type 0 where
+-- how many intervals processor p has made: its own entry in the area of the clocks
+unfoldable pub madeIntervals : List ℕ → ℕ → ℕ
+madeIntervals c p = entryOf (clockOf (clocksIn mainframe c) (Processor p)) p
+
+-- the area of the clocks, and a processor whose made intervals have rows in it
+pub record MadeRows (c : List ℕ) (p : ℕ) : Type 0 where
+  pub there : ClocksOf c p
+  pub fits : madeIntervals c p ≤ intervalLimit
+
+-- the area of the clocks of n processors: their made intervals have rows in it, absent processors made none, and the clock kept for an
+-- interval that was not made is zeros
+pub record OnlyMade (c : List ℕ) (n : ℕ) : Type 0 where
   pub clocks : length c ≡ clockArea
+  pub few : n ≤ processorLimit
+  pub fits : (p : ℕ) → madeIntervals c p ≤ intervalLimit
+  pub absent : (p : ℕ) → n < p → madeIntervals c p ≡ 0
+  pub later : (p i q : ℕ) → madeIntervals c p < i → entryOf (clockOf (clocksIn mainframe c) (Interval p i)) q ≡ 0
+
+-- the areas of the clocks and of the marks, of a state in order
+pub record Emptiable (c m : List ℕ) : Type 0 where
+  pub clocks : OnlyMade c (processorCount m)
   pub marks : length m ≡ markArea

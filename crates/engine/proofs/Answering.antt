@@ -4,8 +4,10 @@ use Prim.Native.Nat.{ℕ}
 use mathlib.Core.Path.{_≡_, refl, sym, ap, _∙_}
 use mathlib.Core.Bool.{Bool, true, false, cond, not, _&&_, and-eq-true-iff}
 use mathlib.Core.List.{List}
+use lib.ListN.{length}
 use borrow.Author.Tests.{not-false}
 use borrow.Author.Needs.{needs}
+use Rattle.limits.specs.Sizes.{markArea}
 use Rattle.rules.specs.InOrder.{inOrder}
 use Rattle.rules.specs.Refusals.{Step, Answer, refusedAs, answerInOrder, nextInOrder, answer, next}
 use Rattle.rules.specs.State.{mainframe, State}
@@ -13,18 +15,17 @@ use Rattle.rules.proofs.InOrderSays.{in-order-says}
 use Rattle.memory.specs.Areas.{stateIn, sizesRight, areas, heldBy, holding, rightSizes}
 use Rattle.memory.specs.Needed.{Ready}
 use Rattle.memory.proofs.Encoding.{right-lent, held-again, holding-is}
-use Rattle.checking.specs.Areas.{areasInOrder}
+use Rattle.checking.specs.Areas.{areasInOrder, OrderIs}
+use Rattle.index.specs.Index.{unranked}
+use Rattle.index.proofs.Kept.{new-kept}
+use Rattle.collecting.specs.Needed.{ReadyKept}
 use Rattle.acting.specs.declared.Outcome.{Outcome}
 use Rattle.acting.specs.declared.Outcome.the-variants.{Refused}
 use Rattle.acting.specs.Outcomes.{outcomeOf}
 use Rattle.engine.specs.Promises.{answerOf, areasAfter}
-use Rattle.engine.specs.Needed.{OrderIs, SteppedAs}
+use Rattle.engine.specs.Needed.{SteppedAs, SteppedKept}
 
 -- ---- in order or not
-
--- the test of the crate checking says it
-pub order-checked : (c w r m : List ℕ) (b : Bool) → b ≡ areasInOrder c w r m → OrderIs b c w r m
-order-checked c w r m b e = record { is = e }
 
 module _ (c w r m : List ℕ) (t : Step) where
   -- the answer by the test of the whole memory
@@ -100,4 +101,21 @@ module _ (c w r m : List ℕ) (b : Bool) (e : OrderIs b c w r m) where
           ∙ ap (λ (y : Bool). cond y (holding (nextInOrder mainframe (stateIn mainframe c w r m) t)) (areas c w r m)) (sym fine)
           ∙ sym (areas-by-test c w r m t)
 
-pub ruleset answering-laws = (order-checked, out-of-order, out-of-order-untouched, ready-when-fine, in-order-answered, in-order-after, needs)
+-- ---- step_once
+
+module _ (c w r m : List ℕ) (h : Ready c w r m) where
+  -- the marks have their size
+  pub once-marks : length m ≡ markArea
+  once-marks = h .lent .marks
+
+  -- a new index is kept
+  pub once-ready : (x : List ℕ) → x ≡ unranked m → ReadyKept c w r m x
+  once-ready x e = record { ready = h; kept = new-kept c r m x e }
+
+-- what it is afterwards nobody asks
+pub once-stepped : (s : State) (t : Step) (y : Outcome) (c w r m x : List ℕ) → SteppedKept s t y c w r m x → SteppedAs s t y c w r m
+once-stepped s t y c w r m x k = k .stepped
+
+pub ruleset answering-laws = (out-of-order, out-of-order-untouched, ready-when-fine, in-order-answered, in-order-after, needs)
+
+pub ruleset once-laws = (once-marks, once-ready, once-stepped, needs)

@@ -1,33 +1,33 @@
 -- A step on memory in order: refused or done as the rules say. One law for each way of the code, and `stepping-laws`. Assumes nothing.
-use Prim.Native.Nat.{ℕ, zero, suc, _<_}
+use Prim.Native.Nat.{ℕ, _-_, _≤_}
 use native.Mathlib.Omega.{arith}
 use mathlib.Core.Path.{_≡_, refl, sym, ap, _∙_}
-use mathlib.Core.Bool.{Bool, true, false, cond}
-use mathlib.Core.List.{List, []}
-use lib.ListN.{length, List·getD-eq-default}
-use borrow.Author.Tests.{eq-eqb, ne-eqb}
+use mathlib.Core.Bool.{Bool, true, false, cond, not}
+use mathlib.Core.List.{List}
+use lib.ListN.{length, take, drop}
+use borrow.Author.Tests.{not-true, not-false, eq-eqb, ne-eqb}
 use borrow.Author.Needs.{needs}
-use Rattle.limits.specs.Limits.{processorLimit}
-use Rattle.limits.specs.Sizes.{clockArea, clockWidth}
-use Rattle.clock.specs.Clocks.{entryOf}
-use Rattle.rules.specs.Refusals.{Step, stepOf, Answer, refusedAs, actionOf, effect, refusalBy, refusalInOrder, answerInOrder, nextInOrder, answer}
-use Rattle.rules.specs.State.{mainframe, Processor, State, clockOf, clock, own}
+use Rattle.limits.specs.Sizes.{boundArea, firstBound, indexArea}
+use Rattle.rules.specs.Refusals.{Step, stepOf, Answer, refusedAs, actionOf, effect, refusalInOrder, answerInOrder, nextInOrder, answer}
+use Rattle.rules.specs.State.{mainframe, State, own}
 use Rattle.rules.proofs.Kept.{next-keeps-order}
-use Rattle.memory.specs.Areas.{clockRow, clocksIn, stateIn, Areas, areas, heldBy, holding, rightSizes}
-use Rattle.memory.specs.Layout.{rowOf, perProcessor}
-use Rattle.memory.specs.Needed.{Ready, OwnEntry}
+use Rattle.memory.specs.Areas.{stateIn, Areas, areas, heldBy, holding, rightSizes}
+use Rattle.memory.specs.Needed.{Ready, OwnEntry, ClocksOf}
 use Rattle.memory.proofs.Encoding.{held-again, holding-is}
-use Rattle.memory.proofs.RowLaws.{length-tabulate}
-use Rattle.refusals.specs.Parts.{seen}
-use Rattle.refusals.proofs.Refusing.{counted-when-ready, table-decides}
+use Rattle.refusals.specs.Bounds.{boundsOf}
+use Rattle.refusals.specs.Parts.{seen, stepFits, earlyRefusal, refusalOfKind}
+use Rattle.refusals.specs.Needed.{Counted, BoundsOf, FittingStep}
+use Rattle.refusals.proofs.Fitting.{bounds-are}
+use Rattle.refusals.proofs.Refusing.{counted-when-ready, table-decides, refusal-in-two, fitting-step}
+use Rattle.collecting.specs.Needed.{ReadyKept}
 use Rattle.acting.specs.declared.Outcome.{Outcome}
 use Rattle.acting.specs.declared.Outcome.the-variants.{Refused}
 use Rattle.acting.specs.Telling.{told}
 use Rattle.acting.specs.Outcomes.{outcomeOf}
-use Rattle.acting.specs.Needed.{DoneAs}
+use Rattle.acting.specs.Needed.{DoneAs, DoneKept}
 use Rattle.acting.proofs.Telling.{told-refused, told-in-state}
 use Rattle.engine.specs.Promises.{answerOf}
-use Rattle.engine.specs.Needed.{RefusalIs, SteppedAs}
+use Rattle.engine.specs.Needed.{RefusalIs, Refusable, RefusalBy, SteppedAs, SteppedKept}
 
 -- ---- an outcome tells the answer of its step
 
@@ -63,61 +63,108 @@ refused-outcome : (n : ℕ) → (n ≡ 0 → ⊥) → Refused n ≡ outcomeOf (r
 unfolding outcomeOf refusedAs
 refused-outcome n z = rw (ne-eqb n 0 z)
 
--- ---- the refusal by the own entry and the marks
+-- ---- the refusal by the bounds, the own entry and the marks
 
--- no processor is numbered 0: its entry is 0
-pub own-of-nobody : (c : List ℕ) (p : ℕ) → p ≡ 0 → OwnEntry c p 0
-unfolding own entryOf
-own-of-nobody c p e = record { is = λ w r m. rw e }
+module _ (c m x : List ℕ) (h : Refusable c m x) where
+  -- the bounds lie at the end of the index
+  pub bounds-within : indexArea ≤ length x
+  bounds-within = omega (arith, h .index)
 
--- nor above the processors of the tables
-pub own-of-absent : (c : List ℕ) (p : ℕ) → processorLimit < p → OwnEntry c p 0
-unfolding own entryOf clock clockOf stateIn clocksIn perProcessor mainframe
-own-of-absent c p h = record { is = λ w r m. sym (ap (λ (l : List ℕ). entryOf l p) no-row ∙ entry-of-none p) }
-  where
-    entry-of-none : (q : ℕ) → entryOf [] q ≡ 0
-    entry-of-none zero = refl
-    entry-of-none (suc q) = refl
+  -- the marks count what they may
+  pub marks-counted : Counted m
+  marks-counted = h .counted
 
-    no-row : clockOf (clocksIn mainframe c) (Processor p) ≡ []
-    no-row =
-        let rows : length (clocksIn mainframe c .processors) ≡ suc processorLimit =
-        ap suc (length-tabulate processorLimit (λ k. rowOf clockWidth c (clockRow mainframe (Processor (suc k))))) in
-        List·getD-eq-default (clocksIn mainframe c .processors) [] {n = p} (omega (arith, rows, h))
+  -- the part that is lent are the bounds of the marks
+  pub bounds-lent : BoundsOf m (take (indexArea - firstBound) (drop firstBound x))
+  unfolding boundsOf
+  bounds-lent =
+      let whole : take boundArea (drop firstBound x) ≡ boundsOf m = ap (take boundArea) (h .bounds) in
+      rw whole (bounds-are m)
 
--- the clocks have their size, and the marks count what they may
-pub clocks-long : (c w r m : List ℕ) → Ready c w r m → length c ≡ clockArea
-clocks-long c w r m h = h .lent .clocks
+  module _ (k p o v : ℕ) (b : Bool) (e : b ≡ stepFits (seen m) k p o v) where
+    -- a row up to 6 refuses
+    pub refused-early : (n : ℕ) → not b ≡ true → n ≡ earlyRefusal (seen m) k p o v → RefusalBy c m (stepOf k p o v) n
+    unfolding stepOf
+    refused-early n z en =
+        record {
+          is =
+              λ w r.
+              record {
+                is =
+                    table-decides c w r m (stepOf k p o v) (own (stateIn mainframe c w r m) p) n
+                    (sym (refusal-in-two (seen m) k p o v (own (stateIn mainframe c w r m) p)
+                    ∙ ap (λ (d : Bool). cond d (refusalOfKind (seen m) (own (stateIn mainframe c w r m) p) k p o) (earlyRefusal (seen m) k p o v)) (sym e ∙ not-true b z)
+                    ∙ sym en)) refl;
+              };
+        }
 
--- the refusal of the step with these fields
-pub refusal-asked : (c w r m : List ℕ) (k p o v n e : ℕ) → n ≡ refusalBy mainframe (seen m) e (stepOf k p o v) → OwnEntry c p e
-    → RefusalIs (stateIn mainframe c w r m) (stepOf k p o v) n
-unfolding stepOf
-refusal-asked c w r m k p o v n e i h = record { is = table-decides c w r m (stepOf k p o v) e n i (h .is w r m) }
+    module _ (f : not b ≡ false) where
+      fit : stepFits (seen m) k p o v ≡ true
+      fit = sym e ∙ not-false b f
+
+      -- the step fits
+      pub step-fits : FittingStep m k p o
+      step-fits = fitting-step m k p o v (h .counted) fit
+
+      -- its processor has rows
+      pub own-there : ClocksOf c p
+      own-there = record { clocks = h .clocks; from = step-fits .by .from; to = step-fits .by .to }
+
+      -- a later row refuses, or none
+      pub refused-late : (own′ n : ℕ) → OwnEntry c p own′ → n ≡ refusalOfKind (seen m) own′ k p o → RefusalBy c m (stepOf k p o v) n
+      unfolding stepOf
+      refused-late own′ n d en =
+          record {
+            is =
+                λ w r.
+                record {
+                  is =
+                      table-decides c w r m (stepOf k p o v) own′ n
+                      (sym (refusal-in-two (seen m) k p o v own′
+                      ∙ ap (λ (t : Bool). cond t (refusalOfKind (seen m) own′ k p o) (earlyRefusal (seen m) k p o v)) fit
+                      ∙ sym en)) (d .is w r m);
+                };
+          }
+
+-- ---- a step on memory in order, with the index
+
+module _ (c w r m x : List ℕ) (h : ReadyKept c w r m x) where
+  -- its refusal can be asked
+  pub ready-refusable : Refusable c m x
+  ready-refusable = record { clocks = h .ready .lent .clocks; counted = counted-when-ready c w r m (h .ready); index = h .kept .ranked .long; bounds = h .kept .bounds }
 
 module _ (c w r m : List ℕ) (k p o v n : ℕ) (h : Ready c w r m) (e : RefusalIs (stateIn mainframe c w r m) (stepOf k p o v) n) where
-  -- a refused step leaves every area as it was
-  pub step-refused : (n ≡ 0 → ⊥) → SteppedAs (stateIn mainframe c w r m) (stepOf k p o v) (Refused n) c w r m
-  step-refused z =
+  refused-as : (n ≡ 0 → ⊥) → SteppedAs (stateIn mainframe c w r m) (stepOf k p o v) (Refused n) c w r m
+  refused-as z =
       record {
         outcome = refused-outcome n z ∙ ap (λ (a : Answer). outcomeOf a) (sym (refused-answer (stateIn mainframe c w r m) (stepOf k p o v) n (e .is) z));
         areas = record { lent = h .lent; is = sym (refused-next (stateIn mainframe c w r m) (stepOf k p o v) n (e .is) z) };
       }
 
-  -- an accepted one has acted
-  pub step-done : (x : Outcome) (c′ w′ r′ m′ : List ℕ) → n ≡ 0
+  done-as : (x : Outcome) (c′ w′ r′ m′ : List ℕ) → n ≡ 0
       → DoneAs (effect mainframe (stateIn mainframe c w r m) p (actionOf (stepOf k p o v))) x c′ w′ r′ m′
       → SteppedAs (stateIn mainframe c w r m) (stepOf k p o v) x c′ w′ r′ m′
   unfolding outcomeOf stepOf
-  step-done x c′ w′ r′ m′ z d =
+  done-as x c′ w′ r′ m′ z d =
       record {
         outcome = d .outcome ∙ ap (λ (a : Answer). outcomeOf a) (sym (done-answer (stateIn mainframe c w r m) (stepOf k p o v) n (e .is) z));
         areas = record { lent = d .areas .lent; is = d .areas .is ∙ sym (done-next (stateIn mainframe c w r m) (stepOf k p o v) n (e .is) z) };
       }
 
+module _ (c w r m x : List ℕ) (k p o v n : ℕ) (h : ReadyKept c w r m x) (e : RefusalBy c m (stepOf k p o v) n) where
+  -- a refused step leaves every area as it was, and the index
+  pub step-refused : (n ≡ 0 → ⊥) → SteppedKept (stateIn mainframe c w r m) (stepOf k p o v) (Refused n) c w r m x
+  step-refused z = record { stepped = refused-as c w r m k p o v n (h .ready) (e .is w r) z; kept = h .kept }
+
+  -- one that no row refuses has acted
+  pub step-done : (y : Outcome) (c′ w′ r′ m′ x′ : List ℕ) → n ≡ 0
+      → DoneKept (effect mainframe (stateIn mainframe c w r m) p (actionOf (stepOf k p o v))) y c′ w′ r′ m′ x′
+      → SteppedKept (stateIn mainframe c w r m) (stepOf k p o v) y c′ w′ r′ m′ x′
+  step-done y c′ w′ r′ m′ x′ z d = record { stepped = done-as c w r m k p o v n (h .ready) (e .is w r) y c′ w′ r′ m′ z (d .done); kept = d .kept }
+
 -- a step that no row refuses
-pub no-refusal : (s : State) (t : Step) (n : ℕ) → RefusalIs s t n → n ≡ 0 → refusalInOrder mainframe s t ≡ 0
-no-refusal s t n e z = sym (e .is) ∙ z
+pub no-refusal : (c w r m : List ℕ) (t : Step) (n : ℕ) → RefusalBy c m t n → n ≡ 0 → refusalInOrder mainframe (stateIn mainframe c w r m) t ≡ 0
+no-refusal c w r m t n e z = sym (e .is w r .is) ∙ z
 
 -- ---- after a step
 
@@ -135,4 +182,4 @@ refused-leaves-areas c w r m t n x c′ w′ r′ m′ h e z d =
     ∙ ap (λ (s : State). holding s) (refused-next (stateIn mainframe c w r m) t n (e .is) z)
     ∙ held-again c w r m (h .lent)
 
-pub ruleset stepping-laws = (own-of-nobody, own-of-absent, clocks-long, counted-when-ready, refusal-asked, step-refused, step-done, needs)
+pub ruleset stepping-laws = (bounds-within, marks-counted, bounds-lent, refused-early, step-fits, own-there, refused-late, ready-refusable, step-refused, step-done, needs)

@@ -1,11 +1,11 @@
-pub mod Sorting
 pub mod Ordering
-pub mod Ranking
-pub mod Inserting
-pub mod Gathering
+pub mod Picking
+pub mod Done
+pub mod Listing
+pub mod News
+pub mod InState
 pub mod Laying
 pub mod Applying
-pub mod NoNews
-pub mod InState
 pub mod Comparing
 pub mod Fetching
+pub mod Pending

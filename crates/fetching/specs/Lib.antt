@@ -1,3 +1,3 @@
-pub mod Keys
-pub mod Slots
+pub mod Due
+pub mod Listing
 pub mod Needed

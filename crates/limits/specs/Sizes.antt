@@ -117,6 +117,12 @@ processorStep = intervalBase * slotBase
 abbrev pub keyLimit : ℕ
 keyLimit = sumBase * processorBase * intervalBase * slotBase
 
+-- ---- a step
+
+-- the largest value that a step can have
+abbrev pub valueLimit : ℕ
+valueLimit = 4294967295
+
 -- ---- working memory
 
 -- a table with a place for each processor, interval and page: the places of one processor, and all
@@ -127,17 +133,41 @@ noticeRow = intervalBase * pageLimit
 abbrev pub noticeTable : ℕ
 noticeTable = (processorLimit + 1) * noticeRow
 
--- a row of sort keys for each page
-abbrev pub rankArea : ℕ
-rankArea = pageLimit * recordLimit
+-- the index: a row of sort keys for each page
+abbrev pub keyArea : ℕ
+keyArea = pageLimit * recordLimit
 
--- a count for each page, and behind them how many records are ranked
+-- behind them how many keys each row has
+abbrev pub firstCount : ℕ
+firstCount = keyArea
+
+-- how many records are ranked
 abbrev pub rankedPlace : ℕ
-rankedPlace = pageLimit
+rankedPlace = firstCount + pageLimit
 
--- all counts
-abbrev pub rankCounts : ℕ
-rankCounts = pageLimit + 1
+-- for each page a watermark of each processor
+abbrev pub firstWatermark : ℕ
+firstWatermark = rankedPlace + 1
+
+-- bounds of the fields of each kind of step: first of the object, then of the value
+abbrev pub firstBound : ℕ
+firstBound = firstWatermark + copyLimit
+
+-- from this kind on none is known: they share its place among the bounds
+abbrev pub kindLimit : ℕ
+kindLimit = 7
+
+-- the places for the kinds: 0, those that are known, and one for all above
+abbrev pub kindBounds : ℕ
+kindBounds = kindLimit + 1
+
+-- the bounds of both
+abbrev pub boundArea : ℕ
+boundArea = kindBounds + kindBounds
+
+-- all
+abbrev pub indexArea : ℕ
+indexArea = firstBound + boundArea
 
 -- ---- a step file
 

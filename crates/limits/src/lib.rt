@@ -91,12 +91,25 @@ pub const KEY_LIMIT: u32 = SUM_BASE * PROCESSOR_BASE * INTERVAL_BASE * SLOT_BASE
 pub const NOTICE_ROW: usize = (INTERVAL_LIMIT + 1) * PAGE_LIMIT;
 
 pub const NOTICE_TABLE: usize = (PROCESSOR_LIMIT + 1) * NOTICE_ROW;
-// A row of sort keys for each page; a count for each page, and behind them how many records are ranked.
-pub const RANK_AREA: usize = PAGE_LIMIT * RECORD_LIMIT;
+// The index: a row of sort keys for each page; how many keys each row has; how many records are ranked; for each page a watermark of each
+// processor; bounds of the object, then of the value, for each kind of step: 0, those that are known, and one for all above.
+pub const KEY_AREA: usize = PAGE_LIMIT * RECORD_LIMIT;
 
-pub const RANKED_PLACE: usize = PAGE_LIMIT;
+pub const FIRST_COUNT: usize = KEY_AREA;
 
-pub const RANK_COUNTS: usize = PAGE_LIMIT + 1;
+pub const RANKED_PLACE: usize = FIRST_COUNT + PAGE_LIMIT;
+
+pub const FIRST_WATERMARK: usize = RANKED_PLACE + 1;
+
+pub const FIRST_BOUND: usize = FIRST_WATERMARK + COPY_LIMIT;
+
+pub const KIND_LIMIT: usize = 7;
+
+pub const KIND_BOUNDS: usize = KIND_LIMIT + 1;
+
+pub const BOUND_AREA: usize = KIND_BOUNDS + KIND_BOUNDS;
+
+pub const INDEX_AREA: usize = FIRST_BOUND + BOUND_AREA;
 
 // A step file: the bytes of a record, the steps, and the records with the opening.
 pub const FILE_RECORD_WIDTH: usize = 8;

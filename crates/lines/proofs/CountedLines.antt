@@ -1,6 +1,6 @@
 -- A line whose number's digits are at hand. One law for each way of the code, and `counted-laws`. Rests on Digits, Lines and Writing.
 -- Assumes nothing.
-use Prim.Native.Nat.{ℕ, _+_, _≤_, _<_}
+use Prim.Native.Nat.{ℕ, suc, _+_, _≤_, _<_}
 use native.Mathlib.Numerals.{add-one}
 use native.Mathlib.Omega.{arith}
 use mathlib.Core.Path.{_≡_, refl, sym, ap, _∙_}
@@ -11,8 +11,8 @@ use borrow.Author.Needs.{needs}
 use Rattle.limits.specs.Limits.{lineLimit}
 use Rattle.lines.specs.Decimal.{digits}
 use Rattle.lines.specs.Lines.{lineBytes}
-use Rattle.lines.specs.Needed.{Room, Put, fieldBytes, halfBytes, Counted, EightFit, behindNumber}
-use Rattle.lines.proofs.Digits.{some-digit}
+use Rattle.lines.specs.Needed.{Room, Put, fieldBytes, halfBytes, Counted, EightFit, ShortFits, behindNumber}
+use Rattle.lines.proofs.Digits.{digits-one, some-digit}
 use Rattle.lines.proofs.Lines.{length-line, sets-append, sets-over}
 use Rattle.lines.proofs.Writing.{put-keeps-length, sets-keep-length}
 
@@ -87,6 +87,42 @@ module _ (out : List ℕ) (at : ℕ) (p : Room out at 34) where
   behind-keeps-length out₁ out₂ at₁ at₂ vs ws q r =
       put-keeps-length out₁ out₂ at₁ at₂ 22 ws r ∙ put-keeps-length (set out at 32) out₁ (at + 1) at₁ 11 vs q ∙ length-set out at 32
 
+-- a refusal of one digit, the value 0 and the count 0
+module _ (out : List ℕ) (at refusal : ℕ) where
+  pub room-for-short : Room out at 34 → refusal < 10 → ShortFits out at refusal
+  room-for-short p h = record { room = omega (arith, p .room); digit = h }
+
+  short-bytes : refusal < 10 → behindNumber refusal 0 0 ≡ 32 ∷ (48 + refusal) ∷ 32 ∷ 48 ∷ 32 ∷ 48 ∷ 10 ∷ []
+  unfolding behindNumber halfBytes fieldBytes
+  short-bytes h = rw (digits-one refusal h, digits-one 0 (omega arith))
+
+  seven-stored : (a b c d e f : ℕ) → a ≡ suc at → b ≡ suc a → c ≡ suc b → d ≡ suc c → e ≡ suc d → f ≡ suc e → (r : ℕ)
+      → set (set (set (set (set (set (set out at 32) a r) b 32) c 48) d 32) e 48) f 10 ≡ sets out at (32 ∷ r ∷ 32 ∷ 48 ∷ 32 ∷ 48 ∷ 10 ∷ [])
+  seven-stored a b c d e f ea eb ec ed ee ef r = cc
+
+  pub short-put : ShortFits out at refusal
+      → Put out at (behindNumber refusal 0 0) 7
+      (set (set (set (set (set (set (set out at 32) (at + 1) (48 + refusal)) (at + 2) 32) (at + 3) 48) (at + 4) 32) (at + 5) 48) (at + 6) 10)
+      (at + 7)
+  short-put p =
+      record {
+        stored =
+            seven-stored (at + 1) (at + 2) (at + 3) (at + 4) (at + 5) (at + 6) (omega arith) (omega arith) (omega arith) (omega arith) (omega arith) (omega arith) (48 + refusal)
+            ∙ ap (λ (l : List ℕ). sets out at l) (sym (short-bytes (p .digit)));
+        place = omega (arith, ap length (short-bytes (p .digit)));
+        near = omega arith;
+      }
+
+  pub short-is-behind : (value count end : ℕ) (out′ : List ℕ) → value ≡ 0 → count ≡ 0 → Put out at (behindNumber refusal 0 0) 7 out′ end
+      → Put out at (behindNumber refusal value count) 34 out′ end
+  short-is-behind value count end out′ v c p =
+      let same : behindNumber refusal 0 0 ≡ behindNumber refusal value count = cc in
+      record {
+        stored = p .stored ∙ ap (λ (l : List ℕ). sets out at l) same;
+        place = p .place ∙ ap (λ (l : List ℕ). at + length l) same;
+        near = omega (arith, p .near);
+      }
+
 -- a line is its number and what stands behind it
 line-is-number-and-rest : (number refusal value count : ℕ) → digits number ++ behindNumber refusal value count ≡ lineBytes number refusal value count
 unfolding behindNumber lineBytes halfBytes fieldBytes
@@ -125,4 +161,4 @@ module _ (out : List ℕ) (at : ℕ) (d : List ℕ) (len n : ℕ) (p : Room out 
           ∙ ap (λ (l : List ℕ). sets out at (l ++ rest)) (q .said)
           ∙ ap (λ (l : List ℕ). sets out at l) (line-is-number-and-rest n refusal value count)
 
-pub ruleset counted-laws = (laying-begins, next-place, laying-more, laid-all, room-for-space, room-for-refusal, room-for-rest, behind-put, behind-keeps-length, room-for-eight, room-behind-number, counted-line-end, counted-line-stored, sets-keep-length, needs)
+pub ruleset counted-laws = (laying-begins, next-place, laying-more, laid-all, room-for-space, room-for-refusal, room-for-rest, behind-put, behind-keeps-length, room-for-short, short-put, short-is-behind, room-for-eight, room-behind-number, counted-line-end, counted-line-stored, sets-keep-length, needs)

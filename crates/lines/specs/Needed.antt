@@ -62,6 +62,11 @@ pub record EightFit (out : List ℕ) (at : ℕ) (d : List ℕ) : Type 0 where
   pub room : at + 8 ≤ length out
   pub long : length d ≡ 8
 
+-- seven bytes have room from a place on, and a refusal is one digit
+pub record ShortFits (out : List ℕ) (at refusal : ℕ) : Type 0 where
+  pub room : at + 7 ≤ length out
+  pub digit : refusal < 10
+
 -- what stands behind the number of a line
 unfoldable pub behindNumber : ℕ → ℕ → ℕ → List ℕ
 behindNumber refusal value count = 32 ∷ (fieldBytes refusal 32 ++ halfBytes value count 10)

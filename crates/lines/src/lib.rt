@@ -6,7 +6,7 @@ ghost use lib.Seq.{sets};
 ghost use Rattle.limits.specs.Limits.{lineLimit};
 ghost use Rattle.lines.specs.Decimal.{digits};
 ghost use Rattle.lines.specs.Lines.{lineBytes, lineFits, lineAnswer, lineLeft};
-ghost use Rattle.lines.specs.Needed.{Room, DigitsFit, PairFits, Put, pairBytes, fieldBytes, halfBytes, Eight, Counted, Countable, EightFit, behindNumber};
+ghost use Rattle.lines.specs.Needed.{Room, DigitsFit, PairFits, Put, pairBytes, fieldBytes, halfBytes, Eight, Counted, Countable, EightFit, ShortFits, behindNumber};
 use limits::LINE_LIMIT;
 
 // What writing a line answers: the place behind it, or that the longest line would not fit.
@@ -93,14 +93,37 @@ fn put_eight(out: &mut [u8], at: usize, digits: [u8; 8])
     }
 }
 
-// Writes what stands behind the number of a line, and says the place behind it.
+// Writes what stands behind the number of a line, and says the place behind it. Most lines have the value 0, the count 0 and a
+// refusal of one digit: these have a way of their own.
 fn put_behind(out: &mut [u8], at: usize, refusal: u32, value: u32, count: u32) -> usize
     requires { ⌜ Room (now out) at 34 ⌝ }
     ensures { λ r. ⌜ Put (now (out .entry)) at (behindNumber refusal value count) 34 (now (out .exit)) r ⌝ }
 {
+    if value == 0 {
+        if count == 0 {
+            if refusal < 10 {
+                return put_short(out, at, refusal);
+            }
+        }
+    }
     out[at] = 32;
     let half = put_field(out, at + 1, refusal, 32);
     put_half(out, half, value, count, 10)
+}
+
+// Writes what stands behind the number of a line whose refusal is one digit and whose value and count are 0: seven bytes.
+fn put_short(out: &mut [u8], at: usize, refusal: u32) -> usize
+    requires { ⌜ ShortFits (now out) at refusal ⌝ }
+    ensures { λ r. ⌜ Put (now (out .entry)) at (behindNumber refusal 0 0) 7 (now (out .exit)) r ⌝ }
+{
+    out[at] = 32;
+    out[at + 1] = (48 + refusal) as u8;
+    out[at + 2] = 32;
+    out[at + 3] = 48;
+    out[at + 4] = 32;
+    out[at + 5] = 48;
+    out[at + 6] = 10;
+    at + 7
 }
 
 // Writes two numbers with a space between and a byte behind, and says the place behind them.

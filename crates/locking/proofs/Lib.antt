@@ -1,3 +1,2 @@
-pub mod Learning
 pub mod Locking
 pub mod Acting

@@ -19,9 +19,10 @@ use Rattle.memory.specs.Needed.{RowThere, LockMark}
 use Rattle.memory.proofs.ClockLaws.{clock-read, clock-written}
 use Rattle.memory.proofs.MarkLaws.{holder-written}
 use Rattle.memory.proofs.RowLaws.{length-row}
-use Rattle.locking.specs.Needed.{TwoRows, LockThere}
+use Rattle.memory.specs.Needed.{TwoRows}
+use Rattle.locking.specs.Needed.{LockThere}
 use Rattle.locking.specs.Effects.{lockTaken, lockFreed, LockTaken, LockFreed}
-use Rattle.locking.proofs.Learning.{learned-clock}
+use Rattle.memory.proofs.Learning.{learned-clock}
 
 -- a state with other clocks, and another holder of a lock
 unfoldable lockChanged : State → Clocks → ℕ → ℕ → State

@@ -6,16 +6,8 @@ use mathlib.Core.List.{List}
 use lib.ListN.{length}
 use Rattle.limits.specs.Sizes.{clockArea, markArea}
 use Rattle.rules.specs.State.{mainframe, Processor, Lock, clockOf, withClock, State, withClocks, withMarks}
-use Rattle.rules.specs.Close.{closed}
 use Rattle.rules.specs.Steps.{withHolder, learned}
 use Rattle.memory.specs.Areas.{stateIn}
-use Rattle.memory.specs.Needed.{Holds}
-use Rattle.locking.specs.Needed.{LockThere}
-
--- the areas hold the state s with the interval of p closed, and p and lock l have their places in them
-pub record ClosedAtLock (s : State) (c w r m : List ℕ) (p l : ℕ) : Type 0 where
-  pub there : LockThere c m p l
-  pub areas : Holds c w r m (closed s p)
 
 -- "the card becomes holder; its clock joins the lock's"
 unfoldable pub lockTaken : State → ℕ → ℕ → State

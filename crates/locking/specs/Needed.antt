@@ -14,12 +14,6 @@ pub record ActsOnLock (c w r m : List ℕ) (p l : ℕ) : Type 0 where
   pub acts : Acts c w r m p
   pub lock : l < stateIn mainframe c w r m .counts .locks
 
--- two rows of the area of the clocks
-pub record TwoRows (c : List ℕ) (to from : ℕ) : Type 0 where
-  pub clocks : length c ≡ clockArea
-  pub to-there : to < clockRowLimit
-  pub from-there : from < clockRowLimit
-
 -- processor p and lock l, in areas of clocks and marks of the right sizes
 pub record LockThere (c m : List ℕ) (p l : ℕ) : Type 0 where
   pub clocks : length c ≡ clockArea

@@ -1,19 +1,15 @@
-// Taking and freeing a lock on lent memory that holds a state in order; one clock learns another.
+// Taking and freeing a lock on lent memory that holds a state in order.
 // The contracts say in the words of the rules (specs/Steps.antt of the crate rules) what state the areas hold afterwards.
 ghost use mathlib.Core.Path.{_≡_};
-ghost use Prim.Native.Nat.{_*_};
-ghost use lib.Seq.{sets};
-ghost use Rattle.limits.specs.Sizes.{clockWidth};
-ghost use Rattle.clock.specs.Clocks.{joined};
 ghost use Rattle.rules.specs.State.{mainframe};
 ghost use Rattle.rules.specs.Steps.{acquire, release};
-ghost use Rattle.memory.specs.Layout.{rowOf};
 ghost use Rattle.memory.specs.Areas.{stateIn};
 ghost use Rattle.memory.specs.Needed.{Holds};
-ghost use Rattle.locking.specs.Needed.{ActsOnLock, TwoRows, LockThere};
-ghost use Rattle.locking.specs.Effects.{ClosedAtLock, LockTaken, LockFreed};
+ghost use Rattle.locking.specs.Needed.{ActsOnLock, LockThere};
+ghost use Rattle.locking.specs.Effects.{LockTaken, LockFreed};
 use clock::ProcessorId;
 use memory::clock_at;
+use memory::learn;
 use memory::lock_row;
 use memory::marks::put_holder;
 use memory::put_clock;
@@ -30,7 +26,7 @@ pub fn acquire(
     requires { ⌜ ActsOnLock (now clocks) (now words) (now records) (now marks) (p .0) l ⌝ }
     ensures { λ _. ⌜ Holds (now (clocks .exit)) (now (words .entry)) (now (records .exit)) (now (marks .exit)) (acquire (stateIn mainframe (now (clocks .entry)) (now (words .entry)) (now (records .entry)) (now (marks .entry))) (p .0) l) ⌝ }
 {
-    close_at_lock(p, l, clocks, words, records, marks);
+    closing::close(p, clocks, words, records, marks);
     take_lock(clocks, marks, p, l);
 }
 
@@ -46,33 +42,8 @@ pub fn release(
     requires { ⌜ ActsOnLock (now clocks) (now words) (now records) (now marks) (p .0) l ⌝ }
     ensures { λ _. ⌜ Holds (now (clocks .exit)) (now (words .entry)) (now (records .exit)) (now (marks .exit)) (release (stateIn mainframe (now (clocks .entry)) (now (words .entry)) (now (records .entry)) (now (marks .entry))) (p .0) l) ⌝ }
 {
-    close_at_lock(p, l, clocks, words, records, marks);
-    free_lock(clocks, marks, p, l);
-}
-
-// The clock in one row becomes its join with the clock in another, which keeps its entries.
-pub fn learn(clocks: &mut [u8], to: usize, from: usize)
-    requires { ⌜ TwoRows (now clocks) to from ⌝ }
-    ensures { λ _. ⌜ now (clocks .exit) ≡ sets (now (clocks .entry)) (clockWidth * to) (joined (rowOf clockWidth (now (clocks .entry)) to) (rowOf clockWidth (now (clocks .entry)) from)) ⌝ }
-{
-    let own = clock_at(clocks, to);
-    let news = clock_at(clocks, from);
-    put_clock(clocks, to, own.join(news));
-}
-
-// Closes the interval of a processor that has a lock to take or to free.
-fn close_at_lock(
-    p: ProcessorId,
-    l: usize,
-    clocks: &mut [u8],
-    words: &[u32],
-    records: &mut [u8],
-    marks: &mut [u8],
-)
-    requires { ⌜ ActsOnLock (now clocks) (now words) (now records) (now marks) (p .0) l ⌝ }
-    ensures { λ _. ⌜ ClosedAtLock (stateIn mainframe (now (clocks .entry)) (now (words .entry)) (now (records .entry)) (now (marks .entry))) (now (clocks .exit)) (now (words .entry)) (now (records .exit)) (now (marks .exit)) (p .0) l ⌝ }
-{
     closing::close(p, clocks, words, records, marks);
+    free_lock(clocks, marks, p, l);
 }
 
 // The processor becomes the lock's holder, and its clock joins the lock's.

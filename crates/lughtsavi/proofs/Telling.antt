@@ -15,7 +15,7 @@ use Rattle.acting.specs.declared.Outcome.{Outcome}
 use Rattle.acting.specs.declared.Outcome.the-variants.{Done, Refused}
 use Rattle.engine.specs.Promises.{answerOf, areasAfter}
 use Rattle.engine.proofs.Stepping.{outcome-tells}
-use Rattle.running.specs.Records.{answerWords}
+use Rattle.records.specs.Records.{answerWords}
 use Rattle.lughtsavi.specs.Numbers.{slices, stepReturn, slicesAfter}
 use Rattle.lughtsavi.specs.Needed.{ToldAs}
 

@@ -4,7 +4,7 @@ use mathlib.Core.Path.{_≡_}
 use mathlib.Core.List.{List, [], _∷_}
 use Rattle.acting.specs.Telling.{outcomeRefusal, told}
 use Rattle.acting.specs.declared.Outcome.{Outcome}
-use Rattle.running.specs.Records.{answerWords}
+use Rattle.records.specs.Records.{answerWords}
 
 -- n is the outcome's refusal, and the words are its three numbers
 pub record ToldAs (o : Outcome) (n : ℕ) (out : List ℕ) : Type 0 where

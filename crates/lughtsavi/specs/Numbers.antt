@@ -10,7 +10,7 @@ use Rattle.memory.specs.Areas.{Areas}
 use Rattle.writer.specs.declared.Written.{Written}
 use Rattle.writer.specs.declared.Written.the-variants.{Length, Refused}
 use Rattle.engine.specs.Promises.{answerOf, areasAfter}
-use Rattle.running.specs.Records.{answerWords}
+use Rattle.records.specs.Records.{answerWords}
 
 -- ---- a step
 

@@ -3,9 +3,9 @@ use Prim.Native.Nat.{ℕ, _+_, _-_, _*_, _%_, _≤_, _<_}
 use native.Mathlib.Omega.{arith}
 use mathlib.Core.Path.{_≡_, refl, sym, ap, _∙_}
 use mathlib.Core.Bool.{not}
-use mathlib.Core.List.{List, _++_, append-assoc}
+use mathlib.Core.List.{List, _++_}
 use lib.ListN.{length, getD, take, drop, set, replicate, length-replicate, length-drop}
-use lib.Seq.{length-take-le, drop-drop, sets, sets-eq}
+use lib.Seq.{length-take-le, sets}
 use lib.Dec.{eqb}
 use borrow.Author.Needs.{needs}
 use Rattle.limits.specs.Limits.{firstArrived, pageLimit, processorLimit, recordLimit, slotHead, standingPlace}
@@ -15,6 +15,7 @@ use Rattle.memory.specs.Areas.{lockRow, arrivedPlace, holderPlace, dirty
 use Rattle.memory.specs.Marks.{withStanding, arrivedMark, holderMark, dirtyMark, slotLength, slotDiff}
 use Rattle.memory.specs.Needed.{OnPage, MarksOf, PageMark, DiffIn}
 use Rattle.memory.proofs.Rows.{dirty-place-is}
+use Rattle.memory.proofs.Stores.{put-back}
 
 -- the row of a lock's clock
 pub lock-row-is : (l : ℕ) → firstLockRow + l ≡ lockRow mainframe l
@@ -23,16 +24,13 @@ lock-row-is l = refl
 
 -- ---- a part of an area filled with zeros and put back
 
-part-cleared : (m part : List ℕ) (from n : ℕ) → from + n ≤ length m → part ≡ replicate (length (take n (drop from m))) 0
+pub part-cleared : (m part : List ℕ) (from n : ℕ) → from + n ≤ length m → part ≡ replicate (length (take n (drop from m))) 0
     → take from m ++ (part ++ drop n (drop from m)) ≡ sets m from (replicate n 0)
 part-cleared m part from n h e =
     let long : length (take n (drop from m)) ≡ n = length-take-le n (drop from m) (omega (arith, length-drop from m)) in
     let zeros : length (replicate {A = ℕ} n 0) ≡ n = length-replicate n 0 in
     let is : part ≡ replicate n 0 = e ∙ rw long in
-    rw (is, drop-drop n from m)
-    (sym (append-assoc (take from m) (replicate n 0) (drop (from + n) m))
-    ∙ ap (λ (j : ℕ). take from m ++ replicate n 0 ++ drop (from + j) m) (sym zeros)
-    ∙ sym (sets-eq (replicate n 0) m from (omega (arith, zeros))))
+    rw is (put-back m (replicate n 0) from n zeros h)
 
 -- ---- the records that stand
 

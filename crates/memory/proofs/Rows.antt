@@ -15,7 +15,7 @@ use Rattle.rules.specs.State.{mainframe, Processor, clock, own}
 use Rattle.rules.proofs.Facts.{Within}
 use Rattle.memory.specs.Layout.{rowOf, tabulate}
 use Rattle.memory.specs.Areas.{appliedRow, intervalRow, clockRow, copyRow, twinRow, dirtyPlace, stateIn}
-use Rattle.memory.specs.Needed.{RowThere, OnPage, MadeInterval, ClocksOf, OwnEntry}
+use Rattle.memory.specs.Needed.{RowThere, OnPage, MadeInterval, ClocksOf, OwnEntry, Acts}
 use Rattle.memory.proofs.ClockLaws.{clock-read}
 use Rattle.memory.proofs.RowLaws.{get-row}
 
@@ -149,6 +149,13 @@ pub clear-all : (l₀ l : List ℕ) (n i : ℕ) → Cleared l₀ l n i → n ≤
 clear-all l₀ l n i p h =
     let e : i ≡ length l₀ = omega (arith, p .size, p .upto) in
     sym (take-all i l (omega (arith, p .long))) ∙ p .first ∙ ap (λ (k : ℕ). replicate k 0) e
+
+-- ---- who acts
+
+-- has rows and places
+pub acting-within : (c w r m : List ℕ) (p : ℕ) → Acts c w r m p → p ≤ processorLimit
+unfolding mainframe
+acting-within c w r m p a = omega (arith, a .to, a .in-order .processors-fit)
 
 -- ---- row numbers: what the code computes is the row or the place of specs/Areas.antt at the mainframe's limits
 

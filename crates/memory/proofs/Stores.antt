@@ -6,7 +6,7 @@ use mathlib.Core.Path.{_≡_, refl, sym, ap, _∙_}
 use mathlib.Core.Bool.{cond, _&&_}
 use mathlib.Core.List.{List, [], _∷_, _++_, append-assoc}
 use lib.ListN.{length, getD, take, drop, set, List·getD-append}
-use lib.Seq.{length-take-le, take-nil, getD-set-same, getD-set-other, take-set-le, drop-set-lt, drop-set-add, getD-drop, take-take, take-at, drop-at, sets, sets-eq}
+use lib.Seq.{length-take-le, take-nil, drop-drop, getD-set-same, getD-set-other, take-set-le, drop-set-lt, drop-set-add, getD-drop, take-take, take-at, drop-at, sets, sets-eq}
 use lib.Dec.{eqb}
 use borrow.Author.Tests.{eq-eqb, ne-eqb}
 
@@ -63,6 +63,14 @@ module _ {A : Type 0} where
   pub part-sets-same : (v l : List A) (i n : ℕ) → length v ≡ n → i + n ≤ length l → take n (drop i (sets l i v)) ≡ v
   part-sets-same v l i n e h =
       ap (λ (r : List A). take n r) (drop-sets-same v l i (omega arith)) ∙ take-at v (drop (i + length v) l) n e
+
+  -- a part that was lent, put back
+  pub put-back : (l part : List A) (from n : ℕ) → length part ≡ n → from + n ≤ length l → take from l ++ (part ++ drop n (drop from l)) ≡ sets l from part
+  put-back l part from n e h =
+      ap (λ (q : List A). take from l ++ (part ++ q)) (drop-drop n from l)
+      ∙ sym (append-assoc (take from l) part (drop (from + n) l))
+      ∙ ap (λ (j : ℕ). take from l ++ part ++ drop (from + j) l) (sym e)
+      ∙ sym (sets-eq part l from (omega (arith, e, h)))
 
   -- an element before the run
   pub get-sets-before : (v l : List A) (i j : ℕ) (d : A) → j < i → getD (sets l i v) j d ≡ getD l j d

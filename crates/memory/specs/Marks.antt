@@ -4,7 +4,7 @@ use mathlib.Core.List.{List}
 use lib.ListN.{getD, take, drop, set}
 use Rattle.limits.specs.Limits.{processorsPlace, pagesPlace, locksPlace, standingPlace, wantedPlace, slotHead}
 use Rattle.limits.specs.Sizes.{slotWidth}
-use Rattle.rules.specs.State.{mainframe}
+use Rattle.rules.specs.State.{mainframe, Record}
 use Rattle.memory.specs.Areas.{arrivedPlace, holderPlace, dirtyPlace}
 
 -- ---- marks; how many records stand is `standingCount` of Areas
@@ -62,3 +62,13 @@ slotLength r i = getD r (slotWidth * i + 3) 0
 -- its diff
 abbrev pub slotDiff : List ℕ → ℕ → List ℕ
 slotDiff r i = take (slotLength r i) (drop (slotWidth * i + slotHead) r)
+
+-- the record in slot i
+unfoldable pub recordOf : List ℕ → ℕ → Record
+recordOf r i =
+    record {
+      processor = slotProcessor r i;
+      interval = slotInterval r i;
+      page = slotPage r i;
+      diff = slotDiff r i;
+    }

@@ -4,7 +4,7 @@ use mathlib.Core.Path.{_≡_}
 use mathlib.Core.List.{List}
 use lib.ListN.{length}
 use Rattle.limits.specs.Limits.{intervalLimit, lockLimit, pageLimit, processorLimit}
-use Rattle.limits.specs.Sizes.{clockArea, diffLimit, markArea, recordArea, slotWidth, wordArea}
+use Rattle.limits.specs.Sizes.{clockArea, clockRowLimit, diffLimit, markArea, recordArea, slotWidth, wordArea}
 use Rattle.rules.specs.State.{mainframe, State, own}
 use Rattle.rules.proofs.Facts.{InOrder}
 use Rattle.memory.specs.Areas.{stateIn}
@@ -54,6 +54,12 @@ pub record MadeInterval (p i : ℕ) : Type 0 where
 -- e is the own entry of p, where c is the area of the clocks
 pub record OwnEntry (c : List ℕ) (p e : ℕ) : Type 0 where
   pub is : (w r m : List ℕ) → e ≡ own (stateIn mainframe c w r m) p
+
+-- two rows of the area of the clocks
+pub record TwoRows (c : List ℕ) (to from : ℕ) : Type 0 where
+  pub clocks : length c ≡ clockArea
+  pub to-there : to < clockRowLimit
+  pub from-there : from < clockRowLimit
 
 -- the area of the clocks, and a processor that has rows in it
 pub record ClocksOf (c : List ℕ) (p : ℕ) : Type 0 where

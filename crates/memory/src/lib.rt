@@ -10,10 +10,11 @@ ghost use lib.ListN.{length, getD, replicate};
 ghost use lib.Seq.{sets};
 ghost use Rattle.limits.specs.Limits.{lockLimit, pageLimit, pageWidth};
 ghost use Rattle.limits.specs.Sizes.{clockRowLimit, clockWidth, wordRowLimit};
+ghost use Rattle.clock.specs.Clocks.{joined};
 ghost use Rattle.rules.specs.State.{mainframe};
 ghost use Rattle.memory.specs.Layout.{rowOf, tabulate};
 ghost use Rattle.memory.specs.Areas.{lockRow, appliedRow, intervalRow, copyRow, twinRow};
-ghost use Rattle.memory.specs.Needed.{RowThere, OnPage, MadeInterval, ClocksOf, OwnEntry};
+ghost use Rattle.memory.specs.Needed.{RowThere, OnPage, MadeInterval, TwoRows, ClocksOf, OwnEntry};
 use clock::Clock;
 use clock::IntervalId;
 use clock::PageId;
@@ -55,6 +56,16 @@ pub fn put_clock(clocks: &mut [u8], row: usize, clock: Clock)
         clocks[at + i] = entries[i];
         i = i + 1;
     }
+}
+
+// The clock in one row becomes its join with the clock in another, which keeps its entries.
+pub fn learn(clocks: &mut [u8], to: usize, from: usize)
+    requires { ⌜ TwoRows (now clocks) to from ⌝ }
+    ensures { λ _. ⌜ now (clocks .exit) ≡ sets (now (clocks .entry)) (clockWidth * to) (joined (rowOf clockWidth (now (clocks .entry)) to) (rowOf clockWidth (now (clocks .entry)) from)) ⌝ }
+{
+    let own = clock_at(clocks, to);
+    let news = clock_at(clocks, from);
+    put_clock(clocks, to, own.join(news));
 }
 
 // The own entry of a processor: how many intervals it has made.

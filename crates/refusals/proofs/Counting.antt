@@ -1,143 +1,124 @@
--- The dirty pages are counted: of one processor page by page, of all processors one after the other; and a bound without counting. Assumes nothing.
-use Prim.Native.Nat.{ℕ, zero, suc, _+_, _*_, _≤_, _<_}
+-- The dirty pages are counted mark by mark; and a bound without counting. Assumes nothing.
+use Prim.Native.Nat.{ℕ, zero, suc, _+_, _-_, _*_, _≤_, _<_}
 use native.Mathlib.Numerals.{add-one}
-use native.Mathlib.Nat.{suc-mul, mul-le-mul}
+use native.Mathlib.Nat.{add-zero, add-suc, zero-mul, suc-mul, mul-le-mul}
 use native.Mathlib.Omega.{arith}
-use mathlib.Core.Path.{_≡_, refl, ap, _∙_}
-use mathlib.Core.Bool.{Bool, true, false, cond, not}
+use mathlib.Core.Path.{_≡_, refl, sym, ap, _∙_}
+use mathlib.Core.Bool.{Bool, true, false, cond, not, and-false}
 use mathlib.Core.List.{List}
-use lib.ListN.{length}
-use lib.Dec.{ltb, eqb}
+use lib.ListN.{length, getD}
+use lib.Dec.{leb, ltb, eqb}
+use borrow.Author.Tests.{lt-leb, le-ltb}
 use mir.Syntax.{w64}
 use mir.Val.{Fits}
 use Rattle.limits.specs.Limits.{pageLimit, processorLimit, recordLimit}
-use Rattle.limits.specs.Sizes.{copyLimit, markArea}
-use Rattle.rules.specs.InOrder.{dirtyPages}
+use Rattle.limits.specs.Sizes.{copyLimit, firstDirty}
+use Rattle.rules.specs.InOrder.{present, presentHolder, dirtyPages}
 use Rattle.rules.specs.State.{mainframe, dirtyAt, State}
 use Rattle.rules.specs.Tables.{total}
-use Rattle.memory.specs.Areas.{recordsIn, stateIn, standingCount}
+use Rattle.rules.proofs.Tables.{total-same, total-zero}
+use Rattle.memory.specs.Areas.{dirtyPlace, recordsIn, stateIn, standingCount}
 use Rattle.memory.specs.Marks.{processorCount, pageCount, dirtyMark}
-use Rattle.memory.specs.Needed.{PageMark}
-use Rattle.refusals.specs.Parts.{seen, dirtyPagesOf, recordsToCome, roomIfAllDirty}
-use Rattle.refusals.specs.Needed.{Counted, PagesOf}
+use Rattle.refusals.specs.Parts.{seen, recordsToCome, roomIfAllDirty}
+use Rattle.refusals.specs.Needed.{Counted}
 use Rattle.refusals.proofs.Marked.{dirty-seen}
 
--- ---- of one processor: those before page g are counted
+-- ---- sums over the numbers below a bound
 
-pub record PagesCounted (m : List ℕ) (p pages sum g : ℕ) : Type 0 where
-  pub of : PagesOf m p
-  pub long : length m ≡ markArea
-  pub pages-is : pages ≡ pageCount m
-  pub few-pages : pages ≤ pageLimit
-  pub upto : g ≤ pages
-  pub few : sum ≤ g
-  pub same : sum ≡ total g (λ j. cond (dirtyAt (seen m .pages) p j) 1 0)
-
--- none is counted yet
-pub pages-begin : (m : List ℕ) (p pages : ℕ) → PagesOf m p → (pages ≡ pageCount m) × (pages < 256) → PagesCounted m p pages 0 0
+-- a sum in two parts
+total-in-two : (a b : ℕ) (f : ℕ → ℕ) → total (a + b) f ≡ total a f + total b (λ j. f (a + j))
 unfolding total
-pages-begin m p pages h e =
-    record {
-      of = h;
-      long = h .counted .marks;
-      pages-is = e .0;
-      few-pages = omega (arith, h .counted .pages);
-      upto = omega arith;
-      few = omega arith;
-      same = refl;
-    }
+total-in-two a zero f = rw (add-zero a) (omega arith)
+total-in-two a (suc b) f = rw (add-suc a b) (omega (arith, total-in-two a b f))
 
-module _ (m : List ℕ) (p pages sum g : ℕ) (h : PagesCounted m p pages sum g) (l : g < pages) where
-  -- the next page has a dirty mark
-  pub pages-next : PageMark m p g
-  pages-next = record { marks = h .long; from = h .of .from; to = h .of .to; page = omega (arith, h .few-pages) }
+-- a sum in n rows of w
+total-in-rows : (n w : ℕ) (f : ℕ → ℕ) → total (n * w) f ≡ total n (λ i. total w (λ j. f (i * w + j)))
+unfolding total
+total-in-rows zero w f = rw (zero-mul w)
+total-in-rows (suc n) w f = rw (suc-mul n w) (total-in-two (n * w) w f ∙ ap (λ (x : ℕ). x + total w (λ j. f (n * w + j))) (total-in-rows n w f))
 
-  module _ (d : Bool) (e : d ≡ not (eqb (dirtyMark m p g) 0)) where
-    next-dirty : d ≡ dirtyAt (seen m .pages) p g
-    next-dirty = dirty-seen m d p (h .of .from) (h .of .to) g (pages-next .page) e
+-- what is 0 adds nothing
+total-of-fewer : (n m : ℕ) (f : ℕ → ℕ) → n ≤ m → ((i : ℕ) → n ≤ i → i < m → f i ≡ 0) → total m f ≡ total n f
+total-of-fewer n m f h e =
+    let parts : n + (m - n) ≡ m = omega arith in
+    ap (λ (x : ℕ). total x f) (sym parts)
+    ∙ total-in-two n (m - n) f
+    ∙ (let none : total (m - n) (λ j. f (n + j)) ≡ 0 = total-zero (m - n) (λ j. f (n + j)) (λ i l. e (n + i) (omega arith) (omega arith)) in omega arith)
 
-    -- a dirty page counts 1
-    pub pages-more-dirty : d ≡ true → PagesCounted m p pages (sum + 1) (g + 1)
-    unfolding total
-    pages-more-dirty t =
-        record {
-          of = h .of;
-          long = h .long;
-          pages-is = h .pages-is;
-          few-pages = h .few-pages;
-          upto = omega arith;
-          few = omega (arith, h .few);
-          same = rw (add-one g, ← next-dirty, t, ← h .same);
-        }
+-- ---- the dirty marks, absent processors and pages included
 
-    -- a clean one does not
-    pub pages-more-clean : d ≡ false → PagesCounted m p pages sum (g + 1)
-    unfolding total
-    pages-more-clean t =
-        record {
-          of = h .of;
-          long = h .long;
-          pages-is = h .pages-is;
-          few-pages = h .few-pages;
-          upto = omega arith;
-          few = omega (arith, h .few);
-          same = rw (add-one g, ← next-dirty, t, ← h .same) (omega arith);
-        }
+-- 1 where the k-th dirty mark is set
+unfoldable pub markAt : List ℕ → ℕ → ℕ
+markAt m k = cond (not (eqb (getD m (firstDirty + k) 0) 0)) 1 0
 
--- all are counted
-pub pages-all : (m : List ℕ) (p pages sum g : ℕ) → PagesCounted m p pages sum g → pages ≤ g → sum ≡ dirtyPagesOf (seen m) p
-unfolding dirtyPagesOf seen stateIn
-pages-all m p pages sum g h l =
-    let e : g ≡ pageCount m = omega (arith, h .pages-is, h .upto) in
-    h .same ∙ ap (λ (k : ℕ). total k (λ j. cond (dirtyAt (seen m .pages) p j) 1 0)) e
-
--- they are at most eight
-pub pages-few : (m : List ℕ) (p pages sum g : ℕ) → PagesCounted m p pages sum g → sum ≤ pageLimit
-pages-few m p pages sum g h = omega (arith, h .few, h .upto, h .few-pages)
-
--- ---- of all processors: those of the first k are counted
-
-pub record AllCounted (m : List ℕ) (n sum k : ℕ) : Type 0 where
+-- the first k of them are counted
+pub record MarksCounted (m : List ℕ) (sum k : ℕ) : Type 0 where
   pub counted : Counted m
-  pub processors-are : n ≡ processorCount m
-  pub few-processors : n ≤ processorLimit
-  pub upto : k ≤ n
-  pub few : sum ≤ pageLimit * k
-  pub same : sum ≡ total k (λ j. dirtyPagesOf (seen m) (suc j))
+  pub upto : k ≤ copyLimit
+  pub few : sum ≤ k
+  pub same : sum ≡ total k (markAt m)
 
 -- none is counted yet
-pub all-begin : (m : List ℕ) (n : ℕ) → Counted m → (n ≡ processorCount m) × (n < 256) → AllCounted m n 0 0
+pub counting-begins : (m : List ℕ) → Counted m → MarksCounted m 0 0
 unfolding total
-all-begin m n h e =
-    record { counted = h; processors-are = e .0; few-processors = omega (arith, h .processors); upto = omega arith; few = omega arith; same = refl }
+counting-begins m h = record { counted = h; upto = omega arith; few = omega arith; same = refl }
 
--- the next processor has pages
-pub all-next : (m : List ℕ) (n sum k : ℕ) → AllCounted m n sum k → k < n → PagesOf m (k + 1)
-all-next m n sum k h l = record { counted = h .counted; from = omega arith; to = omega (arith, h .few-processors) }
+module _ (m : List ℕ) (sum k : ℕ) (h : MarksCounted m sum k) (l : k < copyLimit) where
+  -- the next has its place
+  pub counting-next : firstDirty + k < length m
+  counting-next = omega (arith, h .counted .marks)
 
--- its pages are added
-pub all-more : (m : List ℕ) (n sum k r : ℕ) → AllCounted m n sum k → k < n → r ≡ dirtyPagesOf (seen m) (k + 1) → r ≤ pageLimit → AllCounted m n (sum + r) (k + 1)
-unfolding total
-all-more m n sum k r h l e f =
-    record {
-      counted = h .counted;
-      processors-are = h .processors-are;
-      few-processors = h .few-processors;
-      upto = omega arith;
-      few = omega (arith, h .few, f);
-      same = rw (add-one k, ← h .same, e, add-one k);
-    }
+  -- and counts 1 or 0
+  pub counting-more : (r : ℕ) → r ≡ cond (not (eqb (getD m (firstDirty + k) 0) 0)) 1 0 → r ≤ 1 → MarksCounted m (sum + r) (k + 1)
+  unfolding total markAt
+  counting-more r e f =
+      record { counted = h .counted; upto = omega arith; few = omega (arith, h .few, f); same = rw (add-one k, ← h .same, e) }
+
+-- the k-th mark is that of page k % 8 of processor k / 8 + 1
+module _ (m : List ℕ) where
+  -- 1 where a page is dirty
+  abbrev dirty : ℕ → ℕ → ℕ
+  dirty i g = cond (dirtyAt (seen m .pages) (suc i) g) 1 0
+
+  mark-of-page : (i g : ℕ) → i < processorLimit → g < pageLimit → markAt m (i * pageLimit + g) ≡ dirty i g
+  unfolding markAt dirtyPlace mainframe
+  mark-of-page i g a b =
+      let place : firstDirty + (i * pageLimit + g) ≡ dirtyPlace mainframe (suc i) g = omega arith in
+      ap (λ (x : ℕ). cond (not (eqb (getD m x 0) 0)) 1 0) place
+      ∙ ap (λ (t : Bool). cond t 1 0) (dirty-seen m (not (eqb (dirtyMark m (suc i) g) 0)) (suc i) (omega arith) (omega arith) g b refl)
+
+  module _ (h : Counted m) where
+    no-page : (i g : ℕ) → pageCount m ≤ g → dirty i g ≡ 0
+    unfolding presentHolder seen stateIn
+    no-page i g l = ap (λ (t : Bool). cond t 1 0) (h .absent-clean .clean (suc i) g (rw (le-ltb g (pageCount m) l) (and-false (present (seen m) (suc i)))))
+
+    no-processor : (i g : ℕ) → processorCount m ≤ i → dirty i g ≡ 0
+    unfolding presentHolder present seen stateIn
+    no-processor i g l =
+        ap (λ (t : Bool). cond t 1 0) (h .absent-clean .clean (suc i) g (rw (lt-leb (suc i) (processorCount m) (omega arith), and-false (leb 1 (suc i)))))
+
+    marks-of-processor : (i : ℕ) → i < processorLimit → total pageLimit (λ g. markAt m (i * pageLimit + g)) ≡ total (pageCount m) (dirty i)
+    marks-of-processor i a =
+        total-same pageLimit (λ g. markAt m (i * pageLimit + g)) (dirty i) (λ g b. mark-of-page i g a b)
+        ∙ total-of-fewer (pageCount m) pageLimit (dirty i) (h .pages) (λ g l b. no-page i g l)
+
+    -- the marks that are set are as many as the dirty pages
+    marks-are-pages : total copyLimit (markAt m) ≡ dirtyPages (seen m)
+    unfolding dirtyPages seen stateIn
+    marks-are-pages =
+        total-in-rows processorLimit pageLimit (markAt m)
+        ∙ total-same processorLimit (λ i. total pageLimit (λ g. markAt m (i * pageLimit + g))) (λ i. total (pageCount m) (dirty i)) marks-of-processor
+        ∙ total-of-fewer (processorCount m) processorLimit (λ i. total (pageCount m) (dirty i)) (h .processors) (λ i l b. total-zero (pageCount m) (dirty i) (λ g k. no-processor i g l))
 
 -- all are counted
-pub all-counted : (m : List ℕ) (n sum k : ℕ) → AllCounted m n sum k → n ≤ k → sum ≡ dirtyPages (seen m)
-unfolding dirtyPages dirtyPagesOf seen stateIn
-all-counted m n sum k h l =
-    let e : k ≡ processorCount m = omega (arith, h .processors-are, h .upto) in
-    h .same ∙ ap (λ (i : ℕ). total i (λ j. dirtyPagesOf (seen m) (suc j))) e
+pub counting-ends : (m : List ℕ) (sum k x : ℕ) → MarksCounted m sum k → copyLimit ≤ k → (x ≡ sum) × (x < 256) → x ≡ dirtyPages (seen m)
+counting-ends m sum k x h l e =
+    let all : k ≡ copyLimit = omega (arith, h .upto) in
+    e .0 ∙ h .same ∙ ap (λ (j : ℕ). total j (markAt m)) all ∙ marks-are-pages m (h .counted)
 
 -- they are at most 64
-pub all-few : (m : List ℕ) (n sum k : ℕ) → AllCounted m n sum k → sum ≤ copyLimit
-all-few m n sum k h = omega (arith, h .few, h .upto, h .few-processors)
+pub few-counted : (m : List ℕ) (sum k x : ℕ) → MarksCounted m sum k → (x ≡ sum) × (x < 256) → x ≤ copyLimit
+few-counted m sum k x h e = omega (arith, e .0, h .few, h .upto)
 
 -- records and dirty pages together
 pub records-to-come-are : (m : List ℕ) (a b : ℕ) → (a ≡ standingCount m) × (a < 65536) → b ≡ dirtyPages (seen m) → a + b ≡ recordsToCome (seen m)

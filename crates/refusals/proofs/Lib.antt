@@ -1,4 +1,5 @@
 pub mod Marked
 pub mod Counting
 pub mod ByKind
+pub mod Fitting
 pub mod Refusing

@@ -1,13 +1,13 @@
--- The rows 3 to 6 in the table's order, and `refusal-laws`, by which every function's proof searches. Assumes nothing.
+-- The rows 3 to 6 in the table's order, the whole table, and `refusal-laws`, by which every function's proof searches. Assumes nothing.
 use Prim.Native.Nat.{ℕ, _≤_}
 use native.Mathlib.Omega.{arith}
 use mathlib.Core.Path.{_≡_, refl, sym, ap, _∙_}
-use mathlib.Core.Bool.{Bool, true, false, cond, not, _&&_, _||_}
+use mathlib.Core.Bool.{Bool, true, false, cond, not, _&&_, _||_, and-eq-true-iff}
 use mathlib.Core.List.{List}
 use lib.Dec.{ltb, eqb}
-use borrow.Author.Tests.{not-false}
+use borrow.Author.Tests.{not-true, not-false}
 use borrow.Author.Needs.{needs}
-use Rattle.rules.specs.InOrder.{present, dirtyPages}
+use Rattle.rules.specs.InOrder.{present, presentHolder, dirtyPages}
 use Rattle.rules.specs.Refusals.{Step, stepOf, Action, Read, Write, Acquire, Release, Arrive, Want, Unknown, actionOf, knownKind, objectBound, usesValue, fits, lateRefusal, refusalBy, refusalInOrder}
 use Rattle.rules.specs.State.{mainframe, dirtyAt, State, own, holder, hasArrived}
 use Rattle.rules.proofs.Accepted.{present-says}
@@ -15,13 +15,14 @@ use Rattle.rules.proofs.KindsOfSteps.{by-kind, known-says}
 use Rattle.memory.specs.Areas.{pagesIn, recordsIn, stateIn}
 use Rattle.memory.specs.Marks.{arrivedMark}
 use Rattle.memory.specs.Needed.{MarksOf, Ready}
-use Rattle.refusals.specs.Parts.{seen, boundOf, fieldsFit, refusalOfKind, refusalOfFields, refusalOfKnown}
+use Rattle.refusals.specs.Parts.{seen, boundOf, fieldsFit, mayAct, stepFits, earlyOfFields, earlyOfKnown, earlyRefusal, refusalOfKind}
 use Rattle.refusals.specs.Needed.{Counted, KnownKind, KnownStep, FittingStep}
 use Rattle.refusals.proofs.Marked.{nobody-absent, count-decides, arrived-seen}
-use Rattle.refusals.proofs.Counting.{pages-begin, pages-next, pages-more-dirty, pages-more-clean, pages-all, pages-few, all-begin, all-next, all-more, all-counted, all-few, records-to-come-are, product-fits, sum-fits, marks-decide-room}
+use Rattle.refusals.proofs.Counting.{counting-begins, counting-next, counting-more, counting-ends, few-counted, records-to-come-are, product-fits, sum-fits, marks-decide-room}
 use Rattle.refusals.proofs.ByKind.{zero-unknown, last-decides, words-fit, words-bound, locks-bound, no-bound, value-used, object-absent, any-value, no-value, word-there, lock-there, page-of-word, counted-of-write, dirty-takes-stores, no-interval-left, no-room-left, write-has-space, write-has-ample-space, lock-free, lock-held, holder-releases, not-the-holder, write-of-kind, lock-of-acquire, lock-of-release, write-decides, acquire-decides, release-decides, other-kinds-pass}
+use Rattle.refusals.proofs.Fitting.{flags-fit, object-bound-there, value-bound-there, fields-flagged, arrived-place-there, processor-flagged, fits-by-flags, bounds-long}
 
--- ---- the rows 5 to 10
+-- ---- the rows 5 and 6
 
 -- what row 5 asks for
 pub kind-of-step : (m : List ℕ) (k p : ℕ) → KnownStep m k p → KnownKind m k
@@ -31,43 +32,37 @@ kind-of-step m k p h = h .kind-known
 pub marks-of-step : (m : List ℕ) (k p : ℕ) → KnownStep m k p → MarksOf m p
 marks-of-step m k p h = record { marks = h .by .counted .marks; from = h .by .from; to = h .by .to }
 
-module _ (m : List ℕ) (n k p o v : ℕ) (h : KnownStep m k p) (b : Bool) (fit : b ≡ fieldsFit (seen m) k o v) where
+module _ (m : List ℕ) (k p o v : ℕ) (h : KnownStep m k p) (b : Bool) (fit : b ≡ fieldsFit (seen m) k o v) where
   -- 5: "word or lock absent, or an unused field not 0"
-  pub fields-refused : not b ≡ true → 5 ≡ refusalOfFields (seen m) n k p o v
-  unfolding refusalOfFields
+  pub fields-refused : not b ≡ true → 5 ≡ earlyOfFields (seen m) k p o v
+  unfolding earlyOfFields
   fields-refused t = rw (← fit, t)
-
-  -- what the rows from 7 on ask for
-  pub step-fits : not b ≡ false → FittingStep m k p o
-  step-fits t =
-      let is : fieldsFit (seen m) k o v ≡ true = sym fit ∙ not-false b t in
-      record { by = h .by; word = word-there m k o v (h .by .counted) is; lock = lock-there m k o v (h .by .counted) is }
 
   module _ (fits? : not b ≡ false) (a : Bool) (mark : a ≡ not (eqb (arrivedMark m p) 0)) where
     arrived : a ≡ hasArrived (seen m) p
     arrived = arrived-seen m a p (h .by .from) (h .by .to) mark
 
     -- 6: "card has arrived, round not complete"
-    pub arrived-refused : a ≡ true → 6 ≡ refusalOfFields (seen m) n k p o v
-    unfolding refusalOfFields
+    pub arrived-refused : a ≡ true → 6 ≡ earlyOfFields (seen m) k p o v
+    unfolding earlyOfFields
     arrived-refused t = rw (← fit, fits?, ← arrived, t)
 
-    -- then the kind decides
-    pub kind-decides : (r : ℕ) → a ≡ false → r ≡ refusalOfKind (seen m) n k p o → r ≡ refusalOfFields (seen m) n k p o v
-    unfolding refusalOfFields
-    kind-decides r t e = rw (← fit, fits?, ← arrived, t) e
+    -- then none of them refuses
+    pub fields-pass : a ≡ false → 0 ≡ earlyOfFields (seen m) k p o v
+    unfolding earlyOfFields
+    fields-pass t = rw (← fit, fits?, ← arrived, t)
 
 -- ---- row 4
 
-module _ (m : List ℕ) (n k p o v : ℕ) (b : Bool) (there : b ≡ present (seen m) p) where
+module _ (m : List ℕ) (k p o v : ℕ) (b : Bool) (there : b ≡ present (seen m) p) where
   -- 4: "card absent"
-  pub processor-refused : not b ≡ true → 4 ≡ refusalOfKnown (seen m) n k p o v
-  unfolding refusalOfKnown
+  pub processor-refused : not b ≡ true → 4 ≡ earlyOfKnown (seen m) k p o v
+  unfolding earlyOfKnown
   processor-refused t = rw (← there, t)
 
   -- then the fields decide
-  pub fields-decide : (r : ℕ) → not b ≡ false → r ≡ refusalOfFields (seen m) n k p o v → r ≡ refusalOfKnown (seen m) n k p o v
-  unfolding refusalOfKnown
+  pub fields-decide : (r : ℕ) → not b ≡ false → r ≡ earlyOfFields (seen m) k p o v → r ≡ earlyOfKnown (seen m) k p o v
+  unfolding earlyOfKnown
   fields-decide r t e = rw (← there, t) e
 
 -- the counts
@@ -81,43 +76,130 @@ step-known m k p b h there t =
     let is = present-says (seen m) p (sym there ∙ not-false b t) in
     record { kind-known = h; by = record { counted = h .counted; from = is .0; to = omega (arith, is .1, h .counted .processors) } }
 
--- ---- the whole table
+-- ---- row 3
 
-module _ (s : State) (n k p o v : ℕ) (known : (1 ≤ k) × (k ≤ 6)) where
-  fits-in-parts : fits mainframe s (stepOf k p o v) ≡ fieldsFit s k o v
-  unfolding fits objectBound actionOf stepOf fieldsFit boundOf
-  fits-in-parts =
-      by-kind (λ j. (ltb o (objectBound mainframe s (actionOf (stepOf j p o v))) && (usesValue j || eqb v 0)) ≡ fieldsFit s j o v) refl refl refl refl refl refl k (known .0) (known .1)
-
-  late-in-parts : lateRefusal mainframe s n p (actionOf (stepOf k p o v)) ≡ refusalOfKind s n k p o
-  unfolding lateRefusal actionOf stepOf refusalOfKind
-  late-in-parts = by-kind (λ j. lateRefusal mainframe s n p (actionOf (stepOf j p o v)) ≡ refusalOfKind s n j p o) refl refl refl refl refl refl k (known .0) (known .1)
-
-  known-in-parts : refusalBy mainframe s n (stepOf k p o v) ≡ cond (not (knownKind k)) 3 (refusalOfKnown s n k p o v)
-  unfolding refusalBy stepOf refusalOfKnown refusalOfFields
-  known-in-parts = rw (fits-in-parts, late-in-parts)
-
-module _ (m : List ℕ) (n k p o v : ℕ) (b : Bool) (is : b ≡ knownKind k) where
+module _ (m : List ℕ) (k p o v : ℕ) (b : Bool) (is : b ≡ knownKind k) where
   -- 3: "kind not 1 to 6"
-  pub kind-refused : not b ≡ true → 3 ≡ refusalBy mainframe (seen m) n (stepOf k p o v)
-  unfolding refusalBy stepOf
+  pub kind-refused : not b ≡ true → 3 ≡ earlyRefusal (seen m) k p o v
+  unfolding earlyRefusal
   kind-refused t = rw (← is, t)
 
   -- then the processor and the fields decide
-  pub known-decides : (r : ℕ) → not b ≡ false → r ≡ refusalOfKnown (seen m) n k p o v → r ≡ refusalBy mainframe (seen m) n (stepOf k p o v)
-  known-decides r t e = e ∙ sym (known-in-parts (seen m) n k p o v (known-says k (sym is ∙ not-false b t)) ∙ rw (← is, t))
+  pub known-decides : (r : ℕ) → not b ≡ false → r ≡ earlyOfKnown (seen m) k p o v → r ≡ earlyRefusal (seen m) k p o v
+  unfolding earlyRefusal
+  known-decides r t e = rw (← is, t) e
 
   -- what the rows from 4 on ask for
   pub kind-known : Counted m → not b ≡ false → KnownKind m k
   kind-known h t = let both = known-says k (sym is ∙ not-false b t) in record { counted = h; first = both .0; last = both .1 }
 
+-- ---- the whole table
+
+module _ (s : State) (k p o v : ℕ) where
+  module _ (known : (1 ≤ k) × (k ≤ 6)) where
+    fits-in-parts : fits mainframe s (stepOf k p o v) ≡ fieldsFit s k o v
+    unfolding fits objectBound actionOf stepOf fieldsFit boundOf
+    fits-in-parts =
+        by-kind (λ j. (ltb o (objectBound mainframe s (actionOf (stepOf j p o v))) && (usesValue j || eqb v 0)) ≡ fieldsFit s j o v) refl refl refl refl refl refl k (known .0) (known .1)
+
+    late-in-parts : (n : ℕ) → lateRefusal mainframe s n p (actionOf (stepOf k p o v)) ≡ refusalOfKind s n k p o
+    unfolding lateRefusal actionOf stepOf refusalOfKind
+    late-in-parts n = by-kind (λ j. lateRefusal mainframe s n p (actionOf (stepOf j p o v)) ≡ refusalOfKind s n j p o) refl refl refl refl refl refl k (known .0) (known .1)
+
+    known-in-parts : (n : ℕ) → refusalBy mainframe s n (stepOf k p o v)
+        ≡ cond (not (knownKind k)) 3 (cond (not (present s p)) 4 (cond (not (fieldsFit s k o v)) 5 (cond (hasArrived s p) 6 (refusalOfKind s n k p o))))
+    unfolding refusalBy stepOf
+    known-in-parts n = rw (fits-in-parts, late-in-parts n)
+
+  -- a step that fits is refused by its kind, any other by a row up to 6
+  pub refusal-in-two : (n : ℕ) → refusalBy mainframe s n (stepOf k p o v) ≡ cond (stepFits s k p o v) (refusalOfKind s n k p o) (earlyRefusal s k p o v)
+  unfolding refusalBy stepOf stepFits mayAct earlyRefusal earlyOfKnown earlyOfFields
+  refusal-in-two n = go (knownKind k) refl
+    where
+      cases : (a b c : Bool) (r : ℕ)
+          → cond (not a) 4 (cond (not b) 5 (cond c 6 r)) ≡ cond (b && (a && not c)) r (cond (not a) 4 (cond (not b) 5 (cond c 6 0)))
+      cases false true c r = refl
+      cases false false c r = refl
+      cases true false c r = refl
+      cases true true true r = refl
+      cases true true false r = refl
+
+      go : (d : Bool) → knownKind k ≡ d
+          → refusalBy mainframe s n (stepOf k p o v)
+          ≡ cond (knownKind k && fieldsFit s k o v && (present s p && not (hasArrived s p))) (refusalOfKind s n k p o)
+          (cond (not (knownKind k)) 3 (cond (not (present s p)) 4 (cond (not (fieldsFit s k o v)) 5 (cond (hasArrived s p) 6 0))))
+      go false e = rw e
+      go true e = known-in-parts (known-says k e) n ∙ rw e (cases (present s p) (fieldsFit s k o v) (hasArrived s p) (refusalOfKind s n k p o))
+
+  -- a step fits where no row up to 6 refuses it
+  pub early-passes : earlyRefusal s k p o v ≡ 0 → stepFits s k p o v ≡ true
+  unfolding stepFits mayAct earlyRefusal earlyOfKnown earlyOfFields
+  early-passes e = go (knownKind k) (present s p) (fieldsFit s k o v) (hasArrived s p) e
+    where
+      go : (d a b c : Bool) → cond {A = ℕ} (not d) 3 (cond (not a) 4 (cond (not b) 5 (cond c 6 0))) ≡ 0 → (d && b && (a && not c)) ≡ true
+      go false a b c e = absurd (omega arith)
+      go true false b c e = absurd (omega arith)
+      go true true false c e = absurd (omega arith)
+      go true true true true e = absurd (omega arith)
+      go true true true false e = refl
+
+  -- and only there
+  pub fitting-not-refused : stepFits s k p o v ≡ true → earlyRefusal s k p o v ≡ 0
+  unfolding stepFits mayAct earlyRefusal earlyOfKnown earlyOfFields
+  fitting-not-refused e =
+      let kind-and-fields = and-eq-true-iff (knownKind k && fieldsFit s k o v) (present s p && not (hasArrived s p)) .0 e in
+      let kind-is = and-eq-true-iff (knownKind k) (fieldsFit s k o v) .0 (kind-and-fields .0) in
+      let acts = and-eq-true-iff (present s p) (not (hasArrived s p)) .0 (kind-and-fields .1) in
+      rw (kind-is .0, acts .0, kind-is .1, not-true (hasArrived s p) (acts .1))
+
+module _ (m : List ℕ) (k p o v : ℕ) where
+  -- what the rows from 7 on ask for
+  pub fitting-step : Counted m → stepFits (seen m) k p o v ≡ true → FittingStep m k p o
+  unfolding stepFits mayAct seen stateIn
+  fitting-step h e =
+      let kind-and-fields = and-eq-true-iff (knownKind k && fieldsFit (seen m) k o v) (mayAct (seen m) p) .0 e in
+      let fit = and-eq-true-iff (knownKind k) (fieldsFit (seen m) k o v) .0 (kind-and-fields .0) .1 in
+      let is = present-says (seen m) p (and-eq-true-iff (present (seen m) p) (not (hasArrived (seen m) p)) .0 (kind-and-fields .1) .0) in
+      record {
+        by = record { counted = h; from = is .0; to = omega (arith, is .1, h .processors) };
+        word = word-there m k o v h fit;
+        lock = lock-there m k o v h fit;
+      }
+
+  module _ (x : ℕ) (early : x ≡ earlyRefusal (seen m) k p o v) where
+    -- a row up to 6 refuses
+    pub early-decides : (n : ℕ) → (x ≡ 0 → ⊥) → x ≡ refusalBy mainframe (seen m) n (stepOf k p o v)
+    early-decides n z = early ∙ sym (refusal-in-two (seen m) k p o v n ∙ go (stepFits (seen m) k p o v) refl)
+      where
+        go : (b : Bool) → stepFits (seen m) k p o v ≡ b → cond b (refusalOfKind (seen m) n k p o) (earlyRefusal (seen m) k p o v) ≡ earlyRefusal (seen m) k p o v
+        go true e = absurd (z (early ∙ fitting-not-refused (seen m) k p o v e))
+        go false e = refl
+
+    module _ (none : x ≡ 0) where
+      passes : stepFits (seen m) k p o v ≡ true
+      passes = early-passes (seen m) k p o v (sym early ∙ none)
+
+      -- what the rows from 7 on ask for
+      pub step-fits : Counted m → FittingStep m k p o
+      step-fits h = fitting-step h passes
+
+      -- then the kind decides
+      pub kind-decides : (n r : ℕ) → r ≡ refusalOfKind (seen m) n k p o → r ≡ refusalBy mainframe (seen m) n (stepOf k p o v)
+      kind-decides n r e = e ∙ sym (refusal-in-two (seen m) k p o v n ∙ rw passes)
+
 -- ---- the state in lent memory
 
--- a state in order has its counts in range
+-- a state in order has its counts in range, and nothing absent is dirty
 pub counted-when-ready : (c w r m : List ℕ) → Ready c w r m → Counted m
-unfolding stateIn mainframe
+unfolding stateIn pagesIn mainframe seen presentHolder present dirtyAt
 counted-when-ready c w r m h =
-    record { marks = h .lent .marks; processors = h .in-order .processors-fit; pages = h .in-order .pages-fit; locks = h .in-order .locks-fit }
+    record {
+      marks = h .lent .marks;
+      processors = h .in-order .processors-fit;
+      pages = h .in-order .pages-fit;
+      locks = h .in-order .locks-fit;
+      absent-clean = record { clean = λ p g e. h .in-order .absent-clean p g e };
+    }
 
 module _ (c w r m : List ℕ) where
   -- row 5 looks at the marks alone
@@ -164,4 +246,4 @@ module _ (c w r m : List ℕ) where
   unfolding refusalInOrder
   table-decides t n x e i = e ∙ sym (table-by-marks t n) ∙ ap (λ (j : ℕ). refusalBy mainframe (stateIn mainframe c w r m) j t) i
 
-pub ruleset refusal-laws = (nobody-absent, count-decides, pages-begin, pages-next, pages-more-dirty, pages-more-clean, pages-all, pages-few, all-begin, all-next, all-more, all-counted, all-few, records-to-come-are, product-fits, sum-fits, marks-decide-room, zero-unknown, last-decides, words-fit, words-bound, locks-bound, no-bound, value-used, object-absent, any-value, no-value, page-of-word, counted-of-write, dirty-takes-stores, no-interval-left, no-room-left, write-has-space, write-has-ample-space, lock-free, lock-held, holder-releases, not-the-holder, write-of-kind, lock-of-acquire, lock-of-release, write-decides, acquire-decides, release-decides, other-kinds-pass, kind-of-step, marks-of-step, fields-refused, step-fits, arrived-refused, kind-decides, processor-refused, fields-decide, counted-of-kind, step-known, kind-refused, known-decides, kind-known, needs)
+pub ruleset refusal-laws = (nobody-absent, count-decides, counting-begins, counting-next, counting-more, counting-ends, few-counted, records-to-come-are, product-fits, sum-fits, marks-decide-room, zero-unknown, last-decides, words-fit, words-bound, locks-bound, no-bound, value-used, object-absent, any-value, no-value, page-of-word, counted-of-write, dirty-takes-stores, no-interval-left, no-room-left, write-has-space, write-has-ample-space, lock-free, lock-held, holder-releases, not-the-holder, write-of-kind, lock-of-acquire, lock-of-release, write-decides, acquire-decides, release-decides, other-kinds-pass, kind-of-step, marks-of-step, fields-refused, arrived-refused, fields-pass, processor-refused, fields-decide, counted-of-kind, step-known, kind-refused, known-decides, kind-known, early-decides, step-fits, kind-decides, flags-fit, object-bound-there, value-bound-there, fields-flagged, arrived-place-there, processor-flagged, fits-by-flags, bounds-long, needs)

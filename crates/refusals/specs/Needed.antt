@@ -1,18 +1,34 @@
 -- What the functions ask: the marks of a state in order, and of one another what the rows above have left. Assumes nothing.
-use Prim.Native.Nat.{ℕ, _≤_, _<_}
+use Prim.Native.Nat.{ℕ, _+_, _≤_, _<_}
 use mathlib.Core.Path.{_≡_}
+use mathlib.Core.Bool.{false}
 use mathlib.Core.List.{List}
-use lib.ListN.{length}
+use lib.ListN.{length, getD}
 use Rattle.limits.specs.Limits.{lockLimit, pageLimit, processorLimit}
-use Rattle.limits.specs.Sizes.{markArea, wordLimit}
+use Rattle.limits.specs.Sizes.{boundArea, kindBounds, kindLimit, markArea, wordLimit}
+use Rattle.rules.specs.InOrder.{presentHolder}
+use Rattle.rules.specs.State.{dirtyAt, Applied}
 use Rattle.memory.specs.Marks.{processorCount, pageCount, lockCount}
+use Rattle.refusals.specs.Parts.{seen}
+use Rattle.refusals.specs.Bounds.{objectBoundOf, valueBoundOf}
 
--- the area of the marks, and counts in range in it
+-- no absent page is dirty, and no page of an absent processor
+pub record AbsentClean (m : List ℕ) : Type 0 where
+  pub clean : (p g : ℕ) → presentHolder (seen m) (Applied p g) ≡ false → dirtyAt (seen m .pages) p g ≡ false
+
+-- the area of the marks, counts in range in it, and nothing dirty that is absent
 pub record Counted (m : List ℕ) : Type 0 where
   pub marks : length m ≡ markArea
   pub processors : processorCount m ≤ processorLimit
   pub pages : pageCount m ≤ pageLimit
   pub locks : lockCount m ≤ lockLimit
+  pub absent-clean : AbsentClean m
+
+-- the bounds of the kinds for a mainframe with these marks
+pub record BoundsOf (m bounds : List ℕ) : Type 0 where
+  pub long : length bounds ≡ boundArea
+  pub object : (k : ℕ) → k ≤ kindLimit → getD bounds k 0 ≡ objectBoundOf (seen m) k
+  pub value : (k : ℕ) → k ≤ kindLimit → getD bounds (kindBounds + k) 0 ≡ valueBoundOf k
 
 -- the marks, and a known kind
 pub record KnownKind (m : List ℕ) (kind : ℕ) : Type 0 where

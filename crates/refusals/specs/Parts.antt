@@ -4,10 +4,9 @@ use Prim.Native.Nat.{ℕ, _+_, _*_}
 use mathlib.Core.Bool.{Bool, cond, not, _&&_, _||_}
 use mathlib.Core.List.{List, []}
 use lib.Dec.{leb, ltb, eqb}
-use Rattle.rules.specs.State.{mainframe, dirtyAt, State, hasArrived}
+use Rattle.rules.specs.State.{mainframe, State, hasArrived}
 use Rattle.rules.specs.InOrder.{present, dirtyPages}
-use Rattle.rules.specs.Tables.{total}
-use Rattle.rules.specs.Refusals.{Write, Acquire, Release, usesValue, lateRefusal}
+use Rattle.rules.specs.Refusals.{Write, Acquire, Release, knownKind, usesValue, lateRefusal}
 use Rattle.memory.specs.Areas.{stateIn}
 
 -- the state of the mainframe with these marks, its clocks, words and slots left out
@@ -30,18 +29,25 @@ refusalOfKind s own kind processor object =
     (cond (eqb kind 4) (lateRefusal mainframe s 0 processor (Release object))
     0))
 
--- the rows 5 to 10
-unfoldable pub refusalOfFields : State → ℕ → ℕ → ℕ → ℕ → ℕ → ℕ
-refusalOfFields s own kind processor object value =
-    cond (not (fieldsFit s kind object value)) 5 (cond (hasArrived s processor) 6 (refusalOfKind s own kind processor object))
+-- 4 and 6: whether a processor is present and has not arrived
+unfoldable pub mayAct : State → ℕ → Bool
+mayAct s processor = present s processor && not (hasArrived s processor)
 
--- the rows 4 to 10
-unfoldable pub refusalOfKnown : State → ℕ → ℕ → ℕ → ℕ → ℕ → ℕ
-refusalOfKnown s own kind processor object value = cond (not (present s processor)) 4 (refusalOfFields s own kind processor object value)
+-- whether no row from 3 to 6 refuses
+unfoldable pub stepFits : State → ℕ → ℕ → ℕ → ℕ → Bool
+stepFits s kind processor object value = knownKind kind && fieldsFit s kind object value && mayAct s processor
 
--- the dirty pages of one processor
-unfoldable pub dirtyPagesOf : State → ℕ → ℕ
-dirtyPagesOf s p = total (s .counts .pages) (λ g. cond (dirtyAt (s .pages) p g) 1 0)
+-- the rows 5 and 6; 0 where neither refuses
+unfoldable pub earlyOfFields : State → ℕ → ℕ → ℕ → ℕ → ℕ
+earlyOfFields s kind processor object value = cond (not (fieldsFit s kind object value)) 5 (cond (hasArrived s processor) 6 0)
+
+-- the rows 4 to 6
+unfoldable pub earlyOfKnown : State → ℕ → ℕ → ℕ → ℕ → ℕ
+earlyOfKnown s kind processor object value = cond (not (present s processor)) 4 (earlyOfFields s kind processor object value)
+
+-- the rows 3 to 6
+unfoldable pub earlyRefusal : State → ℕ → ℕ → ℕ → ℕ → ℕ
+earlyRefusal s kind processor object value = cond (not (knownKind kind)) 3 (earlyOfKnown s kind processor object value)
 
 -- the records that stand, and one for each dirty page
 unfoldable pub recordsToCome : State → ℕ

@@ -1,20 +1,28 @@
 // The refusals 3 to 10 of a step, in the order of document 01's table: from the marks of a state in order and the own entry of the step's
 // processor, and from nothing else. Every contract is an equation over the state that the marks alone show, with a definition of the rules
-// or of specs/Parts.antt.
+// or of specs/Parts.antt and specs/Bounds.antt.
 ghost use mathlib.Core.Path.{_≡_};
-ghost use Prim.Native.Nat.{_≤_};
-ghost use Rattle.limits.specs.Limits.{pageLimit};
-ghost use Rattle.limits.specs.Sizes.{copyLimit};
+ghost use mathlib.Core.Bool.{cond};
+ghost use Prim.Native.Nat.{_≤_, min};
+ghost use lib.ListN.{length};
+ghost use Rattle.limits.specs.Sizes.{boundArea, copyLimit};
 ghost use Rattle.rules.specs.State.{mainframe};
 ghost use Rattle.rules.specs.InOrder.{present, dirtyPages};
-ghost use Rattle.rules.specs.Refusals.{stepOf, Write, Acquire, Release, knownKind, usesValue, lateRefusal, refusalBy};
+ghost use Rattle.rules.specs.Refusals.{Write, Acquire, Release, knownKind, usesValue, lateRefusal};
 ghost use Rattle.memory.specs.Needed.{LockMark};
-ghost use Rattle.refusals.specs.Parts.{seen, boundOf, fieldsFit, refusalOfKind, refusalOfFields, refusalOfKnown, dirtyPagesOf, recordsToCome, roomIfAllDirty};
-ghost use Rattle.refusals.specs.Needed.{Counted, KnownKind, KnownStep, FittingStep, PagesOf, WriteOf};
+ghost use Rattle.refusals.specs.Parts.{seen, boundOf, fieldsFit, mayAct, stepFits, earlyRefusal, earlyOfKnown, earlyOfFields, refusalOfKind, recordsToCome, roomIfAllDirty};
+ghost use Rattle.refusals.specs.Bounds.{inBounds};
+ghost use Rattle.refusals.specs.Needed.{Counted, BoundsOf, KnownKind, KnownStep, FittingStep, WriteOf};
 use clock::PageId;
 use clock::ProcessorId;
+use limits::COPY_LIMIT;
+use limits::FIRST_ARRIVED;
+use limits::FIRST_DIRTY;
+use limits::KIND_BOUNDS;
+use limits::KIND_LIMIT;
 use limits::LAST_INTERVAL;
 use limits::PAGE_WIDTH;
+use limits::PROCESSOR_LIMIT;
 use limits::RECORD_LIMIT;
 use memory::marks::has_arrived;
 use memory::marks::holder_of;
@@ -23,21 +31,69 @@ use memory::marks::lock_count;
 use memory::marks::page_count;
 use memory::marks::processor_count;
 use memory::marks::standing_count;
+use memory::wide;
 
-// The number of the first row from 3 to 10 that refuses a step, or 0: row 3, then the others.
-pub fn refusal(kind: u32, processor: u32, object: u32, value: u32, own: u8, marks: &[u8]) -> u8
+// Whether no row from 3 to 6 refuses a step, as one test: by the bounds of the kinds, flags multiplied.
+pub fn fits(
+    kind: u32,
+    processor: u32,
+    object: u32,
+    value: u32,
+    marks: &[u8],
+    bounds: &[u32],
+) -> bool
     requires { ⌜ Counted (now marks) ⌝ }
-    ensures { λ r. ⌜ r ≡ refusalBy mainframe (seen (now (marks .entry))) own (stepOf kind processor object value) ⌝ }
+    requires { ⌜ BoundsOf (now marks) (now bounds) ⌝ }
+    ensures { λ r. ⌜ r ≡ stepFits (seen (now (marks .entry))) kind processor object value ⌝ }
+{
+    fields_flag(kind, object, value, bounds) * processor_flag(processor, marks) == 1
+}
+
+// Of rows 3 and 5: 1 where the object is below the bound of the kind, and the value not above its bound.
+fn fields_flag(kind: u32, object: u32, value: u32, bounds: &[u32]) -> u8
+    requires { ⌜ length (now bounds) ≡ boundArea ⌝ }
+    ensures { λ r. ⌜ r ≡ cond (inBounds (now (bounds .entry)) kind object value) 1 0 ⌝ }
+{
+    let k = least(kind as usize, KIND_LIMIT);
+    flag(object < bounds[k]) * flag(value <= bounds[KIND_BOUNDS + k])
+}
+
+// Rows 4 and 6: 1 where a processor is present and has not arrived. Nobody's number less 1 wraps to a large one; behind the last
+// processor's mark stands another, which does not count, since no processor is there.
+fn processor_flag(processor: u32, marks: &[u8]) -> u8
+    requires { ⌜ Counted (now marks) ⌝ }
+    ensures { λ r. ⌜ r ≡ cond (mayAct (seen (now (marks .entry))) processor) 1 0 ⌝ }
+{
+    let k = least(
+        std::num::wrapping_sub_usize(processor as usize, 1),
+        PROCESSOR_LIMIT,
+    );
+    flag(k < processor_count(marks)) * flag(marks[FIRST_ARRIVED + k] == 0)
+}
+
+// The smaller of two numbers.
+fn least(a: usize, b: usize) -> usize
+    ensures { λ r. ⌜ r ≡ min a b ⌝ }
+{
+    if a < b {
+        return a;
+    }
+    b
+}
+
+// The number of the row from 3 to 6 that refuses a step, or 0: row 3, then the others.
+pub fn early_refusal(kind: u32, processor: u32, object: u32, value: u32, marks: &[u8]) -> u8
+    requires { ⌜ Counted (now marks) ⌝ }
+    ensures { λ r. ⌜ r ≡ earlyRefusal (seen (now (marks .entry))) kind processor object value ⌝ }
 {
     if !is_known(kind) {
         return 3;
     }
-    refusal_of_known(
+    early_of_known(
         kind,
         ProcessorId(processor as usize),
         object as usize,
         value,
-        own,
         marks,
     )
 }
@@ -52,22 +108,15 @@ fn is_known(kind: u32) -> bool
     kind <= 6
 }
 
-// Rows 4 to 10, for a known kind.
-fn refusal_of_known(
-    kind: u32,
-    processor: ProcessorId,
-    object: usize,
-    value: u32,
-    own: u8,
-    marks: &[u8],
-) -> u8
+// Rows 4 to 6, for a known kind.
+fn early_of_known(kind: u32, processor: ProcessorId, object: usize, value: u32, marks: &[u8]) -> u8
     requires { ⌜ KnownKind (now marks) kind ⌝ }
-    ensures { λ r. ⌜ r ≡ refusalOfKnown (seen (now (marks .entry))) own kind (processor .0) object value ⌝ }
+    ensures { λ r. ⌜ r ≡ earlyOfKnown (seen (now (marks .entry))) kind (processor .0) object value ⌝ }
 {
     if !is_present(processor, marks) {
         return 4;
     }
-    refusal_of_fields(kind, processor, object, value, own, marks)
+    early_of_fields(kind, processor, object, value, marks)
 }
 
 // Row 4: whether a processor is one of those that the opening gave.
@@ -81,17 +130,10 @@ fn is_present(processor: ProcessorId, marks: &[u8]) -> bool
     processor.0 <= processor_count(marks)
 }
 
-// Rows 5 to 10, for a known kind and a present processor.
-fn refusal_of_fields(
-    kind: u32,
-    processor: ProcessorId,
-    object: usize,
-    value: u32,
-    own: u8,
-    marks: &[u8],
-) -> u8
+// Rows 5 and 6, for a known kind and a present processor.
+fn early_of_fields(kind: u32, processor: ProcessorId, object: usize, value: u32, marks: &[u8]) -> u8
     requires { ⌜ KnownStep (now marks) kind (processor .0) ⌝ }
-    ensures { λ r. ⌜ r ≡ refusalOfFields (seen (now (marks .entry))) own kind (processor .0) object value ⌝ }
+    ensures { λ r. ⌜ r ≡ earlyOfFields (seen (now (marks .entry))) kind (processor .0) object value ⌝ }
 {
     if !fields_fit(kind, object, value, marks) {
         return 5;
@@ -99,7 +141,7 @@ fn refusal_of_fields(
     if has_arrived(marks, processor) {
         return 6;
     }
-    refusal_of_kind(kind, processor, object, own, marks)
+    0
 }
 
 // Row 5: whether the object is below the bound of the kind, and the value is 0 unless the kind uses it.
@@ -137,8 +179,8 @@ fn uses_value(kind: u32) -> bool
     kind == 2
 }
 
-// Rows 7 to 10, each for its kind.
-fn refusal_of_kind(kind: u32, processor: ProcessorId, object: usize, own: u8, marks: &[u8]) -> u8
+// The number of the row from 7 to 10 that refuses a step that fits, or 0: each row for its kind.
+pub fn late_refusal(kind: u32, processor: ProcessorId, object: usize, own: u8, marks: &[u8]) -> u8
     requires { ⌜ FittingStep (now marks) kind (processor .0) object ⌝ }
     ensures { λ r. ⌜ r ≡ refusalOfKind (seen (now (marks .entry))) own kind (processor .0) object ⌝ }
 {
@@ -214,38 +256,29 @@ fn records_to_come(marks: &[u8]) -> usize
     standing_count(marks) + dirty_pages(marks)
 }
 
-// The dirty pages of all processors.
+// The dirty pages of all processors: every mark is looked at, those of absent processors and pages too, which are 0. One loop without a
+// branch, and a byte as its sum, so that it becomes vector code.
 fn dirty_pages(marks: &[u8]) -> usize
     requires { ⌜ Counted (now marks) ⌝ }
     ensures { λ r. ⌜ r ≡ dirtyPages (seen (now (marks .entry))) ⌝ }
     ensures { λ r. ⌜ r ≤ copyLimit ⌝ }
 {
-    let processors = processor_count(marks);
-    let mut sum: usize = 0;
+    let mut sum: u8 = 0;
     let mut k: usize = 0;
-    while k < processors {
-        sum = sum + dirty_pages_of(ProcessorId(k + 1), marks);
+    while k < COPY_LIMIT {
+        sum = sum + flag(marks[FIRST_DIRTY + k] != 0);
         k = k + 1;
     }
-    sum
+    wide(sum)
 }
 
-// The dirty pages of one processor.
-fn dirty_pages_of(processor: ProcessorId, marks: &[u8]) -> usize
-    requires { ⌜ PagesOf (now marks) (processor .0) ⌝ }
-    ensures { λ r. ⌜ r ≡ dirtyPagesOf (seen (now (marks .entry))) (processor .0) ⌝ }
-    ensures { λ r. ⌜ r ≤ pageLimit ⌝ }
+// 1 or 0.
+fn flag(set: bool) -> u8
+    ensures { λ r. ⌜ r ≡ cond set 1 0 ⌝ }
+    ensures { λ r. ⌜ r ≤ 1 ⌝ }
 {
-    let pages = page_count(marks);
-    let mut sum: usize = 0;
-    let mut g: usize = 0;
-    while g < pages {
-        if is_dirty(marks, processor, PageId(g)) {
-            sum = sum + 1;
-            g = g + 1;
-        } else {
-            g = g + 1;
-        }
+    if set {
+        return 1;
     }
-    sum
+    0
 }

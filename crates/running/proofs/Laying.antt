@@ -11,7 +11,7 @@ use Rattle.rules.specs.Refusals.{Answer}
 use Rattle.acting.specs.declared.Outcome.{Outcome}
 use Rattle.acting.specs.declared.Outcome.the-variants.{Done, Refused}
 use Rattle.acting.specs.Telling.{outcomeRefusal, outcomeValue, outcomeCount, told}
-use Rattle.running.specs.Records.{answerWords, answersIn}
+use Rattle.records.specs.Records.{answerWords, answersIn}
 use Rattle.running.specs.Needed.{OutcomeLaid}
 
 -- ---- one answer

@@ -1,4 +1,3 @@
-pub mod Reading
 pub mod Laying
 pub mod Stepping
 pub mod Running

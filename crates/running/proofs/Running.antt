@@ -23,7 +23,7 @@ use Rattle.memory.specs.Needed.{Ready}
 use Rattle.memory.proofs.Encoding.{holding-is}
 use Rattle.opening.specs.Promises.{openingOf, openRefusal, areasOpened}
 use Rattle.opening.proofs.Following.{opened-holds, opened-ready, accepted-opening}
-use Rattle.running.specs.Records.{stepsIn, answerWords, answersIn}
+use Rattle.records.specs.Records.{stepsIn, answerWords, answersIn}
 use Rattle.running.specs.Runs.{recordsRun, firstRefusal, firstState, runAnswers, runAreas, Ran}
 use Rattle.running.specs.Needed.{CountIs, RecordsThere, OpeningThere, OpeningLaid, StepsThere, StepsLaid}
 use Rattle.running.proofs.Laying.{laid-behind, laid-read-back}

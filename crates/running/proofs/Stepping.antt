@@ -7,42 +7,48 @@ use lib.ListN.{length, drop}
 use lib.Seq.{sets, length-sets, drop-drop}
 use borrow.Author.Needs.{needs}
 use Rattle.limits.specs.Limits.{fileRecordWidth}
+use Rattle.limits.specs.Sizes.{markArea}
 use Rattle.rules.specs.Refusals.{Answer, Step, nextInOrder}
 use Rattle.rules.specs.Runs.{answersInOrder, stateInOrder}
 use Rattle.rules.specs.State.{mainframe, State}
 use Rattle.rules.proofs.Kept.{next-keeps-order}
 use Rattle.memory.specs.Areas.{stateIn}
-use Rattle.memory.specs.Needed.{Ready}
+use Rattle.index.specs.Index.{unranked}
+use Rattle.index.proofs.Kept.{new-kept}
+use Rattle.collecting.specs.Needed.{ReadyKept}
 use Rattle.acting.specs.declared.Outcome.{Outcome}
 use Rattle.acting.specs.Telling.{told}
 use Rattle.acting.proofs.Telling.{told-in-order}
-use Rattle.engine.specs.Needed.{SteppedAs}
-use Rattle.running.specs.Records.{stepFrom, stepsIn, answerWords}
-use Rattle.running.specs.Needed.{StepThere, OutcomeLaid, RecordThere, StepLaid, StepsThere, StepsLaid}
+use Rattle.engine.specs.Needed.{SteppedKept}
+use Rattle.records.specs.Records.{stepFrom, stepsIn, answerWords}
+use Rattle.records.specs.Needed.{StepThere}
+use Rattle.running.specs.Needed.{OutcomeLaid, RecordThere, StepLaid, StepsThere, StepsLaid}
 
 -- ---- one record
 
-pub step-there : (bs : List ℕ) (i : ℕ) (out c w r m : List ℕ) → RecordThere bs i out c w r m → StepThere bs (fileRecordWidth * i) c w r m
-step-there bs i out c w r m h = record { ready = h .ready; there = h .there }
+pub step-there : (bs : List ℕ) (i : ℕ) (out c w r m x : List ℕ) → RecordThere bs i out c w r m x → StepThere bs (fileRecordWidth * i) c w r m x
+step-there bs i out c w r m x h = record { ready = h .ready; there = h .there }
 
 -- the outcome of a step tells the rules' answer
-pub step-laid : (bs : List ℕ) (i : ℕ) (s : State) (x : Outcome) (out out′ c w r m : List ℕ) → SteppedAs s (stepFrom (drop (fileRecordWidth * i) bs)) x c w r m
-    → OutcomeLaid out (3 * i) x out′ → StepLaid bs i s out out′ c w r m
-step-laid bs i s x out out′ c w r m d l =
+pub step-laid : (bs : List ℕ) (i : ℕ) (s : State) (y : Outcome) (out out′ c w r m x : List ℕ) → SteppedKept s (stepFrom (drop (fileRecordWidth * i) bs)) y c w r m x
+    → OutcomeLaid out (3 * i) y out′ → StepLaid bs i s out out′ c w r m x
+step-laid bs i s y out out′ c w r m x k l =
+    let d = k .stepped in
     record {
       laid =
           l .is
           ∙ ap (λ (a : Answer). sets out (3 * i) (answerWords (a ∷ [])))
-          (ap (λ (y : Outcome). told y) (d .outcome) ∙ told-in-order mainframe s (stepFrom (drop (fileRecordWidth * i) bs)));
+          (ap (λ (z : Outcome). told z) (d .outcome) ∙ told-in-order mainframe s (stepFrom (drop (fileRecordWidth * i) bs)));
       areas = d .areas;
+      kept = k .kept;
     }
 
 -- ---- the loop
 
--- before record i of n: the areas are in order, and the records from i on, run on the state that they hold, bring the words and the state to
+-- before record i of n: the areas are in order, the index is kept, and the records from i on, run on the state that they hold, bring the words and the state to
 -- where all the steps bring them from the words out₀ and the state s₀
-pub record StepsLeft (bs : List ℕ) (n : ℕ) (s₀ : State) (out₀ out c w r m : List ℕ) (i : ℕ) : Type 0 where
-  pub ready : Ready c w r m
+pub record StepsLeft (bs : List ℕ) (n : ℕ) (s₀ : State) (out₀ out c w r m x : List ℕ) (i : ℕ) : Type 0 where
+  pub ready : ReadyKept c w r m x
   pub upto : i ≤ n
   pub there : fileRecordWidth * n ≤ length bs
   pub room : 3 * n ≤ length out
@@ -51,9 +57,14 @@ pub record StepsLeft (bs : List ℕ) (n : ℕ) (s₀ : State) (out₀ out c w r 
       ≡ sets out₀ 3 (answerWords (answersInOrder mainframe s₀ (stepsIn (n - 1) (drop fileRecordWidth bs))))
   pub state : stateInOrder mainframe (stateIn mainframe c w r m) (stepsIn (n - i) (drop (fileRecordWidth * i) bs)) ≡ stateInOrder mainframe s₀ (stepsIn (n - 1) (drop fileRecordWidth bs))
 
-pub steps-begin : (bs : List ℕ) (n : ℕ) (out c w r m : List ℕ) → StepsThere bs n out c w r m
-    → StepsLeft bs n (stateIn mainframe c w r m) out out c w r m 1
-steps-begin bs n out c w r m h = record { ready = h .ready; upto = h .opening; there = h .there; room = h .room; as-long = refl; laid = refl; state = refl }
+-- the marks have their size
+pub steps-marks : (bs : List ℕ) (n : ℕ) (out c w r m : List ℕ) → StepsThere bs n out c w r m → length m ≡ markArea
+steps-marks bs n out c w r m h = h .ready .lent .marks
+
+-- none is run yet, and the index is new
+pub steps-begin : (bs : List ℕ) (n : ℕ) (out c w r m x : List ℕ) → x ≡ unranked m → StepsThere bs n out c w r m
+    → StepsLeft bs n (stateIn mainframe c w r m) out out c w r m x 1
+steps-begin bs n out c w r m x e h = record { ready = record { ready = h .ready; kept = new-kept c r m x e }; upto = h .opening; there = h .there; room = h .room; as-long = refl; laid = refl; state = refl }
 
 -- the steps from record i on are its own and those from the next record on
 steps-from : (bs : List ℕ) (n i : ℕ) → i < n → stepsIn (n - i) (drop (fileRecordWidth * i) bs) ≡ stepFrom (drop (fileRecordWidth * i) bs) ∷ stepsIn (n - (i + 1)) (drop (fileRecordWidth * (i + 1)) bs)
@@ -68,11 +79,11 @@ steps-from bs n i l =
     f : fileRecordWidth * i + fileRecordWidth ≡ fileRecordWidth * (i + 1)
     f = omega arith
 
-module _ (bs : List ℕ) (n : ℕ) (s₀ : State) (out₀ out c w r m : List ℕ) (i : ℕ) (h : StepsLeft bs n s₀ out₀ out c w r m i) where
-  pub record-there : i < n → RecordThere bs i out c w r m
+module _ (bs : List ℕ) (n : ℕ) (s₀ : State) (out₀ out c w r m x : List ℕ) (i : ℕ) (h : StepsLeft bs n s₀ out₀ out c w r m x i) where
+  pub record-there : i < n → RecordThere bs i out c w r m x
   record-there l = record { ready = h .ready; there = omega (arith, h .there, l); room = omega (arith, h .room, l) }
 
-  module _ (out′ c′ w′ r′ m′ : List ℕ) (l : i < n) (d : StepLaid bs i (stateIn mainframe c w r m) out out′ c′ w′ r′ m′) where
+  module _ (out′ c′ w′ r′ m′ x′ : List ℕ) (l : i < n) (d : StepLaid bs i (stateIn mainframe c w r m) out out′ c′ w′ r′ m′ x′) where
     s : State
     s = stateIn mainframe c w r m
 
@@ -100,11 +111,15 @@ module _ (bs : List ℕ) (n : ℕ) (s₀ : State) (out₀ out c w r m : List ℕ
     one-taken =
         ap (λ (ts : List Step). stateInOrder mainframe s ts) (steps-from bs n i l) ∙ ap (λ (x : State). stateInOrder mainframe x rest) (sym (d .areas .is))
 
-    pub steps-more : StepsLeft bs n s₀ out₀ out′ c′ w′ r′ m′ (i + 1)
+    pub steps-more : StepsLeft bs n s₀ out₀ out′ c′ w′ r′ m′ x′ (i + 1)
     unfolding s t rest
     steps-more =
         record {
-          ready = record { lent = d .areas .lent; in-order = rw (d .areas .is) (next-keeps-order mainframe s t (h .ready .in-order)) };
+          ready =
+              record {
+                ready = record { lent = d .areas .lent; in-order = rw (d .areas .is) (next-keeps-order mainframe s t (h .ready .ready .in-order)) };
+                kept = d .kept;
+              };
           upto = omega (arith, l);
           there = h .there;
           room = rw (d .laid, length-sets) (h .room);
@@ -115,9 +130,9 @@ module _ (bs : List ℕ) (n : ℕ) (s₀ : State) (out₀ out c w r m : List ℕ
 
   pub steps-all : n ≤ i → StepsLaid bs n s₀ out₀ out c w r m
   unfolding stepsIn answersInOrder answerWords stateInOrder
-  steps-all l = record { laid = rw e at (h .laid); areas = record { lent = h .ready .lent; is = rw e at (h .state) } }
+  steps-all l = record { laid = rw e at (h .laid); areas = record { lent = h .ready .ready .lent; is = rw e at (h .state) } }
     where
       e : n - i ≡ 0
       e = omega arith
 
-pub ruleset stepping-laws = (step-there, step-laid, steps-begin, record-there, steps-more, steps-all, needs)
+pub ruleset stepping-laws = (step-there, step-laid, steps-marks, steps-begin, record-there, steps-more, steps-all, needs)

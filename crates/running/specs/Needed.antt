@@ -5,42 +5,36 @@ use mathlib.Core.List.{List, [], _∷_}
 use lib.ListN.{length, take, drop}
 use lib.Seq.{sets}
 use Rattle.limits.specs.Limits.{fileRecordWidth}
-use Rattle.rules.specs.Refusals.{stepOf, refusedAs, answerInOrder, nextInOrder}
+use Rattle.rules.specs.Refusals.{refusedAs, answerInOrder, nextInOrder}
 use Rattle.rules.specs.Runs.{answersInOrder, stateInOrder}
 use Rattle.rules.specs.State.{mainframe, State}
 use Rattle.memory.specs.Needed.{Ready, Holds}
+use Rattle.index.specs.Index.{IndexKept}
+use Rattle.collecting.specs.Needed.{ReadyKept}
 use Rattle.memory.specs.Areas.{Areas}
 use Rattle.opening.specs.Promises.{areasOpened}
 use Rattle.acting.specs.declared.Outcome.{Outcome}
 use Rattle.acting.specs.Telling.{told}
-use Rattle.running.specs.Records.{stepFrom, stepsIn, answerWords}
+use Rattle.records.specs.Records.{stepFrom, stepsIn, answerWords}
 use Rattle.running.specs.Runs.{recordsRun, firstRefusal}
 
 -- ---- one record
-
--- eight bytes stand from a place on, and the areas hold a state in order
-pub record StepThere (bytes : List ℕ) (at : ℕ) (c w r m : List ℕ) : Type 0 where
-  pub ready : Ready c w r m
-  pub there : at + fileRecordWidth ≤ length bytes
-
--- the four fields are those of the record from a place on
-pub record FieldsAre (bytes : List ℕ) (at kind processor object value : ℕ) : Type 0 where
-  pub is : stepOf kind processor object value ≡ stepFrom (drop at bytes)
 
 -- the three words from a place on tell an outcome, and the other words are as they were
 pub record OutcomeLaid (out : List ℕ) (at : ℕ) (o : Outcome) (out′ : List ℕ) : Type 0 where
   pub is : out′ ≡ sets out at (answerWords (told o ∷ []))
 
--- record i stands in the bytes, the words have room for its answer, and the areas hold a state in order
-pub record RecordThere (bytes : List ℕ) (i : ℕ) (out c w r m : List ℕ) : Type 0 where
-  pub ready : Ready c w r m
+-- record i stands in the bytes, the words have room for its answer, the areas hold a state in order, and the index is kept
+pub record RecordThere (bytes : List ℕ) (i : ℕ) (out c w r m x : List ℕ) : Type 0 where
+  pub ready : ReadyKept c w r m x
   pub there : fileRecordWidth * i + fileRecordWidth ≤ length bytes
   pub room : 3 * i + 3 ≤ length out
 
--- the step of record i was taken on the state s: its answer is laid, and the areas hold the state that it leaves
-pub record StepLaid (bytes : List ℕ) (i : ℕ) (s : State) (out out′ c w r m : List ℕ) : Type 0 where
+-- the step of record i was taken on the state s: its answer is laid, the areas hold the state that it leaves, and the index is kept
+pub record StepLaid (bytes : List ℕ) (i : ℕ) (s : State) (out out′ c w r m x : List ℕ) : Type 0 where
   pub laid : out′ ≡ sets out (3 * i) (answerWords (answerInOrder mainframe s (stepFrom (drop (fileRecordWidth * i) bytes)) ∷ []))
   pub areas : Holds c w r m (nextInOrder mainframe s (stepFrom (drop (fileRecordWidth * i) bytes)))
+  pub kept : IndexKept c r m x
 
 -- ---- how many records
 

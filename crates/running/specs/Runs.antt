@@ -14,7 +14,7 @@ use Rattle.rules.specs.Runs.{answers, stateAfter}
 use Rattle.rules.specs.State.{mainframe, State}
 use Rattle.memory.specs.Areas.{Areas, holding}
 use Rattle.opening.specs.Promises.{openingOf, openRefusal}
-use Rattle.running.specs.Records.{stepsIn, answerWords, answersIn}
+use Rattle.records.specs.Records.{stepsIn, answerWords, answersIn}
 
 -- how many records are run, the opening among them: as many whole records of eight bytes as there are, and as the answers, three words
 -- each, have room for; bytes and words beyond are not looked at

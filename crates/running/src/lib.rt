@@ -1,16 +1,13 @@
 // Runs: a list of records in one call, answered as the rules' run answers it.
 ghost use mathlib.Core.Path.{_≡_};
 ghost use mathlib.Core.List.{_∷_, []};
-ghost use Prim.Native.Nat.{_+_, _*_, _≤_};
-ghost use lib.ListN.{length, getD, drop};
+ghost use Prim.Native.Nat.{_+_, _≤_};
+ghost use lib.ListN.{length};
 ghost use lib.Seq.{sets};
-ghost use Rattle.limits.specs.Limits.{fileRecordWidth};
 ghost use Rattle.rules.specs.State.{mainframe};
 ghost use Rattle.memory.specs.Areas.{stateIn, areas};
-ghost use Rattle.engine.specs.Needed.{SteppedAs};
-ghost use Rattle.running.specs.Records.{stepFrom};
 ghost use Rattle.running.specs.Runs.{Ran};
-ghost use Rattle.running.specs.Needed.{StepThere, FieldsAre, OutcomeLaid, RecordThere, StepLaid, CountIs, RecordsThere, OpeningThere, OpeningLaid, StepsThere, StepsLaid};
+ghost use Rattle.running.specs.Needed.{OutcomeLaid, RecordThere, StepLaid, CountIs, RecordsThere, OpeningThere, OpeningLaid, StepsThere, StepsLaid};
 use acting::Outcome;
 use limits::FILE_RECORD_WIDTH;
 
@@ -32,31 +29,6 @@ pub fn run(
         return 0;
     }
     run_records(bytes, n, answers, clocks, words, records, marks)
-}
-
-// The step in the record from a place on, taken on memory that is in order.
-pub fn step_record(
-    bytes: &[u8],
-    at: usize,
-    clocks: &mut [u8],
-    words: &mut [u32],
-    records: &mut [u8],
-    marks: &mut [u8],
-) -> Outcome
-    requires { ⌜ StepThere (now bytes) at (now clocks) (now words) (now records) (now marks) ⌝ }
-    ensures { λ r. ⌜ SteppedAs (stateIn mainframe (now (clocks .entry)) (now (words .entry)) (now (records .entry)) (now (marks .entry))) (stepFrom (drop at (now (bytes .entry)))) r (now (clocks .exit)) (now (words .exit)) (now (records .exit)) (now (marks .exit)) ⌝ }
-{
-    let fields = fields_at(bytes, at);
-    engine::step_in_order(
-        fields.kind,
-        fields.processor,
-        fields.object,
-        fields.value,
-        clocks,
-        words,
-        records,
-        marks,
-    )
 }
 
 // How many records are run for so many bytes and words.
@@ -109,7 +81,7 @@ fn run_opening(
     refusal
 }
 
-// Runs the records behind the opening, of n in all.
+// Runs the records behind the opening, of n in all; the index is kept over all of them.
 fn run_steps(
     bytes: &[u8],
     n: usize,
@@ -122,9 +94,10 @@ fn run_steps(
     requires { ⌜ StepsThere (now bytes) n (now answers) (now clocks) (now words) (now records) (now marks) ⌝ }
     ensures { λ _. ⌜ StepsLaid (now (bytes .entry)) n (stateIn mainframe (now (clocks .entry)) (now (words .entry)) (now (records .entry)) (now (marks .entry))) (now (answers .entry)) (now (answers .exit)) (now (clocks .exit)) (now (words .exit)) (now (records .exit)) (now (marks .exit)) ⌝ }
 {
+    let mut index = index::new_index(marks);
     let mut i: usize = 1;
     while i < n {
-        run_step(bytes, i, answers, clocks, words, records, marks);
+        run_step(bytes, i, answers, clocks, words, records, marks, &mut index);
         i = i + 1;
     }
 }
@@ -138,53 +111,14 @@ fn run_step(
     words: &mut [u32],
     records: &mut [u8],
     marks: &mut [u8],
+    index: &mut [u32],
 )
-    requires { ⌜ RecordThere (now bytes) i (now answers) (now clocks) (now words) (now records) (now marks) ⌝ }
-    ensures { λ _. ⌜ StepLaid (now (bytes .entry)) i (stateIn mainframe (now (clocks .entry)) (now (words .entry)) (now (records .entry)) (now (marks .entry))) (now (answers .entry)) (now (answers .exit)) (now (clocks .exit)) (now (words .exit)) (now (records .exit)) (now (marks .exit)) ⌝ }
+    requires { ⌜ RecordThere (now bytes) i (now answers) (now clocks) (now words) (now records) (now marks) (now index) ⌝ }
+    ensures { λ _. ⌜ StepLaid (now (bytes .entry)) i (stateIn mainframe (now (clocks .entry)) (now (words .entry)) (now (records .entry)) (now (marks .entry))) (now (answers .entry)) (now (answers .exit)) (now (clocks .exit)) (now (words .exit)) (now (records .exit)) (now (marks .exit)) (now (index .exit)) ⌝ }
 {
-    let outcome = step_record(bytes, FILE_RECORD_WIDTH * i, clocks, words, records, marks);
+    let at = FILE_RECORD_WIDTH * i;
+    let outcome = records::step_record(bytes, at, clocks, words, records, marks, index);
     lay_outcome(answers, 3 * i, outcome);
-}
-
-// The four fields of a step.
-pub struct Fields {
-    pub kind: u32,
-    pub processor: u32,
-    pub object: u32,
-    pub value: u32,
-}
-
-// The fields of the record from a place on.
-pub fn fields_at(bytes: &[u8], at: usize) -> Fields
-    requires { ⌜ at + fileRecordWidth ≤ length (now bytes) ⌝ }
-    ensures { λ r. ⌜ FieldsAre (now (bytes .entry)) at (r .kind) (r .processor) (r .object) (r .value) ⌝ }
-{
-    let kind = wide(bytes[at]);
-    let processor = wide(bytes[at + 1]);
-    let object = half_at(bytes, at + 2);
-    let value = half_at(bytes, at + 4) + 65536 * half_at(bytes, at + 6);
-    Fields {
-        kind,
-        processor,
-        object,
-        value,
-    }
-}
-
-// The number that two bytes make, low first.
-fn half_at(bytes: &[u8], at: usize) -> u32
-    requires { ⌜ at + 2 ≤ length (now bytes) ⌝ }
-    ensures { λ r. ⌜ r ≡ getD (now (bytes .entry)) at 0 + 256 * getD (now (bytes .entry)) (at + 1) 0 ⌝ }
-    ensures { λ r. ⌜ r ≤ 65535 ⌝ }
-{
-    wide(bytes[at]) + 256 * wide(bytes[at + 1])
-}
-
-// A byte as a number of 32 bits.
-fn wide(x: u8) -> u32
-    ensures { λ r. ⌜ (r ≡ x) × (r ≤ 255) ⌝ }
-{
-    x as u32
 }
 
 // Lays what a step answers from a place on.
@@ -206,4 +140,11 @@ fn lay_answer(answers: &mut [u32], at: usize, refusal: u32, value: u32, count: u
     answers[at] = refusal;
     answers[at + 1] = value;
     answers[at + 2] = count;
+}
+
+// A byte as a number of 32 bits.
+fn wide(x: u8) -> u32
+    ensures { λ r. ⌜ (r ≡ x) × (r ≤ 255) ⌝ }
+{
+    x as u32
 }

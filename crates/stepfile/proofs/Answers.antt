@@ -10,7 +10,7 @@ use borrow.Author.Tests.{not-false, not-true}
 use borrow.Author.Needs.{needs}
 use Rattle.limits.specs.Limits.{fileRecordWidth}
 use Rattle.memory.specs.Areas.{Areas}
-use Rattle.engine.specs.Needed.{OrderIs}
+use Rattle.checking.specs.Areas.{OrderIs}
 use Rattle.passing.specs.Bytes.{bytesTaken}
 use Rattle.passing.proofs.Bytes.{taken-stopped}
 use Rattle.passing.proofs.Passing.{kept-all}
@@ -96,13 +96,15 @@ module _ (p : Progress) (chunk out : List ℕ) (e : FeedableIs true p (length ch
           sym (rw (l, ← h .zeros, take-append-drop (q .held) (q .bytes)))
 
   -- what feeding on asks
-  pub feedable-on : (ready : Bool) (c w r m : List ℕ) → p .stopped ≡ false → length (p .bytes) ≡ fileRecordWidth → OrderIs ready c w r m → Feedable p ready chunk out c w r m
+  pub feedable-on : (ready : Bool) (c w r m : List ℕ) → p .stopped ≡ false → length (p .bytes) ≡ fileRecordWidth → OrderIs ready c w r m
+      → Feedable p (record { number = p .number; stopped = false; ready = ready; at = 0 }) chunk out c w r m
   feedable-on ready c w r m s long o =
       record {
         few = few-records p (length chunk) (length out) (sym (e .is));
         going = s;
         fewer = few-held p (length chunk) (length out) (sym (e .is));
         holding = holding-there p (length chunk) (length out) (sym (e .is)) long;
+        first = refl;
         room = room-there p (length chunk) (length out) (sym (e .is));
         order = o;
       }

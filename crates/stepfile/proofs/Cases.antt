@@ -16,7 +16,7 @@ use Rattle.rules.proofs.Listing.{start, listing}
 use Rattle.rules.proofs.FromStart.{listing-a}
 use Rattle.memory.specs.Areas.{clockRows, wordRows, markPlaces, sizesRight, Areas, areas, rightSizes}
 use Rattle.opening.specs.Promises.{openingOf, openRefusal, areasOpened}
-use Rattle.running.specs.Records.{stepFrom, stepsIn}
+use Rattle.records.specs.Records.{stepFrom, stepsIn}
 use Rattle.lines.specs.Decimal.{digitsWithin, digits}
 use Rattle.lines.specs.Lines.{lineBytes}
 use Rattle.taking.specs.Records.{refusalLine, openingTaken, recordTaken}

@@ -1,5 +1,5 @@
--- A chunk fed to a run that has not stopped: the record that has begun, then the rest. One law for each way of the code, and `chunk-laws`.
--- Assumes nothing.
+-- A chunk fed to a run that has not stopped: the record that has begun, if bytes are held, then the rest. One law for each way of the code, and
+-- `chunk-laws`. Assumes nothing.
 use Prim.Native.Nat.{_<_, _≤_, ℕ}
 use native.Mathlib.Omega.{arith}
 use mathlib.Core.Path.{_∙_, _≡_, ap, refl, sym}
@@ -11,26 +11,48 @@ use borrow.Author.Needs.{needs}
 use Rattle.limits.specs.Limits.{fileRecordWidth}
 use Rattle.memory.specs.Areas.{Areas, areas}
 use Rattle.taking.specs.Records.{Feed, openingTaken, recordTaken, stepTaken, tooManyTaken}
-use Rattle.taking.specs.Needed.{Takeable, Took, standsAt}
+use Rattle.taking.specs.Needed.{Took, standsAt}
 use Rattle.taking.specs.declared.Stand.{Stand}
 use Rattle.passing.specs.Bytes.{bytesTaken, heldOn}
-use Rattle.passing.specs.Needed.{Passable}
-use Rattle.passing.proofs.Bytes.{taken-held, taken-record, taken-together}
+use Rattle.passing.specs.Needed.{Passable, Passes}
+use Rattle.passing.proofs.Bytes.{eight-first, taken-held, taken-record, taken-stopped, taken-together}
 use Rattle.passing.proofs.Passing.{kept-again, kept-all}
 use Rattle.stepfile.specs.Promises.{standing}
 use Rattle.stepfile.specs.declared.Progress.{Progress}
 use Rattle.stepfile.specs.declared.Taken.{Taken}
 use Rattle.stepfile.specs.declared.Held.{Held}
-use Rattle.stepfile.specs.Needed.{ChunkFed, Completes, Feedable, HeldAll, Holdable, firstStand, takenAs}
+use Rattle.stepfile.specs.Needed.{BegunPassable, ChunkFed, Completes, Feedable, HeldAll, Holdable, takenAs}
 use Rattle.stepfile.proofs.Rest.{held-progress}
 
--- a whole record is taken whatever was held before it
-record-from : (p : Progress) (ready : Bool) (out : List ℕ) (a : Areas) (bytes : List ℕ)
-    → recordTaken (standing p a) bytes ≡ recordTaken (standsAt (firstStand (p .number) ready) out a) bytes
-unfolding recordTaken openingTaken stepTaken tooManyTaken standing standsAt firstStand
-record-from p ready out a bytes = refl
+module _ (p : Progress) (s : Stand) (chunk out c w r m : List ℕ) (h : Feedable p s chunk out c w r m) where
+  -- no line is written
+  none-written : s .at ≡ 0
+  none-written = ap (λ (x : Stand). x .at) (h .first)
 
-module _ (p : Progress) (ready : Bool) (chunk out c w r m : List ℕ) (h : Feedable p ready chunk out c w r m) where
+  -- a whole record is taken whatever was held before it
+  record-from : (bytes : List ℕ) → recordTaken (standing p (areas c w r m)) bytes ≡ recordTaken (standsAt s out (areas c w r m)) bytes
+  unfolding recordTaken openingTaken stepTaken tooManyTaken standing standsAt
+  record-from bytes = ap (λ (x : Stand). recordTaken (standsAt x out (areas c w r m)) bytes) (sym (h .first))
+
+  -- nothing is held
+  pub whole-passable : Passable s chunk 0 out c w r m
+  whole-passable =
+      record {
+        few = omega (arith, ap (λ (x : Stand). x .number) (h .first), h .few);
+        within = omega arith;
+        room = omega (arith, none-written, h .room);
+        order = h .order;
+      }
+
+  pub whole-taken : p .held ≡ 0 → (t : Taken) (out′ : List ℕ) (a′ : Areas) → ChunkFed (bytesTaken (standsAt s out (areas c w r m)) (drop 0 chunk)) (s .at) out t out′ a′
+      → ChunkFed (bytesTaken (standing p (areas c w r m)) chunk) 0 out t out′ a′
+  unfolding standing standsAt
+  whole-taken n t out′ a′ f =
+      let same : standsAt s out (areas c w r m) ≡ standing p (areas c w r m) =
+      ap (λ (x : Stand). standsAt x out (areas c w r m)) (h .first)
+      ∙ sym (rw (h .going, n)) in
+      rw (← same, ← none-written) f
+
   pub holdable : Holdable (p .held) (p .bytes) chunk 0
   holdable = record { holding = h .holding; within = omega arith }
 
@@ -60,30 +82,33 @@ module _ (p : Progress) (ready : Bool) (chunk out c w r m : List ℕ) (h : Feeda
         })
 
     -- it does
-    pub completes : fileRecordWidth ≤ q .count → Completes p ready q chunk out c w r m
+    pub completes : fileRecordWidth ≤ q .count → Completes p s q chunk out c w r m
     completes l = record { feedable = h; held = d; eight = l }
 
-module _ (p : Progress) (ready : Bool) (q : Held) (chunk out c w r m : List ℕ) (h : Completes p ready q chunk out c w r m) where
+module _ (p : Progress) (s : Stand) (q : Held) (chunk out c w r m : List ℕ) (h : Completes p s q chunk out c w r m) where
   -- the record that has begun
-  pub begun-takeable : Takeable (firstStand (p .number) ready) (q .bytes) 0 out c w r m
-  unfolding firstStand
-  begun-takeable =
+  pub begun-passable : BegunPassable s (q .bytes) out c w r m
+  begun-passable =
+      let all = whole-passable p s chunk out c w r m (h .feedable) in
       record {
-        few = h .feedable .few;
-        there = omega (arith, h .held .holds .holding .long);
-        room = omega (arith, h .feedable .room);
-        order = h .feedable .order;
+        passable =
+            record {
+              few = all .few;
+              within = omega arith;
+              room = omega (arith, none-written p s chunk out c w r m (h .feedable), h .held .holds .holding .long, h .feedable .room);
+              order = all .order;
+            };
+        going = ap (λ (x : Stand). x .stopped) (h .feedable .first);
+        eight = h .held .holds .holding .long;
       }
 
-  module _ (s : Stand) (out′ c′ w′ r′ m′ : List ℕ)
-      (k : Took (recordTaken (standsAt (firstStand (p .number) ready) out (areas c w r m)) (take fileRecordWidth (drop 0 (q .bytes)))) (firstStand (p .number) ready) out s out′ c′ w′ r′ m′) where
-    pub rest-passable : Passable s chunk (q .next) out′ c′ w′ r′ m′
-    unfolding firstStand
+  module _ (s′ : Stand) (out′ c′ w′ r′ m′ : List ℕ) (k : Took (recordTaken (standsAt s out (areas c w r m)) (take fileRecordWidth (q .bytes))) s out s′ out′ c′ w′ r′ m′) where
+    pub rest-passable : Passable s′ chunk (q .next) out′ c′ w′ r′ m′
     rest-passable =
         record {
           few = k .few;
           within = h .held .holds .within;
-          room = omega (arith, k .near, k .kept .long, h .feedable .room);
+          room = omega (arith, none-written p s chunk out c w r m (h .feedable), k .near, k .kept .long, h .feedable .room);
           order = k .order;
         }
 
@@ -91,7 +116,7 @@ module _ (p : Progress) (ready : Bool) (q : Held) (chunk out c w r m : List ℕ)
     eight = omega (arith, h .eight, h .held .holds .holding .few)
 
     begun : length (take (p .held) (p .bytes)) ≡ p .held
-    begun = begun-long p ready chunk out c w r m (h .feedable)
+    begun = begun-long p s chunk out c w r m (h .feedable)
 
     first : length (take (q .next) chunk) ≡ q .next
     first = length-take-le (q .next) chunk (h .held .holds .within)
@@ -110,7 +135,7 @@ module _ (p : Progress) (ready : Bool) (q : Held) (chunk out c w r m : List ℕ)
         ∙ take-at (take fileRecordWidth (q .bytes)) (drop (q .next) chunk) fileRecordWidth (length-take-le fileRecordWidth (q .bytes) (omega (arith, h .held .holds .holding .long)))
 
     -- what the chunk leads to is what its rest leads to behind the record
-    behind-first : bytesTaken (standsAt s out′ (areas c′ w′ r′ m′)) (drop (q .next) chunk) ≡ bytesTaken (standing p (areas c w r m)) chunk
+    behind-first : bytesTaken (standsAt s′ out′ (areas c′ w′ r′ m′)) (drop (q .next) chunk) ≡ bytesTaken (standing p (areas c w r m)) chunk
     unfolding standing
     behind-first =
         sym
@@ -120,32 +145,42 @@ module _ (p : Progress) (ready : Bool) (q : Held) (chunk out c w r m : List ℕ)
         (taken-record (standing p (areas c w r m)) (take (q .next) chunk) (h .feedable .going) (omega (arith, begun, h .feedable .fewer))
         (omega (arith, begun, first, h .held .holds .counted, eight))
         ∙ ap (λ (xs : List ℕ). recordTaken (standing p (areas c w r m)) xs) whole
-        ∙ record-from p ready out (areas c w r m) (take fileRecordWidth (q .bytes))
+        ∙ record-from p s chunk out c w r m (h .feedable) (take fileRecordWidth (q .bytes))
         ∙ sym (k .is)))
 
-    pub chunk-taken : (t : Taken) (out″ : List ℕ) (a″ : Areas) → ChunkFed (bytesTaken (standsAt s out′ (areas c′ w′ r′ m′)) (drop (q .next) chunk)) (s .at) out′ t out″ a″
+    pub chunk-taken : (t : Taken) (out″ : List ℕ) (a″ : Areas) → ChunkFed (bytesTaken (standsAt s′ out′ (areas c′ w′ r′ m′)) (drop (q .next) chunk)) (s′ .at) out′ t out″ a″
         → ChunkFed (bytesTaken (standing p (areas c w r m)) chunk) 0 out t out″ a″
-    unfolding firstStand
     chunk-taken t out″ a″ f =
         rw (← behind-first)
         (record {
           answer = f .answer;
           areas = f .areas;
           lines = f .lines;
-          kept = kept-again out 0 out′ (s .at) out″ _ (k .kept) (f .kept);
+          kept = rw (← none-written p s chunk out c w r m (h .feedable)) (kept-again out (s .at) out′ (s′ .at) out″ _ (k .kept) (f .kept));
         })
 
--- the record that has begun, taken where no line is written
-module _ (number : ℕ) (ready : Bool) (bytes out c w r m : List ℕ) where
-  pub first-takeable : Takeable (firstStand number ready) bytes 0 out c w r m
-      → Takeable (record { number = number; stopped = false; ready = ready; at = 0 }) bytes 0 out c w r m
-  unfolding firstStand
-  first-takeable h = h
+-- the record that has begun, passed as a chunk of one record
+pub begun-taken : (s : Stand) (bytes out c w r m : List ℕ) (s′ : Stand) (i : ℕ) (out′ c′ w′ r′ m′ : List ℕ) → BegunPassable s bytes out c w r m
+    → Passes s bytes 0 out c w r m s′ i out′ c′ w′ r′ m′
+    → Took (recordTaken (standsAt s out (areas c w r m)) (take fileRecordWidth bytes)) s out s′ out′ c′ w′ r′ m′
+unfolding standsAt bytesTaken
+begun-taken s bytes out c w r m s′ i out′ c′ w′ r′ m′ h k =
+    let f : Feed = recordTaken (standsAt s out (areas c w r m)) (take fileRecordWidth bytes) in
+    record {
+      is =
+          sym (none-left (s′ .stopped) refl) ∙ k .passing .is
+          ∙ eight-first (standsAt s out (areas c w r m)) bytes refl (h .going) (omega (arith, h .eight))
+          ∙ ap (λ (xs : List ℕ). bytesTaken f xs) (drop-of-length-le bytes {i = fileRecordWidth} (omega (arith, h .eight)));
+      few = k .passing .able .few;
+      kept = k .passing .kept;
+      near = omega (arith, k .passing .near, h .eight);
+      order = k .passing .able .order;
+    }
+  where
+    none-left : (b : Bool) → s′ .stopped ≡ b → bytesTaken (standsAt s′ out′ (areas c′ w′ r′ m′)) (drop i bytes) ≡ standsAt s′ out′ (areas c′ w′ r′ m′)
+    none-left true y = taken-stopped (standsAt s′ out′ (areas c′ w′ r′ m′)) (drop i bytes) y
+    none-left false y =
+        ap (λ (xs : List ℕ). bytesTaken (standsAt s′ out′ (areas c′ w′ r′ m′)) xs)
+        (drop-of-length-le bytes {i = i} (omega (arith, h .eight, k .few-left y, k .passing .whole)))
 
-  pub first-taken : (s : Stand) (out′ c′ w′ r′ m′ : List ℕ)
-      → Took (recordTaken (standsAt (record { number = number; stopped = false; ready = ready; at = 0 }) out (areas c w r m)) (take fileRecordWidth (drop 0 bytes))) (record { number = number; stopped = false; ready = ready; at = 0 }) out s out′ c′ w′ r′ m′
-      → Took (recordTaken (standsAt (firstStand number ready) out (areas c w r m)) (take fileRecordWidth (drop 0 bytes))) (firstStand number ready) out s out′ c′ w′ r′ m′
-  unfolding firstStand
-  first-taken s out′ c′ w′ r′ m′ k = k
-
-pub ruleset chunk-laws = (holdable, chunk-held, completes, begun-takeable, rest-passable, chunk-taken, first-takeable, first-taken, needs)
+pub ruleset chunk-laws = (whole-passable, whole-taken, holdable, chunk-held, completes, begun-passable, rest-passable, chunk-taken, begun-taken, needs)

@@ -16,7 +16,7 @@ use Rattle.rules.specs.State.{mainframe}
 use Rattle.rules.proofs.DemandThree.{demand-three}
 use Rattle.memory.specs.Areas.{Areas, rightSizes}
 use Rattle.opening.specs.Promises.{openingOf}
-use Rattle.running.specs.Records.{stepsIn}
+use Rattle.records.specs.Records.{stepsIn}
 use Rattle.taking.specs.Records.{refusalLine}
 use Rattle.stepfile.specs.Files.{answerLines, stepCount, endLine, openedBy, stepLines, fileLines}
 use Rattle.stepfile.specs.Feeding.{after}

@@ -1,6 +1,6 @@
 -- The rest of a chunk: the records that lie whole in it are taken, and the bytes behind the last are held. One law for each way of the code,
 -- and `rest-laws`. Assumes nothing.
-use Prim.Native.Nat.{_+_, _<_, _≤_, ℕ}
+use Prim.Native.Nat.{_<_, _≤_, ℕ}
 use native.Mathlib.Omega.{arith}
 use mathlib.Core.Path.{_∙_, _≡_, ap, refl, sym}
 use mathlib.Core.Bool.{Bool, false, true}
@@ -9,13 +9,12 @@ use lib.ListN.{drop, drop-of-length-le, length, length-drop, replicate, take, ta
 use lib.Seq.{length-take-le}
 use borrow.Author.Needs.{needs}
 use Rattle.limits.specs.Limits.{fileRecordWidth}
-use Rattle.memory.specs.Areas.{Areas}
+use Rattle.memory.specs.Areas.{Areas, areas}
 use Rattle.taking.specs.Records.{Feed}
 use Rattle.taking.specs.Needed.{standsAt}
 use Rattle.taking.specs.declared.Stand.{Stand}
 use Rattle.passing.specs.Bytes.{bytesTaken, heldOn}
 use Rattle.passing.specs.Needed.{Passes}
-use Rattle.passing.specs.declared.Passed.{Passed}
 use Rattle.passing.proofs.Bytes.{taken-held, taken-stopped}
 use Rattle.stepfile.specs.Promises.{progressOf}
 use Rattle.stepfile.specs.declared.Progress.{Progress}
@@ -84,27 +83,25 @@ module _ (s : Stand) (chunk : List ℕ) (from : ℕ) (h : Endable s chunk from) 
             ∙ ap (λ (f : Feed). takenAs f) (sym (rest-held out a z));
       }
 
--- what the end asks of the last stand
-pub endable : (s : Stand) (chunk : List ℕ) (from : ℕ) (out : List ℕ) (a : Areas) (q : Passed) (out′ : List ℕ) (a′ : Areas) → Passes s chunk from out a q out′ a′
-    → Endable (q .stand) chunk (q .next)
-endable s chunk from out a q out′ a′ h = record { within = h .within; few-left = h .few-left }
+module _ (s : Stand) (chunk : List ℕ) (from : ℕ) (out c w r m : List ℕ) (s′ : Stand) (i : ℕ) (out′ c′ w′ r′ m′ : List ℕ)
+    (h : Passes s chunk from out c w r m s′ i out′ c′ w′ r′ m′) where
+  -- what the end asks of the last stand
+  pub endable : Endable s′ chunk i
+  endable = record { within = h .passing .able .within; few-left = h .few-left }
 
--- the records of a chunk are taken, and the bytes behind them are held
-pub rest-taken : (s : Stand) (chunk : List ℕ) (from : ℕ) (out : List ℕ) (a : Areas) (q : Passed) (out′ : List ℕ) (a′ : Areas) (t : Taken)
-    → Passes s chunk from out a q out′ a′ → Ended (q .stand) chunk (q .next) t
-    → ChunkFed (bytesTaken (standsAt s out a) (drop from chunk)) (s .at) out t out′ a′
-rest-taken s chunk from out a q out′ a′ t h d =
-    let end = endable s chunk from out a q out′ a′ h in
-    let at : q .stand .at ≤ length out′ = omega (arith, h .kept .within, h .kept .long) in
-    let lines = rest-lines (q .stand) chunk (q .next) end out′ a′ in
-    let written : length (bytesTaken (standsAt (q .stand) out′ a′) (drop (q .next) chunk) .lines) ≡ q .stand .at =
-    ap length lines ∙ length-take-le (q .stand .at) out′ at in
-    rw (← h .is)
-    (record {
-      answer = d .is out′ a′ at;
-      areas = sym (rest-areas (q .stand) chunk (q .next) end out′ a′);
-      lines = ap (λ (n : ℕ). take n out′) written ∙ sym lines;
-      kept = rw written (h .kept);
-    })
+  -- the records of a chunk are taken, and the bytes behind them are held
+  pub rest-taken : (t : Taken) → Ended s′ chunk i t → ChunkFed (bytesTaken (standsAt s out (areas c w r m)) (drop from chunk)) (s .at) out t out′ (areas c′ w′ r′ m′)
+  rest-taken t d =
+      let a′ : Areas = areas c′ w′ r′ m′ in
+      let at : s′ .at ≤ length out′ = omega (arith, h .passing .kept .within, h .passing .kept .long) in
+      let lines = rest-lines s′ chunk i endable out′ a′ in
+      let written : length (bytesTaken (standsAt s′ out′ a′) (drop i chunk) .lines) ≡ s′ .at = ap length lines ∙ length-take-le (s′ .at) out′ at in
+      rw (← h .passing .is)
+      (record {
+        answer = d .is out′ a′ at;
+        areas = sym (rest-areas s′ chunk i endable out′ a′);
+        lines = ap (λ (n : ℕ). take n out′) written ∙ sym lines;
+        kept = rw written (h .passing .kept);
+      })
 
 pub ruleset rest-laws = (ended-stopped, none-held, ended-held, endable, rest-taken, needs)

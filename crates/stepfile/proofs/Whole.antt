@@ -18,12 +18,12 @@ use Rattle.rules.specs.State.{mainframe, State}
 use Rattle.memory.specs.Areas.{Areas, holding, rightSizes}
 use Rattle.opening.specs.Promises.{openingOf, openRefusal, areasOpened}
 use Rattle.engine.specs.Promises.{answerOf, areasAfter}
-use Rattle.running.specs.Records.{stepFrom, stepsIn}
+use Rattle.records.specs.Records.{stepFrom, stepsIn}
 use Rattle.lines.specs.Lines.{lineBytes}
 use Rattle.taking.specs.Records.{Feed, refusalLine, openingTaken, stepTaken, tooManyTaken, recordTaken}
-use Rattle.taking.proofs.Taking.{step-of-eight}
 use Rattle.passing.specs.Bytes.{heldOn, bytesTaken}
 use Rattle.passing.proofs.Bytes.{taken-stopped, taken-held, eight-first}
+use Rattle.passing.proofs.Records.{step-of-eight}
 use Rattle.stepfile.specs.Files.{answerLines, stepCount, endLine, openedBy, stepLines, fileLines}
 use Rattle.stepfile.specs.Feeding.{begun, after, lastLine}
 use Rattle.stepfile.specs.Promises.{progressOf, finishLine, Reached}

@@ -10,7 +10,7 @@ use Rattle.rules.specs.Refusals.{Answer}
 use Rattle.rules.specs.Runs.{answers}
 use Rattle.rules.specs.State.{mainframe, State}
 use Rattle.opening.specs.Promises.{openingOf}
-use Rattle.running.specs.Records.{stepsIn}
+use Rattle.records.specs.Records.{stepsIn}
 use Rattle.lines.specs.Lines.{lineBytes}
 use Rattle.taking.specs.Records.{refusalLine}
 

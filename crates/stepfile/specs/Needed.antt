@@ -8,11 +8,12 @@ use lib.Dec.{eqb, ltb}
 use Rattle.limits.specs.Limits.{fileRecordWidth, lineLimit}
 use Rattle.limits.specs.Sizes.{fileRecordLimit}
 use Rattle.memory.specs.Areas.{Areas}
-use Rattle.engine.specs.Needed.{OrderIs}
+use Rattle.checking.specs.Areas.{OrderIs}
 use Rattle.taking.specs.Records.{Feed}
 use Rattle.taking.specs.Needed.{Kept, standsAt}
 use Rattle.taking.specs.declared.Stand.{Stand}
 use Rattle.passing.specs.Bytes.{bytesTaken}
+use Rattle.passing.specs.Needed.{Passable}
 use Rattle.stepfile.specs.Promises.{allZero, feedable, progressOf}
 use Rattle.stepfile.specs.declared.Progress.{Progress}
 use Rattle.stepfile.specs.declared.Taken.{Taken}
@@ -59,28 +60,32 @@ pub record HeldAll (held : ℕ) (bytes chunk : List ℕ) (from : ℕ) (h : Held)
 
 -- ---- a chunk
 
--- what stands before the first record of a chunk: no line is written
-unfoldable pub firstStand : ℕ → Bool → Stand
-firstStand number ready = record { number = number; stopped = false; ready = ready; at = 0 }
-
 -- the answer of what stands after a chunk
 unfoldable pub takenAs : Feed → Taken
 takenAs f = record { progress = progressOf f; fed = true; written = length (f .lines) }
 
--- the progress is one that feeding makes, and not stopped; there is room for the lines of the chunk; ready says whether the areas are in order
-pub record Feedable (p : Progress) (ready : Bool) (chunk out c w r m : List ℕ) : Type 0 where
+-- the progress is one that feeding makes, and not stopped, and the stand is that before the first record: no line is written; there is room for the
+-- lines of the chunk
+pub record Feedable (p : Progress) (s : Stand) (chunk out c w r m : List ℕ) : Type 0 where
   pub few : p .number ≤ fileRecordLimit
   pub going : p .stopped ≡ false
   pub fewer : p .held < fileRecordWidth
   pub holding : Holding (p .held) (p .bytes)
+  pub first : s ≡ record { number = p .number; stopped = false; ready = s .ready; at = 0 }
   pub room : lineLimit * (length chunk / fileRecordWidth) + lineLimit ≤ length out
-  pub order : OrderIs ready c w r m
+  pub order : OrderIs (s .ready) c w r m
 
 -- the bytes held and the first of the chunk are eight
-pub record Completes (p : Progress) (ready : Bool) (h : Held) (chunk out c w r m : List ℕ) : Type 0 where
-  pub feedable : Feedable p ready chunk out c w r m
+pub record Completes (p : Progress) (s : Stand) (h : Held) (chunk out c w r m : List ℕ) : Type 0 where
+  pub feedable : Feedable p s chunk out c w r m
   pub held : HeldAll (p .held) (p .bytes) chunk 0 h
   pub eight : fileRecordWidth ≤ h .count
+
+-- the eight bytes of a record are held, and a run that has not stopped may take it
+pub record BegunPassable (s : Stand) (bytes out c w r m : List ℕ) : Type 0 where
+  pub passable : Passable s bytes 0 out c w r m
+  pub going : s .stopped ≡ false
+  pub eight : length bytes ≡ fileRecordWidth
 
 -- after the last record: fewer than eight bytes are left, or the run has stopped
 pub record Endable (s : Stand) (chunk : List ℕ) (from : ℕ) : Type 0 where

@@ -3,13 +3,13 @@ ghost use mathlib.Core.Bool.{true};
 ghost use lib.ListN.{length, take, drop};
 ghost use Rattle.limits.specs.Limits.{fileRecordWidth};
 ghost use Rattle.memory.specs.Areas.{areas};
-ghost use Rattle.engine.specs.Needed.{OrderIs};
+ghost use Rattle.checking.specs.Areas.{OrderIs};
 ghost use Rattle.taking.specs.Records.{recordTaken};
-ghost use Rattle.taking.specs.Needed.{standsAt, Takeable, Took};
+ghost use Rattle.taking.specs.Needed.{standsAt, Took};
 ghost use Rattle.passing.specs.Bytes.{bytesTaken};
 ghost use Rattle.passing.specs.Needed.{Passable};
 ghost use Rattle.stepfile.specs.Promises.{standing, Started, FedAs, FinishedAs};
-ghost use Rattle.stepfile.specs.Needed.{ZerosBehind, FeedableIs, EndsShort, firstStand, Holdable, HeldAll, Feedable, Completes, Endable, Ended, ChunkFed};
+ghost use Rattle.stepfile.specs.Needed.{ZerosBehind, FeedableIs, EndsShort, Holdable, HeldAll, Feedable, Completes, BegunPassable, Endable, Ended, ChunkFed};
 use limits::FILE_RECORD_LIMIT;
 use limits::FILE_RECORD_WIDTH;
 use limits::LINE_LIMIT;
@@ -165,21 +165,20 @@ fn feed_sound(
             written: 0,
         };
     }
-    let ready = in_order(clocks, words, records, marks);
-    feed_on(progress, ready, chunk, lines, clocks, words, records, marks)
+    let ready = checking::in_order(clocks, words, records, marks);
+    let stand = Stand {
+        number: progress.number,
+        stopped: false,
+        ready,
+        at: 0,
+    };
+    feed_on(progress, stand, chunk, lines, clocks, words, records, marks)
 }
 
-// Whether the areas are in order.
-fn in_order(clocks: &[u8], words: &[u32], records: &[u8], marks: &[u8]) -> bool
-    ensures { λ r. ⌜ OrderIs r (now (clocks .entry)) (now (words .entry)) (now (records .entry)) (now (marks .entry)) ⌝ }
-{
-    checking::in_order(clocks, words, records, marks)
-}
-
-// Feeds a chunk to a run that has not stopped: its first bytes go behind those held, and if they complete no record that is all.
+// Feeds a chunk to a run that has not stopped: if bytes are held its first go behind them, and if they complete no record that is all.
 fn feed_on(
     progress: Progress,
-    ready: bool,
+    stand: Stand,
     chunk: &[u8],
     lines: &mut [u8],
     clocks: &mut [u8],
@@ -187,9 +186,12 @@ fn feed_on(
     records: &mut [u8],
     marks: &mut [u8],
 ) -> Taken
-    requires { ⌜ Feedable progress ready (now chunk) (now lines) (now clocks) (now words) (now records) (now marks) ⌝ }
+    requires { ⌜ Feedable progress stand (now chunk) (now lines) (now clocks) (now words) (now records) (now marks) ⌝ }
     ensures { λ r. ⌜ ChunkFed (bytesTaken (standing progress (areas (now (clocks .entry)) (now (words .entry)) (now (records .entry)) (now (marks .entry)))) (now (chunk .entry))) 0 (now (lines .entry)) r (now (lines .exit)) (areas (now (clocks .exit)) (now (words .exit)) (now (records .exit)) (now (marks .exit))) ⌝ }
 {
+    if progress.held == 0 {
+        return take_rest(stand, chunk, 0, lines, clocks, words, records, marks);
+    }
     let begun = progress.bytes;
     let first = hold(progress.held, begun, chunk, 0);
     if first.count < FILE_RECORD_WIDTH {
@@ -208,7 +210,7 @@ fn feed_on(
     }
     feed_begun(
         progress,
-        ready,
+        stand,
         first,
         chunk,
         lines,
@@ -249,7 +251,7 @@ fn hold(held: usize, bytes: [u8; FILE_RECORD_WIDTH], chunk: &[u8], from: usize) 
 // Feeds a chunk that completes the record that has begun: first that record, then those that lie whole in the chunk.
 fn feed_begun(
     progress: Progress,
-    ready: bool,
+    stand: Stand,
     first: Held,
     chunk: &[u8],
     lines: &mut [u8],
@@ -258,22 +260,13 @@ fn feed_begun(
     records: &mut [u8],
     marks: &mut [u8],
 ) -> Taken
-    requires { ⌜ Completes progress ready first (now chunk) (now lines) (now clocks) (now words) (now records) (now marks) ⌝ }
+    requires { ⌜ Completes progress stand first (now chunk) (now lines) (now clocks) (now words) (now records) (now marks) ⌝ }
     ensures { λ r. ⌜ ChunkFed (bytesTaken (standing progress (areas (now (clocks .entry)) (now (words .entry)) (now (records .entry)) (now (marks .entry)))) (now (chunk .entry))) 0 (now (lines .entry)) r (now (lines .exit)) (areas (now (clocks .exit)) (now (words .exit)) (now (records .exit)) (now (marks .exit))) ⌝ }
 {
     let bytes = first.bytes;
-    let stand = take_begun(
-        progress.number,
-        ready,
-        bytes,
-        lines,
-        clocks,
-        words,
-        records,
-        marks,
-    );
+    let behind = take_begun(stand, bytes, lines, clocks, words, records, marks);
     take_rest(
-        stand,
+        behind,
         chunk,
         first.next,
         lines,
@@ -284,10 +277,9 @@ fn feed_begun(
     )
 }
 
-// Takes the record whose eight bytes are held; no line is written before it.
+// Takes the record whose eight bytes are held, as a chunk of one record.
 fn take_begun(
-    number: u32,
-    ready: bool,
+    stand: Stand,
     bytes: [u8; FILE_RECORD_WIDTH],
     lines: &mut [u8],
     clocks: &mut [u8],
@@ -295,16 +287,11 @@ fn take_begun(
     records: &mut [u8],
     marks: &mut [u8],
 ) -> Stand
-    requires { ⌜ Takeable (firstStand number ready) bytes 0 (now lines) (now clocks) (now words) (now records) (now marks) ⌝ }
-    ensures { λ r. ⌜ Took (recordTaken (standsAt (firstStand number ready) (now (lines .entry)) (areas (now (clocks .entry)) (now (words .entry)) (now (records .entry)) (now (marks .entry)))) (take fileRecordWidth (drop 0 bytes))) (firstStand number ready) (now (lines .entry)) r (now (lines .exit)) (now (clocks .exit)) (now (words .exit)) (now (records .exit)) (now (marks .exit)) ⌝ }
+    requires { ⌜ BegunPassable stand bytes (now lines) (now clocks) (now words) (now records) (now marks) ⌝ }
+    ensures { λ r. ⌜ Took (recordTaken (standsAt stand (now (lines .entry)) (areas (now (clocks .entry)) (now (words .entry)) (now (records .entry)) (now (marks .entry)))) (take fileRecordWidth bytes)) stand (now (lines .entry)) r (now (lines .exit)) (now (clocks .exit)) (now (words .exit)) (now (records .exit)) (now (marks .exit)) ⌝ }
 {
-    let stand = Stand {
-        number,
-        stopped: false,
-        ready,
-        at: 0,
-    };
-    taking::take_record(stand, &bytes, 0, lines, clocks, words, records, marks)
+    let one = passing::take_whole(stand, &bytes, 0, lines, clocks, words, records, marks);
+    one.stand
 }
 
 // Takes the records that lie whole in the chunk from a place on, and holds the bytes behind them.

@@ -1,43 +1,36 @@
--- One record taken: its line behind those before it, and what then stands. One law for each way of the code, and `taking-laws`. Assumes nothing.
-use Prim.Native.Nat.{_+_, _-_, _<_, _≤_, ℕ}
+-- A line behind those before it, and the opening taken. One law for each way of the code, and `taking-laws`. Assumes nothing.
+use Prim.Native.Nat.{_+_, _-_, _≤_, ℕ}
 use native.Mathlib.Omega.{arith}
-use native.Mathlib.Numerals.{add-one}
 use mathlib.Core.Path.{_∙_, _≡_, ap, refl, sym}
 use mathlib.Core.Bool.{Bool, _&&_, false, not, true}
 use mathlib.Core.List.{List, [], _++_}
 use lib.ListN.{drop, length, length-append, take}
-use lib.Seq.{drop-at, getD-take, length-sets, length-take-le, sets, sets-eq, take-at}
+use lib.Seq.{drop-at, length-sets, length-take-le, sets, sets-eq, take-at}
 use lib.Dec.{eqb}
 use mir.Syntax.{w32}
 use mir.Val.{Fits}
-use borrow.Author.Tests.{eq-eqb, le-leb, lt-leb, ne-eqb, not-false}
+use borrow.Author.Tests.{eq-eqb, ne-eqb}
 use borrow.Author.Needs.{needs}
-use Rattle.limits.specs.Limits.{fileRecordWidth, lineLimit, stepLimit}
+use Rattle.limits.specs.Limits.{fileRecordWidth, lineLimit}
 use Rattle.rules.proofs.InOrderWhen.{in-order-when}
 use Rattle.rules.specs.InOrder.{inOrder}
-use Rattle.rules.specs.Refusals.{Answer, Step}
 use Rattle.rules.specs.State.{mainframe}
 use Rattle.memory.proofs.Encoding.{lent-right}
 use Rattle.memory.specs.Areas.{stateIn, Areas, areas}
 use Rattle.memory.specs.Needed.{Ready}
 use Rattle.acting.specs.Telling.{outcomeCount, outcomeRefusal, outcomeValue, told}
 use Rattle.checking.specs.Areas.{areasInOrder}
-use Rattle.engine.specs.Promises.{answerOf, areasAfter}
-use Rattle.engine.specs.Needed.{OrderIs, SteppedAs}
+use Rattle.checking.specs.Areas.{OrderIs}
 use Rattle.acting.specs.declared.Outcome.{Outcome}
 use Rattle.acting.specs.declared.Outcome.the-variants.{Done, Refused}
-use Rattle.engine.proofs.Answering.{in-order-after, in-order-answered, out-of-order, out-of-order-untouched, ready-when-fine}
 use Rattle.opening.proofs.Following.{opened-ready}
 use Rattle.opening.specs.Promises.{areasOpened, openRefusal}
-use Rattle.engine.proofs.Stepping.{outcome-tells, stepped-ready}
-use Rattle.running.specs.Needed.{StepThere}
-use Rattle.running.specs.Records.{stepFrom}
 use Rattle.lines.specs.Lines.{lineBytes}
 use Rattle.lines.specs.Needed.{Room}
 use Rattle.lines.proofs.Lines.{at-most-44-bytes}
-use Rattle.taking.specs.Records.{openingTaken, recordTaken, refusalLine, stepTaken, tooManyTaken}
+use Rattle.taking.specs.Records.{openingTaken, refusalLine}
 use Rattle.taking.specs.declared.Stand.{Stand}
-use Rattle.taking.specs.Needed.{Answered, Kept, LinePut, OpenedAs, StepTakeable, Steppable, StoppedAt, Takeable, Took, outcomeLine, standsAt}
+use Rattle.taking.specs.Needed.{Kept, LinePut, OpenedAs, Takeable, Took, outcomeLine, standsAt}
 
 -- ---- a line behind those before it
 
@@ -107,43 +100,10 @@ unfolding areas
 same-order b c w r m c′ w′ r′ m′ h e =
     record { is = h .is ∙ ap (λ (a : Areas). areasInOrder (a .clocks) (a .words) (a .records) (a .marks)) (sym e) }
 
--- ---- a step
-
--- the step of a record is that of its eight bytes
-pub step-of-eight : (bytes : List ℕ) → stepFrom (take fileRecordWidth bytes) ≡ stepFrom bytes
-unfolding stepFrom
-step-of-eight bytes =
-    rw (getD-take fileRecordWidth bytes 0 0 (omega arith), getD-take fileRecordWidth bytes 1 0 (omega arith), getD-take fileRecordWidth bytes 2 0 (omega arith), getD-take fileRecordWidth bytes 3 0 (omega arith), getD-take fileRecordWidth bytes 4 0 (omega arith), getD-take fileRecordWidth bytes 5 0 (omega arith), getD-take fileRecordWidth bytes 6 0 (omega arith), getD-take fileRecordWidth bytes 7 0 (omega arith))
-
-module _ (ready : Bool) (bytes : List ℕ) (from : ℕ) (c w r m : List ℕ) (h : Steppable ready bytes from c w r m) where
-  -- 1: "not in order"
-  pub step-out-of-order : not ready ≡ true → Answered (stepFrom (drop from bytes)) c w r m (Refused 1) ready c w r m
-  step-out-of-order z =
-      record {
-        outcome = ap (λ (o : Outcome). told o) (out-of-order c w r m ready (h .order) (stepFrom (drop from bytes)) z) ∙ outcome-tells (areas c w r m) (stepFrom (drop from bytes));
-        left = out-of-order-untouched c w r m ready (h .order) (stepFrom (drop from bytes)) z;
-        order = h .order;
-      }
-
-  module _ (z : not ready ≡ false) where
-    pub step-there : StepThere bytes from c w r m
-    step-there = record { ready = ready-when-fine c w r m ready (h .order) z; there = h .there }
-
-    pub step-in-order : (o : Outcome) (c′ w′ r′ m′ : List ℕ) → SteppedAs (stateIn mainframe c w r m) (stepFrom (drop from bytes)) o c′ w′ r′ m′
-        → Answered (stepFrom (drop from bytes)) c w r m o ready c′ w′ r′ m′
-    step-in-order o c′ w′ r′ m′ d =
-        record {
-          outcome =
-              ap (λ (x : Outcome). told x) (in-order-answered c w r m ready (h .order) z (stepFrom (drop from bytes)) o c′ w′ r′ m′ d)
-              ∙ outcome-tells (areas c w r m) (stepFrom (drop from bytes));
-          left = in-order-after c w r m ready (h .order) z (stepFrom (drop from bytes)) o c′ w′ r′ m′ d;
-          order = rw (not-false ready z) (ready-order c′ w′ r′ m′ (stepped-ready c w r m (stepFrom (drop from bytes)) o c′ w′ r′ m′ (ready-when-fine c w r m ready (h .order) z) d));
-        }
-
 -- ---- what stands after a record
 
 -- the stand, its lines and its areas by their parts
-stands : (number : ℕ) (stopped ready : Bool) (end : ℕ) (out : List ℕ) (a : Areas) (lines : List ℕ) (b : Areas) → take end out ≡ lines → a ≡ b
+pub stands : (number : ℕ) (stopped ready : Bool) (end : ℕ) (out : List ℕ) (a : Areas) (lines : List ℕ) (b : Areas) → take end out ≡ lines → a ≡ b
     → standsAt (record { number = number; stopped = stopped; ready = ready; at = end }) out a
     ≡ record { number = number; held = []; stopped = stopped; areas = b; lines = lines }
 unfolding standsAt
@@ -191,69 +151,9 @@ module _ (s : Stand) (bytes : List ℕ) (from : ℕ) (out c w r m : List ℕ) wh
           order = ready-order c′ w′ r′ m′ (opened-ready (take fileRecordWidth (drop from bytes)) c w r m c′ w′ r′ m′ (sym (o .refusal) ∙ z) (o .laid));
         }
 
-  -- a step
-  pub step-taken : (o : Outcome) (c′ w′ r′ m′ out′ : List ℕ) (end : ℕ) → StepTakeable s bytes from out c w r m
-      → Answered (stepFrom (drop from bytes)) c w r m o (s .ready) c′ w′ r′ m′
-      → LinePut out (s .at) (outcomeLine (s .number) o) out′ end
-      → Took (stepTaken (standsAt s out (areas c w r m)) (take fileRecordWidth (drop from bytes))) s out (record { number = s .number + 1; stopped = false; ready = s .ready; at = end }) out′ c′ w′ r′ m′
-  unfolding stepTaken standsAt outcomeLine
-  step-taken o c′ w′ r′ m′ out′ end h a p =
-      let t : stepFrom (drop from bytes) ≡ stepFrom (take fileRecordWidth (drop from bytes)) = sym (step-of-eight (drop from bytes)) in
-      record {
-        is =
-            stands (s .number + 1) false (s .ready) end out′ (areas c′ w′ r′ m′) _ _
-            (p .lines ∙ ap (λ (x : Answer). take (s .at) out ++ lineBytes (s .number) (x .refusal) (x .value) (x .count)) (a .outcome ∙ ap (λ (y : Step). answerOf (areas c w r m) y) t))
-            (a .left ∙ ap (λ (y : Step). areasAfter (areas c w r m) y) t)
-            ∙ rw (add-one (s .number));
-        few = omega (arith, h .fewer);
-        kept = p .kept;
-        near = p .near;
-        order = a .order;
-      }
-
-  -- ---- which record it is
-
-  module _ (s′ : Stand) (out′ c′ w′ r′ m′ : List ℕ) where
-    pub first-is-opening : s .number ≡ 0
-        → Took (openingTaken (standsAt s out (areas c w r m)) (take fileRecordWidth (drop from bytes))) s out s′ out′ c′ w′ r′ m′
-        → Took (recordTaken (standsAt s out (areas c w r m)) (take fileRecordWidth (drop from bytes))) s out s′ out′ c′ w′ r′ m′
-    unfolding recordTaken standsAt
-    first-is-opening z h = rw (eq-eqb (s .number) 0 z) h
-
-    pub next-is-step : (s .number ≡ 0 → ⊥) → s .number ≤ stepLimit
-        → Took (stepTaken (standsAt s out (areas c w r m)) (take fileRecordWidth (drop from bytes))) s out s′ out′ c′ w′ r′ m′
-        → Took (recordTaken (standsAt s out (areas c w r m)) (take fileRecordWidth (drop from bytes))) s out s′ out′ c′ w′ r′ m′
-    unfolding recordTaken standsAt
-    next-is-step z l h = rw (ne-eqb (s .number) 0 z, le-leb (s .number) stepLimit l) h
-
-  pub last-is-too-many : (s′ : Stand) (out′ : List ℕ) → Takeable s bytes from out c w r m → (s .number ≡ 0 → ⊥) → stepLimit < s .number
-      → StoppedAt s out s′ out′
-      → Took (recordTaken (standsAt s out (areas c w r m)) (take fileRecordWidth (drop from bytes))) s out s′ out′ c w r m
-  unfolding recordTaken standsAt tooManyTaken refusalLine
-  last-is-too-many s′ out′ h z l d =
-      record {
-        is =
-            ap (λ (x : Stand). standsAt x out′ (areas c w r m)) (d .is)
-            ∙ stands (s .number) true (s .ready) (s′ .at) out′ (areas c w r m) _ _ (d .put .lines) refl
-            ∙ sym (rw (ne-eqb (s .number) 0 z, lt-leb (s .number) stepLimit l));
-        few = omega (arith, ap (λ (x : Stand). x .number) (d .is), h .few);
-        kept = d .put .kept;
-        near = d .put .near;
-        order = rw (ap (λ (x : Stand). x .ready) (d .is)) (h .order);
-      }
-
   -- what the ways ask
   pub room-for-line : Takeable s bytes from out c w r m → Room out (s .at) lineLimit
   room-for-line h = record { room = h .room }
-
-  pub takeable-step : Takeable s bytes from out c w r m → s .number ≤ stepLimit → StepTakeable s bytes from out c w r m
-  takeable-step h l = record { takeable = h; fewer = l }
-
-  pub steppable : StepTakeable s bytes from out c w r m → Steppable (s .ready) bytes from c w r m
-  steppable h = record { there = h .takeable .there; order = h .takeable .order }
-
-  pub step-room : StepTakeable s bytes from out c w r m → Room out (s .at) lineLimit
-  step-room h = record { room = h .takeable .room }
 
 -- the eight bytes of an opening, as a part of the bytes
 pub opened-as : (bytes : List ℕ) (from : ℕ) (c w r m : List ℕ) (n : ℕ) (c′ w′ r′ m′ : List ℕ)
@@ -267,4 +167,4 @@ opened-as bytes from c w r m n c′ w′ r′ m′ e f =
       laid = f ∙ ap (λ (j : ℕ). areasOpened (take j (drop from bytes)) (areas c w r m)) k;
     }
 
-pub ruleset taking-laws = (line-put, done-line, refused-line, step-out-of-order, step-there, step-in-order, refused-opening-taken, accepted-opening-taken, step-taken, first-is-opening, next-is-step, last-is-too-many, room-for-line, takeable-step, steppable, step-room, opened-as, needs)
+pub ruleset taking-laws = (line-put, done-line, refused-line, refused-opening-taken, accepted-opening-taken, room-for-line, opened-as, needs)

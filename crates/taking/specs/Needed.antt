@@ -1,17 +1,15 @@
 -- What the functions of this crate ask of one another and of their callers, and what they promise. Assumes nothing.
 use Prim.Native.Nat.{_+_, _≤_, ℕ}
 use mathlib.Core.Path.{_≡_}
-use mathlib.Core.Bool.{Bool, true}
+use mathlib.Core.Bool.{true}
 use mathlib.Core.List.{List, [], _++_}
 use lib.ListN.{drop, length, take}
-use Rattle.limits.specs.Limits.{fileRecordWidth, lineLimit, stepLimit}
+use Rattle.limits.specs.Limits.{fileRecordWidth, lineLimit}
 use Rattle.limits.specs.Sizes.{fileRecordLimit}
-use Rattle.rules.specs.Refusals.{Step}
 use Rattle.memory.specs.Areas.{Areas, areas}
 use Rattle.opening.specs.Promises.{areasOpened, openRefusal}
 use Rattle.acting.specs.Telling.{told}
-use Rattle.engine.specs.Promises.{answerOf, areasAfter}
-use Rattle.engine.specs.Needed.{OrderIs}
+use Rattle.checking.specs.Areas.{OrderIs}
 use Rattle.acting.specs.declared.Outcome.{Outcome}
 use Rattle.lines.specs.Lines.{lineBytes}
 use Rattle.taking.specs.Records.{Feed}
@@ -49,20 +47,10 @@ pub record Takeable (s : Stand) (bytes : List ℕ) (from : ℕ) (out c w r m : L
   pub room : s .at + lineLimit ≤ length out
   pub order : OrderIs (s .ready) c w r m
 
--- the same for a step
-pub record StepTakeable (s : Stand) (bytes : List ℕ) (from : ℕ) (out c w r m : List ℕ) : Type 0 where
-  pub takeable : Takeable s bytes from out c w r m
-  pub fewer : s .number ≤ stepLimit
-
 -- the run has stopped at a record too many: the line 16 stands behind those before it
 pub record StoppedAt (s : Stand) (out : List ℕ) (s′ : Stand) (out′ : List ℕ) : Type 0 where
   pub is : s′ ≡ record { number = s .number; stopped = true; ready = s .ready; at = s′ .at }
   pub put : LinePut out (s .at) (lineBytes (s .number) 16 0 0) out′ (s′ .at)
-
--- eight bytes stand from a place on, and ready says whether the areas are in order
-pub record Steppable (ready : Bool) (bytes : List ℕ) (from : ℕ) (c w r m : List ℕ) : Type 0 where
-  pub there : from + fileRecordWidth ≤ length bytes
-  pub order : OrderIs ready c w r m
 
 -- a record has led to f, of which s′ and the areas tell; the line of the record stands behind those before it
 pub record Took (f : Feed) (s : Stand) (out : List ℕ) (s′ : Stand) (out′ c′ w′ r′ m′ : List ℕ) : Type 0 where
@@ -76,9 +64,3 @@ pub record Took (f : Feed) (s : Stand) (out : List ℕ) (s′ : Stand) (out′ c
 pub record OpenedAs (bytes : List ℕ) (c w r m : List ℕ) (n : ℕ) (c′ w′ r′ m′ : List ℕ) : Type 0 where
   pub refusal : n ≡ openRefusal bytes (areas c w r m)
   pub laid : areas c′ w′ r′ m′ ≡ areasOpened bytes (areas c w r m)
-
--- the step t has this outcome and leaves these areas; ready says whether they are in order
-pub record Answered (t : Step) (c w r m : List ℕ) (o : Outcome) (ready : Bool) (c′ w′ r′ m′ : List ℕ) : Type 0 where
-  pub outcome : told o ≡ answerOf (areas c w r m) t
-  pub left : areas c′ w′ r′ m′ ≡ areasAfter (areas c w r m) t
-  pub order : OrderIs ready c′ w′ r′ m′

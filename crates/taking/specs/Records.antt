@@ -7,7 +7,7 @@ use Rattle.limits.specs.Limits.{stepLimit}
 use Rattle.memory.specs.Areas.{Areas}
 use Rattle.engine.specs.Promises.{answerOf, areasAfter}
 use Rattle.opening.specs.Promises.{openRefusal, areasOpened}
-use Rattle.running.specs.Records.{stepFrom}
+use Rattle.records.specs.Records.{stepFrom}
 use Rattle.lines.specs.Lines.{lineBytes}
 
 -- the line of record n with a refusal (0 for an accepted opening): "Value 0, count 0"

@@ -1,17 +1,15 @@
-// One record of a step file taken: the opening, a step, or one too many. Its line, and what then stands.
+// The records of a step file that are no steps, the opening and one too many, and the line of each record.
 ghost use mathlib.Core.Path.{_≡_};
 ghost use Prim.Native.Nat.{_+_, _≤_};
 ghost use lib.ListN.{length, take, drop};
 ghost use Rattle.limits.specs.Limits.{fileRecordWidth, lineLimit};
 ghost use Rattle.memory.specs.Areas.{areas};
-ghost use Rattle.running.specs.Records.{stepFrom};
 ghost use Rattle.lines.specs.Lines.{lineBytes};
 ghost use Rattle.lines.specs.Needed.{Room, Counted};
-ghost use Rattle.taking.specs.Records.{openingTaken, stepTaken, recordTaken};
-ghost use Rattle.taking.specs.Needed.{LinePut, outcomeLine, standsAt, Takeable, StepTakeable, StoppedAt, Steppable, Took, OpenedAs, Answered};
+ghost use Rattle.taking.specs.Records.{openingTaken};
+ghost use Rattle.taking.specs.Needed.{LinePut, outcomeLine, standsAt, Takeable, StoppedAt, Took, OpenedAs};
 use acting::Outcome;
 use limits::FILE_RECORD_WIDTH;
-use limits::STEP_LIMIT;
 
 // What stands between two records: the number of the next, whether the run has stopped, whether the areas are in order, and how many
 // bytes of lines are written.
@@ -22,8 +20,8 @@ pub struct Stand {
     pub at: usize,
 }
 
-// Takes the record from a place on: the first is the opening, the next 1,000,000 are steps.
-pub fn take_record(
+// The opening; a refused one ends the run.
+pub fn take_opening(
     stand: Stand,
     bytes: &[u8],
     from: usize,
@@ -34,15 +32,39 @@ pub fn take_record(
     marks: &mut [u8],
 ) -> Stand
     requires { ⌜ Takeable stand (now bytes) from (now lines) (now clocks) (now words) (now records) (now marks) ⌝ }
-    ensures { λ r. ⌜ Took (recordTaken (standsAt stand (now (lines .entry)) (areas (now (clocks .entry)) (now (words .entry)) (now (records .entry)) (now (marks .entry)))) (take fileRecordWidth (drop from (now (bytes .entry))))) stand (now (lines .entry)) r (now (lines .exit)) (now (clocks .exit)) (now (words .exit)) (now (records .exit)) (now (marks .exit)) ⌝ }
+    ensures { λ r. ⌜ Took (openingTaken (standsAt stand (now (lines .entry)) (areas (now (clocks .entry)) (now (words .entry)) (now (records .entry)) (now (marks .entry)))) (take fileRecordWidth (drop from (now (bytes .entry))))) stand (now (lines .entry)) r (now (lines .exit)) (now (clocks .exit)) (now (words .exit)) (now (records .exit)) (now (marks .exit)) ⌝ }
 {
-    if stand.number == 0 {
-        return take_opening(stand, bytes, from, lines, clocks, words, records, marks);
+    let refusal = open_at(bytes, from, clocks, words, records, marks);
+    let at = put_line(lines, stand.at, 0, wide(refusal), 0, 0);
+    let number = 1;
+    if refusal != 0 {
+        return Stand {
+            number,
+            stopped: true,
+            ready: stand.ready,
+            at,
+        };
     }
-    if stand.number <= STEP_LIMIT {
-        return take_step(stand, bytes, from, lines, clocks, words, records, marks);
+    Stand {
+        number,
+        stopped: false,
+        ready: true,
+        at,
     }
-    too_many(stand, lines)
+}
+
+// 16: a whole record follows the 1,000,000th step record.
+pub fn too_many(stand: Stand, lines: &mut [u8]) -> Stand
+    requires { ⌜ Room (now lines) (stand .at) lineLimit ⌝ }
+    ensures { λ r. ⌜ StoppedAt stand (now (lines .entry)) r (now (lines .exit)) ⌝ }
+{
+    let at = put_line(lines, stand.at, stand.number, 16, 0, 0);
+    Stand {
+        number: stand.number,
+        stopped: true,
+        ready: stand.ready,
+        at,
+    }
 }
 
 // Writes the line of a step from a place on where the digits of its number are at hand, and says the place behind it.
@@ -88,38 +110,6 @@ pub fn put_line(
     lines::put_line(out, at, number, refusal, value, count)
 }
 
-// The opening; a refused one ends the run.
-fn take_opening(
-    stand: Stand,
-    bytes: &[u8],
-    from: usize,
-    lines: &mut [u8],
-    clocks: &mut [u8],
-    words: &mut [u32],
-    records: &mut [u8],
-    marks: &mut [u8],
-) -> Stand
-    requires { ⌜ Takeable stand (now bytes) from (now lines) (now clocks) (now words) (now records) (now marks) ⌝ }
-    ensures { λ r. ⌜ Took (openingTaken (standsAt stand (now (lines .entry)) (areas (now (clocks .entry)) (now (words .entry)) (now (records .entry)) (now (marks .entry)))) (take fileRecordWidth (drop from (now (bytes .entry))))) stand (now (lines .entry)) r (now (lines .exit)) (now (clocks .exit)) (now (words .exit)) (now (records .exit)) (now (marks .exit)) ⌝ }
-{
-    let refusal = open_at(bytes, from, clocks, words, records, marks);
-    let at = put_line(lines, stand.at, 0, wide(refusal), 0, 0);
-    if refusal != 0 {
-        return Stand {
-            number: 1,
-            stopped: true,
-            ready: stand.ready,
-            at,
-        };
-    }
-    Stand {
-        number: 1,
-        stopped: false,
-        ready: true,
-        at,
-    }
-}
-
 // Opens a mainframe by the eight bytes from a place on.
 fn open_at(
     bytes: &[u8],
@@ -134,74 +124,6 @@ fn open_at(
 {
     let end = from + FILE_RECORD_WIDTH;
     opening::open_mainframe(&bytes[from..end], clocks, words, records, marks)
-}
-
-// A step; on areas that are not in order it is refused.
-fn take_step(
-    stand: Stand,
-    bytes: &[u8],
-    from: usize,
-    lines: &mut [u8],
-    clocks: &mut [u8],
-    words: &mut [u32],
-    records: &mut [u8],
-    marks: &mut [u8],
-) -> Stand
-    requires { ⌜ StepTakeable stand (now bytes) from (now lines) (now clocks) (now words) (now records) (now marks) ⌝ }
-    ensures { λ r. ⌜ Took (stepTaken (standsAt stand (now (lines .entry)) (areas (now (clocks .entry)) (now (words .entry)) (now (records .entry)) (now (marks .entry)))) (take fileRecordWidth (drop from (now (bytes .entry))))) stand (now (lines .entry)) r (now (lines .exit)) (now (clocks .exit)) (now (words .exit)) (now (records .exit)) (now (marks .exit)) ⌝ }
-{
-    let outcome = step(stand.ready, bytes, from, clocks, words, records, marks);
-    let at = put_outcome(lines, stand.at, stand.number, outcome);
-    Stand {
-        number: stand.number + 1,
-        stopped: false,
-        ready: stand.ready,
-        at,
-    }
-}
-
-// The step in the record from a place on; 1 where the areas are not in order.
-fn step(
-    ready: bool,
-    bytes: &[u8],
-    from: usize,
-    clocks: &mut [u8],
-    words: &mut [u32],
-    records: &mut [u8],
-    marks: &mut [u8],
-) -> Outcome
-    requires { ⌜ Steppable ready (now bytes) from (now clocks) (now words) (now records) (now marks) ⌝ }
-    ensures { λ r. ⌜ Answered (stepFrom (drop from (now (bytes .entry)))) (now (clocks .entry)) (now (words .entry)) (now (records .entry)) (now (marks .entry)) r ready (now (clocks .exit)) (now (words .exit)) (now (records .exit)) (now (marks .exit)) ⌝ }
-{
-    if !ready {
-        return Outcome::Refused(1);
-    }
-    running::step_record(bytes, from, clocks, words, records, marks)
-}
-
-// 16: a whole record follows the 1,000,000th step record.
-fn too_many(stand: Stand, lines: &mut [u8]) -> Stand
-    requires { ⌜ Room (now lines) (stand .at) lineLimit ⌝ }
-    ensures { λ r. ⌜ StoppedAt stand (now (lines .entry)) r (now (lines .exit)) ⌝ }
-{
-    let at = put_line(lines, stand.at, stand.number, 16, 0, 0);
-    Stand {
-        number: stand.number,
-        stopped: true,
-        ready: stand.ready,
-        at,
-    }
-}
-
-// Writes the line of a step from a place on, and says the place behind it.
-fn put_outcome(out: &mut [u8], at: usize, number: u32, outcome: Outcome) -> usize
-    requires { ⌜ Room (now out) at lineLimit ⌝ }
-    ensures { λ r. ⌜ LinePut (now (out .entry)) at (outcomeLine number outcome) (now (out .exit)) r ⌝ }
-{
-    match outcome {
-        Outcome::Done { value, count } => put_line(out, at, number, 0, value, count),
-        Outcome::Refused(refusal) => put_line(out, at, number, wide(refusal), 0, 0),
-    }
 }
 
 // Writes a line from a place on where the digits of its number are at hand, and says the place behind it.

@@ -6,4 +6,4 @@ use Rattle.accessing.proofs.read_word.Tie as tie
 pub read-word-spec : {M : Type 1} → statement M
 read-word-spec =
     tie.close
-    (tie.spec (λ c κs. search access-laws) (λ c κs. search access-laws) (λ c. search access-laws) (λ c. search access-laws) (λ c. search access-laws))
+    (tie.spec (λ c κs. search access-laws) (λ c κs. search access-laws) (λ c. search access-laws) (λ c. search access-laws) (λ c. search access-laws) (λ c. search access-laws))

@@ -6,4 +6,4 @@ use Rattle.accessing.proofs.write_word.Tie as tie
 pub write-word-spec : {M : Type 1} → statement M
 write-word-spec =
     tie.close
-    (tie.spec (λ c κs. search access-laws) (λ c κs. search access-laws) (λ c. search access-laws) (λ c. search access-laws) (λ c. search access-laws) (λ c. search access-laws))
+    (tie.spec (λ c κs. search access-laws) (λ c κs. search access-laws) (λ c. search access-laws) (λ c. search access-laws) (λ c. search access-laws) (λ c. search access-laws) (λ c. search access-laws))

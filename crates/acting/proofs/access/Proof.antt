@@ -6,4 +6,4 @@ use Rattle.acting.proofs.access.Tie as tie
 pub access-spec : {M : Type 1} → statement M
 access-spec =
     tie.close
-    (tie.spec (λ c κs. search acting-laws) (λ c. search acting-laws) (λ c. search acting-laws) (λ c. search acting-laws) (λ c. search acting-laws) (λ c κs. search acting-laws) (λ c. search acting-laws) (λ c. search acting-laws) (λ c. search acting-laws) (λ c. search acting-laws))
+    (tie.spec (λ c κs. search acting-laws) (λ c. search acting-laws) (λ c. search acting-laws) (λ c. search acting-laws) (λ c. search acting-laws) (λ c. search acting-laws) (λ c κs. search acting-laws) (λ c. search acting-laws) (λ c. search acting-laws) (λ c. search acting-laws) (λ c. search acting-laws) (λ c. search acting-laws))

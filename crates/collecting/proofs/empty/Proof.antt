@@ -6,4 +6,4 @@ use Rattle.collecting.proofs.empty.Tie as tie
 pub empty-spec : {M : Type 1} → statement M
 empty-spec =
     tie.close
-    (tie.spec (λ c κs. search empty-laws) (λ c κs. search empty-laws) (λ c κs. search empty-laws) (λ c. search empty-laws) (λ c. search empty-laws) (λ c. search empty-laws))
+    (tie.spec (λ c κs. search empty-laws) (λ c κs. search empty-laws) (λ c κs. search empty-laws) (λ c κs. search empty-laws) (λ c. search empty-laws) (λ c. search empty-laws) (λ c. search empty-laws))

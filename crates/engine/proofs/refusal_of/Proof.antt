@@ -6,4 +6,4 @@ use Rattle.engine.proofs.refusal_of.Tie as tie
 pub refusal-of-spec : {M : Type 1} → statement M
 refusal-of-spec =
     tie.close
-    (tie.spec (λ c κs. search stepping-laws) (λ c κs. search stepping-laws) (λ c. search stepping-laws))
+    (tie.spec (λ c. search stepping-laws) (λ c. search stepping-laws) (λ c. search stepping-laws) (λ c κs. search stepping-laws) (λ c κs. search stepping-laws) (λ c. search stepping-laws) (λ c κs. search stepping-laws) (λ c κs. search stepping-laws) (λ c. search stepping-laws))

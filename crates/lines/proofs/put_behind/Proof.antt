@@ -6,4 +6,4 @@ use Rattle.lines.proofs.put_behind.Tie as tie
 pub put-behind-spec : {M : Type 1} → statement M
 put-behind-spec =
     tie.close
-    (tie.spec (λ c. search counted-laws) (λ c. search counted-laws) (λ c κs. search counted-laws) (λ c κs. search counted-laws) (λ c. search counted-laws) (λ c. search counted-laws))
+    (tie.spec (λ c κs. search counted-laws) (λ c. search counted-laws) (λ c. search counted-laws) (λ c. search counted-laws) (λ c. search counted-laws) (λ c κs. search counted-laws) (λ c κs. search counted-laws) (λ c. search counted-laws) (λ c. search counted-laws))

@@ -6,4 +6,4 @@ use Rattle.passing.proofs.take_run.Tie as tie
 pub take-run-spec : {M : Type 1} → statement M
 take-run-spec =
     tie.close
-    (tie.spec (λ c. search run-laws) (λ c. search run-laws) (λ c. search run-laws) (λ c κs. search run-laws) (λ c κs. search run-laws) (λ c. search run-laws) (λ c. search run-laws) (λ c. search run-laws) (λ c. search run-laws) (λ c. search run-laws) (λ c. search run-laws))
+    (tie.spec (λ c. search run-laws) (λ c. search run-laws) (λ c κs. search run-laws) (λ c κs. search run-laws) (λ c. search run-laws) (λ c. search run-laws) (λ c κs. search run-laws) (λ c. search run-laws) (λ c. search run-laws) (λ c. search run-laws) (λ c. search run-laws) (λ c. search run-laws) (λ c. search run-laws))

@@ -6,4 +6,4 @@ use Rattle.running.proofs.run_step.Tie as tie
 pub run-step-spec : {M : Type 1} → statement M
 run-step-spec =
     tie.close
-    (tie.spec (λ c. search stepping-laws) (λ c κs. search stepping-laws) (λ c. search stepping-laws) (λ c κs. search stepping-laws) (λ c. search stepping-laws) (λ c. search stepping-laws) (λ c. search stepping-laws) (λ c. search stepping-laws) (λ c. search stepping-laws) (λ c. search stepping-laws))
+    (tie.spec (λ c. search stepping-laws) (λ c κs. search stepping-laws) (λ c. search stepping-laws) (λ c κs. search stepping-laws) (λ c. search stepping-laws) (λ c. search stepping-laws) (λ c. search stepping-laws) (λ c. search stepping-laws) (λ c. search stepping-laws) (λ c. search stepping-laws) (λ c. search stepping-laws))

@@ -1,9 +1,0 @@
--- `fetch_ranked` meets its contract. Assumes nothing.
-use Rattle.bringing.proofs.Bringing.{bringing-laws}
-use Rattle.bringing.proofs.fetch_ranked.Statement.{statement}
-use Rattle.bringing.proofs.fetch_ranked.Tie as tie
-
-pub fetch-ranked-spec : {M : Type 1} → statement M
-fetch-ranked-spec =
-    tie.close
-    (tie.spec (λ c κs. search bringing-laws) (λ c κs. search bringing-laws) (λ c κs. search bringing-laws) (λ c κs. search bringing-laws) (λ c κs. search bringing-laws) (λ c. search bringing-laws) (λ c. search bringing-laws) (λ c. search bringing-laws))

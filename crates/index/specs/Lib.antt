@@ -1,0 +1,5 @@
+pub mod Keys
+pub mod Rows
+pub mod Done
+pub mod Index
+pub mod Needed

@@ -1,3 +1,0 @@
-pub mod Picking
-pub mod Putting
-pub mod News

@@ -1,9 +1,0 @@
--- `refusal` meets its contract: row 3, then the others. Assumes nothing.
-use Rattle.refusals.proofs.Refusing.{refusal-laws}
-use Rattle.refusals.proofs.refusal.Statement.{statement}
-use Rattle.refusals.proofs.refusal.Tie as tie
-
-pub refusal-spec : {M : Type 1} → statement M
-refusal-spec =
-    tie.close
-    (tie.spec (λ c κs. search refusal-laws) (λ c. search refusal-laws) (λ c κs. search refusal-laws) (λ c. search refusal-laws))

@@ -1,9 +1,0 @@
--- `refusal_of_fields` meets its contract: the rows 5 and 6, then the kind decides. Assumes nothing.
-use Rattle.refusals.proofs.Refusing.{refusal-laws}
-use Rattle.refusals.proofs.refusal_of_fields.Statement.{statement}
-use Rattle.refusals.proofs.refusal_of_fields.Tie as tie
-
-pub refusal-of-fields-spec : {M : Type 1} → statement M
-refusal-of-fields-spec =
-    tie.close
-    (tie.spec (λ c κs. search refusal-laws) (λ c. search refusal-laws) (λ c κs. search refusal-laws) (λ c. search refusal-laws) (λ c κs. search refusal-laws) (λ c. search refusal-laws))

@@ -1,3 +1,0 @@
-pub mod Spreading
-pub mod Listing
-pub mod Laying
