@@ -1,6 +1,6 @@
 -- Reading and writing a word, put together from fetching and their own parts: one law for each way of the code, and `access-laws`.
 -- Rests on Storing. Assumes nothing.
-use Prim.Native.Nat.{ℕ, _/_, _%_, _≤_}
+use Prim.Native.Nat.{ℕ, _/_, _%_}
 use native.Mathlib.Omega.{arith}
 use mathlib.Core.Path.{_≡_, refl, sym, ap, _∙_}
 use mathlib.Core.List.{List}
@@ -16,7 +16,7 @@ use Rattle.memory.proofs.RowLaws.{get-row}
 use Rattle.index.specs.Index.{IndexKept}
 use Rattle.index.proofs.Kept.{bounds-stay}
 use Rattle.fetching.specs.Needed.{FetchableKept, Brought, BroughtKept}
-use Rattle.accessing.specs.Needed.{ActsOnWord, AccessesKept, OnWord, WordIn, WordThere}
+use Rattle.accessing.specs.Needed.{ActsOnWord, AccessesKept, OnWord}
 use Rattle.accessing.specs.Effects.{AnsweredKept, wordStored, wordPlace, Stored}
 
 -- a store keeps the index

@@ -38,7 +38,7 @@ pub fn read_word(
     ensures { λ r. ⌜ AnsweredKept (read mainframe (stateIn mainframe (now (clocks .entry)) (now (words .entry)) (now (records .entry)) (now (marks .entry))) (p .0) w) (r .value) (r .count) (now (clocks .exit)) (now (words .exit)) (now (records .entry)) (now (marks .entry)) (now (index .exit)) ⌝ }
 {
     let g = PageId(w / PAGE_WIDTH);
-    let count = fetching::fetch_page(p, g, clocks, words, records, marks, index);
+    let count = fetching::fetch_unless_settled(p, g, clocks, words, records, marks, index);
     let value = word_at(words, p, w);
     Answered { value, count }
 }
@@ -58,7 +58,7 @@ pub fn write_word(
     ensures { λ r. ⌜ AnsweredKept (write mainframe (stateIn mainframe (now (clocks .entry)) (now (words .entry)) (now (records .entry)) (now (marks .entry))) (p .0) w v) 0 r (now (clocks .exit)) (now (words .exit)) (now (records .entry)) (now (marks .exit)) (now (index .exit)) ⌝ }
 {
     let g = PageId(w / PAGE_WIDTH);
-    let count = fetching::fetch_page(p, g, clocks, words, records, marks, index);
+    let count = fetching::fetch_unless_settled(p, g, clocks, words, records, marks, index);
     store(words, marks, p, w, v);
     count
 }

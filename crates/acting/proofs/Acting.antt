@@ -18,7 +18,7 @@ use Rattle.rules.proofs.KindsOfSteps.{objectIn, known-says}
 use Rattle.memory.specs.Areas.{stateIn}
 use Rattle.memory.specs.Needed.{Acts, Ready, Holds}
 use Rattle.index.proofs.Kept.{bounds-stay, kept-while-standing}
-use Rattle.index.proofs.Standing.{StillStand, still-stand}
+use Rattle.rules.proofs.Standing.{StillStand, still-stand}
 use Rattle.collecting.specs.Effects.{CountedKept}
 use Rattle.accessing.specs.Effects.{AnsweredKept}
 use Rattle.accessing.specs.Needed.{ActsOnWord, AccessesKept}

@@ -25,15 +25,14 @@ use Rattle.memory.specs.Layout.{rowOf}
 use Rattle.memory.specs.Needed.{Acts, Ready, Holds, MarksOf}
 use Rattle.memory.specs.Marks.{processorCount, arrivedMark}
 use Rattle.memory.proofs.MarkLaws.{processors-read, arrived-read, arrived-written}
-use Rattle.index.specs.Index.{IndexKept}
 use Rattle.index.proofs.Kept.{bounds-stay, kept-while-standing}
-use Rattle.index.proofs.Standing.{StillStand, at-barrier-stand, round-done-stand}
-use Rattle.collecting.specs.Effects.{CountedAs, CountedKept}
+use Rattle.rules.proofs.Standing.{at-barrier-stand, round-done-stand}
+use Rattle.collecting.specs.Effects.{CountedKept}
 use Rattle.memory.specs.Needed.{TwoRows}
 use Rattle.memory.proofs.Learning.{learned-clock}
 use Rattle.memory.proofs.Rows.{acting-within}
 use Rattle.barrier.specs.Needed.{Arrives, ArrivesKept, AbsentAway, RoundComplete, CompleteKept}
-use Rattle.barrier.specs.Effects.{OneMissing, RoundDone, completed}
+use Rattle.barrier.specs.Effects.{OneMissing, completed}
 use Rattle.barrier.proofs.Completing.{round-ready}
 use Rattle.barrier.proofs.Counting.{last-arrives}
 

@@ -1,21 +1,19 @@
 -- Whether an arrival is the last, by the arrived marks counted before it: one law for each way of the code, and `count-laws`. Assumes nothing.
-use Prim.Native.Nat.{ℕ, zero, suc, _+_, _≤_, _<_}
+use Prim.Native.Nat.{ℕ, suc, _+_, _≤_, _<_}
 use native.Mathlib.Numerals.{add-one}
 use native.Mathlib.Omega.{arith}
-use native.Mathlib.Decide.{decLe}
 use mathlib.Core.Path.{_≡_, refl, sym, ap, _∙_}
-use mathlib.Core.Bool.{Bool, true, false, cond, not, _&&_}
+use mathlib.Core.Bool.{Bool, false, cond, not}
 use mathlib.Core.List.{List}
 use lib.Dec.{eqb}
-use borrow.Author.Tests.{eqb-true, eqb-false, eq-eqb, ne-eqb}
 use borrow.Author.Needs.{needs}
 use Rattle.limits.specs.Limits.{processorLimit}
 use Rattle.rules.specs.State.{mainframe, State, hasArrived}
 use Rattle.rules.specs.Steps.{atBarrier, allArrived}
-use Rattle.rules.specs.Close.{closed}
-use Rattle.rules.specs.Tables.{every, total}
-use Rattle.rules.proofs.MarksAfter.{arrived-at-barrier}
-use Rattle.rules.proofs.Tables.{total-same, total-change}
+use Rattle.rules.specs.Tables.{total}
+use Rattle.rules.proofs.Ghosts.{completes}
+use Rattle.rules.proofs.Rounds.{arrivals, completes-counts}
+use Rattle.rules.proofs.Tables.{total-same, total-of-fewer}
 use Rattle.memory.specs.Areas.{stateIn}
 use Rattle.memory.specs.Needed.{MarksOf}
 use Rattle.memory.specs.Marks.{processorCount, arrivedMark}
@@ -28,37 +26,6 @@ use Rattle.barrier.specs.Effects.{OneMissing, arrivedCount}
 -- how many of the first n tests pass
 abbrev passing : ℕ → (ℕ → Bool) → ℕ
 passing n t = total n (λ k. cond (t k) 1 0)
-
-passing-at-most : (n : ℕ) (t : ℕ → Bool) → passing n t ≤ n
-unfolding total
-passing-at-most zero t = omega arith
-passing-at-most (suc n) t = go (t n) (passing-at-most n t)
-  where
-    go : (b : Bool) → passing n t ≤ n → passing n t + cond b 1 0 ≤ suc n
-    go true h = omega arith
-    go false h = omega arith
-
--- every test passes when as many pass as there are
-every-counts : (n : ℕ) (t : ℕ → Bool) → every n t ≡ eqb (passing n t) n
-unfolding every total
-every-counts zero t = refl
-every-counts (suc n) t = go (every n t) (t n) refl (every-counts n t) (passing-at-most n t)
-  where
-    go : (a b : Bool) → every n t ≡ a → every n t ≡ eqb (passing n t) n → passing n t ≤ n → (a && b) ≡ eqb (passing n t + cond b 1 0) (suc n)
-    go true true e ih h = sym (eq-eqb (passing n t + 1) (suc n) (omega (arith, eqb-true (passing n t) n (sym ih ∙ e))))
-    go false true e ih h = sym (ne-eqb (passing n t + 1) (suc n) (λ z. eqb-false (passing n t) n (sym ih ∙ e) (omega (arith, z))))
-    go true false e ih h = sym (ne-eqb (passing n t + 0) (suc n) (λ z. omega (arith, z, h)))
-    go false false e ih h = sym (ne-eqb (passing n t + 0) (suc n) (λ z. omega (arith, z, h)))
-
--- tests that fail add nothing
-passing-of-fewer : (n m : ℕ) (t : ℕ → Bool) → n ≤ m → ((i : ℕ) → n ≤ i → i < m → t i ≡ false) → passing m t ≡ passing n t
-unfolding total
-passing-of-fewer n zero t h e = let none : n ≡ 0 = omega arith in rw none
-passing-of-fewer n (suc m) t h e = go (decLe n m) (passing-of-fewer n m t)
-  where
-    go : Dec (n ≤ m) → (n ≤ m → ((i : ℕ) → n ≤ i → i < m → t i ≡ false) → passing m t ≡ passing n t) → passing m t + cond (t m) 1 0 ≡ passing n t
-    go (yes k) r = rw (e m k (omega arith)) (omega (arith, r k (λ i a b. e i a (omega arith))))
-    go (no k) r = let all : n ≡ suc m = omega arith in rw all
 
 -- ---- the arrived marks counted
 
@@ -94,8 +61,8 @@ module _ (m : List ℕ) (h : AbsentAway m) (c w r : List ℕ) where
   arrivals-are : passing processorLimit (marked m) ≡ arrivedCount (stateIn mainframe c w r m)
   unfolding arrivedCount hasArrived stateIn
   arrivals-are =
-      passing-of-fewer (processorCount m) processorLimit (marked m) (h .few)
-      (λ i a b. ap (λ (x : ℕ). not (eqb x 0)) (h .absent .away (suc i) (omega arith) (omega arith)))
+      total-of-fewer (processorCount m) processorLimit (λ k. cond (marked m k) 1 0) (h .few)
+      (λ i a b. ap (λ (x : ℕ). cond (not (eqb x 0)) 1 0) (h .absent .away (suc i) (omega arith) (omega arith)))
       ∙ total-same (processorCount m) (λ k. cond (marked m k) 1 0) (λ k. cond (hasArrived (stateIn mainframe c w r m) (suc k)) 1 0)
       (λ k l. ap (λ (x : ℕ). cond (not (eqb x 0)) 1 0) (sym (arrived-read c w r m (suc k) (omega arith) (omega (arith, h .few)))))
 
@@ -115,26 +82,7 @@ pub ruleset count-laws = (counting-begins, counting-next, counting-more, countin
 
 -- ---- the last arrival
 
--- it is one more
-one-more : (s : State) (p : ℕ) → 1 ≤ p → p ≤ s .counts .processors → hasArrived s p ≡ false
-    → passing (s .counts .processors) (λ k. hasArrived (atBarrier s p) (suc k)) ≡ arrivedCount s + 1
-unfolding arrivedCount
-one-more s zero from to e = absurd (omega (arith, from))
-one-more s (suc i) from to e =
-    omega (arith, own, was, total-change (s .counts .processors) (λ k. cond (hasArrived (atBarrier s (suc i)) (suc k)) 1 0) (λ k. cond (hasArrived s (suc k)) 1 0) i (omega (arith, to)) other)
-  where
-    own : cond {A = ℕ} (hasArrived (atBarrier s (suc i)) (suc i)) 1 0 ≡ 1
-    own = rw (arrived-at-barrier s (suc i) (suc i), eq-eqb (suc i) (suc i) refl)
-
-    was : cond {A = ℕ} (hasArrived s (suc i)) 1 0 ≡ 0
-    was = rw e
-
-    other : (k : ℕ) → (k ≡ i → ⊥) → cond {A = ℕ} (hasArrived (atBarrier s (suc i)) (suc k)) 1 0 ≡ cond (hasArrived s (suc k)) 1 0
-    other k h = rw (arrived-at-barrier s (suc i) (suc k), ne-eqb (suc k) (suc i) (λ z. h (omega (arith, z))))
-
--- it completes the round when all others have arrived
+-- completes the round when all others have arrived
 pub last-arrives : (s : State) (p : ℕ) → 1 ≤ p → p ≤ s .counts .processors → hasArrived s p ≡ false → eqb (arrivedCount s + 1) (s .counts .processors) ≡ allArrived (atBarrier s p)
-unfolding allArrived atBarrier closed
-last-arrives s p from to e =
-    ap (λ (x : ℕ). eqb x (s .counts .processors)) (sym (one-more s p from to e))
-    ∙ sym (every-counts (s .counts .processors) (λ k. hasArrived (atBarrier s p) (suc k)))
+unfolding arrivedCount arrivals completes
+last-arrives s p from to e = sym (completes-counts s p from to e)

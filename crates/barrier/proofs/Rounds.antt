@@ -1,10 +1,9 @@
 -- What a completed round leaves; the wish for collection. One law for each way of the code, and
 -- `round-laws`. Assumes nothing.
-use Prim.Native.Nat.{ℕ, suc, _+_, _*_, _≤_, _<_}
-use native.Mathlib.Numerals.{add-one}
+use Prim.Native.Nat.{ℕ, _*_}
 use native.Mathlib.Omega.{arith}
-use mathlib.Core.Path.{_≡_, refl, sym, ap, _∙_}
-use mathlib.Core.Bool.{Bool, true, false, not, _&&_}
+use mathlib.Core.Path.{_≡_, sym, ap, _∙_}
+use mathlib.Core.Bool.{Bool, true, false, not}
 use mathlib.Core.List.{List, map}
 use lib.ListN.{length, set, length-set, replicate, length-replicate}
 use lib.Seq.{sets, length-sets}
@@ -12,16 +11,15 @@ use lib.Dec.{eqb}
 use borrow.Author.Needs.{needs}
 use Rattle.limits.specs.Limits.{firstArrived, processorLimit, wantedPlace}
 use Rattle.limits.specs.Sizes.{clockArea, clockWidth, markArea}
-use Rattle.rules.specs.State.{mainframe, Barrier, Clocks, withClock, cleared, withArrived, withClocks, withMarks, hasArrived}
-use Rattle.rules.specs.Steps.{allArrived, allLearned, roundDone, wantsCollection, want}
-use Rattle.rules.specs.Tables.{every}
+use Rattle.rules.specs.State.{mainframe, Barrier, Clocks, withClock, cleared, withArrived, withClocks, withMarks}
+use Rattle.rules.specs.Steps.{allLearned, roundDone, wantsCollection, want}
 use Rattle.rules.proofs.Facts.{Within}
 use Rattle.memory.specs.Areas.{clockRow, clocksIn, stateIn}
 use Rattle.memory.specs.Layout.{rowOf}
-use Rattle.memory.specs.Needed.{RowThere, MarksOf}
-use Rattle.memory.specs.Marks.{processorCount, arrivedMark, wishMark}
+use Rattle.memory.specs.Needed.{RowThere}
+use Rattle.memory.specs.Marks.{processorCount, wishMark}
 use Rattle.memory.proofs.ClockLaws.{clock-written}
-use Rattle.memory.proofs.MarkLaws.{processors-read, wanted-read, arrived-read, wanted-written, arrived-cleared}
+use Rattle.memory.proofs.MarkLaws.{wanted-read, wanted-written, arrived-cleared}
 use Rattle.memory.proofs.RowLaws.{length-row, map-replicate}
 use Rattle.barrier.specs.Needed.{ClocksOfFirst, RoundThere}
 use Rattle.barrier.specs.Effects.{HoldsClocks, RoundDone, Wanted}

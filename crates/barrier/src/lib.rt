@@ -1,8 +1,7 @@
 // Arriving at the barrier, which may complete a round, and wanting a collection, on lent memory that holds a state in order.
 // The contracts say in the words of the rules (specs/Steps.antt of the crate rules) what state the areas hold afterwards.
 ghost use mathlib.Core.Path.{_≡_};
-ghost use mathlib.Core.Bool.{cond};
-ghost use Prim.Native.Nat.{_≤_, _<_};
+ghost use Prim.Native.Nat.{_<_};
 ghost use lib.ListN.{length};
 ghost use Rattle.limits.specs.Sizes.{markArea};
 ghost use Rattle.rules.specs.State.{mainframe};
@@ -15,6 +14,7 @@ ghost use Rattle.barrier.specs.Effects.{HoldsClocks, OneMissing, RoundDo
 use clock::Clock;
 use clock::ProcessorId;
 use limits::PROCESSOR_LIMIT;
+use memory::flag;
 use memory::learn;
 use memory::marks::clear_arrived;
 use memory::marks::has_arrived;
@@ -59,17 +59,6 @@ fn one_missing(marks: &[u8]) -> bool
         k = k + 1;
     }
     wide(sum) + 1 == processor_count(marks)
-}
-
-// 1 or 0.
-fn flag(set: bool) -> u8
-    ensures { λ r. ⌜ r ≡ cond set 1 0 ⌝ }
-    ensures { λ r. ⌜ r ≤ 1 ⌝ }
-{
-    if set {
-        return 1;
-    }
-    0
 }
 
 // Want collection: sets the wish; setting it again changes nothing.

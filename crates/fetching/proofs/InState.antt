@@ -4,7 +4,7 @@ use native.Mathlib.Omega.{arith}
 use mathlib.Core.Path.{_≡_, refl, sym, ap, _∙_}
 use mathlib.Core.List.{List, [], _∷_, map}
 use lib.ListN.{take}
-use Rattle.limits.specs.Limits.{pageLimit, processorLimit, recordLimit}
+use Rattle.limits.specs.Limits.{recordLimit}
 use Rattle.limits.specs.Sizes.{clockWidth, diffLimit, slotWidth}
 use Rattle.clock.specs.Clocks.{entryOf}
 use Rattle.rules.specs.Fetch.{isPending, earlier, due}

@@ -1,9 +1,7 @@
-pub mod Sorting
 pub mod Inserting
 pub mod Keys
 pub mod Rows
 pub mod Putting
 pub mod InState
-pub mod Standing
 pub mod Kept
 pub mod Parts

@@ -4,7 +4,7 @@ use mathlib.Core.Path.{_≡_}
 use mathlib.Core.List.{List}
 use lib.ListN.{length}
 use Rattle.limits.specs.Limits.{lockLimit, processorLimit}
-use Rattle.limits.specs.Sizes.{clockArea, clockRowLimit, markArea}
+use Rattle.limits.specs.Sizes.{clockArea, markArea}
 use Rattle.rules.specs.State.{mainframe}
 use Rattle.memory.specs.Areas.{stateIn}
 use Rattle.memory.specs.Needed.{Acts}

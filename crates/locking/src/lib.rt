@@ -1,6 +1,5 @@
 // Taking and freeing a lock on lent memory that holds a state in order.
 // The contracts say in the words of the rules (specs/Steps.antt of the crate rules) what state the areas hold afterwards.
-ghost use mathlib.Core.Path.{_≡_};
 ghost use Rattle.rules.specs.State.{mainframe};
 ghost use Rattle.rules.specs.Steps.{acquire, release};
 ghost use Rattle.memory.specs.Areas.{stateIn};

@@ -4,8 +4,9 @@ pub mod marks;
 pub mod slots;
 
 ghost use mathlib.Core.Path.{_≡_};
+ghost use mathlib.Core.Bool.{cond};
 ghost use mathlib.Core.List.{[]};
-ghost use Prim.Native.Nat.{_*_, _<_};
+ghost use Prim.Native.Nat.{_*_, _<_, _≤_};
 ghost use lib.ListN.{length, getD, replicate};
 ghost use lib.Seq.{sets};
 ghost use Rattle.limits.specs.Limits.{lockLimit, pageLimit, pageWidth};
@@ -200,4 +201,15 @@ pub fn wide(x: u8) -> usize
     ensures { λ r. ⌜ (r ≡ x) × (r < 256) ⌝ }
 {
     x as usize
+}
+
+// 1 for true, 0 for false.
+pub fn flag(set: bool) -> u8
+    ensures { λ r. ⌜ r ≡ cond set 1 0 ⌝ }
+    ensures { λ r. ⌜ r ≤ 1 ⌝ }
+{
+    if set {
+        return 1;
+    }
+    0
 }

@@ -1,9 +1,9 @@
 -- The dirty pages are counted mark by mark; and a bound without counting. Assumes nothing.
 use Prim.Native.Nat.{ℕ, zero, suc, _+_, _-_, _*_, _≤_, _<_}
 use native.Mathlib.Numerals.{add-one}
-use native.Mathlib.Nat.{add-zero, add-suc, zero-mul, suc-mul, mul-le-mul}
+use native.Mathlib.Nat.{suc-mul, mul-le-mul}
 use native.Mathlib.Omega.{arith}
-use mathlib.Core.Path.{_≡_, refl, sym, ap, _∙_}
+use mathlib.Core.Path.{_≡_, refl, ap, _∙_}
 use mathlib.Core.Bool.{Bool, true, false, cond, not, and-false}
 use mathlib.Core.List.{List}
 use lib.ListN.{length, getD}
@@ -16,34 +16,12 @@ use Rattle.limits.specs.Sizes.{copyLimit, firstDirty}
 use Rattle.rules.specs.InOrder.{present, presentHolder, dirtyPages}
 use Rattle.rules.specs.State.{mainframe, dirtyAt, State}
 use Rattle.rules.specs.Tables.{total}
-use Rattle.rules.proofs.Tables.{total-same, total-zero}
+use Rattle.rules.proofs.Tables.{total-same, total-zero, total-in-rows, total-of-fewer}
 use Rattle.memory.specs.Areas.{dirtyPlace, recordsIn, stateIn, standingCount}
 use Rattle.memory.specs.Marks.{processorCount, pageCount, dirtyMark}
 use Rattle.refusals.specs.Parts.{seen, recordsToCome, roomIfAllDirty}
 use Rattle.refusals.specs.Needed.{Counted}
 use Rattle.refusals.proofs.Marked.{dirty-seen}
-
--- ---- sums over the numbers below a bound
-
--- a sum in two parts
-total-in-two : (a b : ℕ) (f : ℕ → ℕ) → total (a + b) f ≡ total a f + total b (λ j. f (a + j))
-unfolding total
-total-in-two a zero f = rw (add-zero a) (omega arith)
-total-in-two a (suc b) f = rw (add-suc a b) (omega (arith, total-in-two a b f))
-
--- a sum in n rows of w
-total-in-rows : (n w : ℕ) (f : ℕ → ℕ) → total (n * w) f ≡ total n (λ i. total w (λ j. f (i * w + j)))
-unfolding total
-total-in-rows zero w f = rw (zero-mul w)
-total-in-rows (suc n) w f = rw (suc-mul n w) (total-in-two (n * w) w f ∙ ap (λ (x : ℕ). x + total w (λ j. f (n * w + j))) (total-in-rows n w f))
-
--- what is 0 adds nothing
-total-of-fewer : (n m : ℕ) (f : ℕ → ℕ) → n ≤ m → ((i : ℕ) → n ≤ i → i < m → f i ≡ 0) → total m f ≡ total n f
-total-of-fewer n m f h e =
-    let parts : n + (m - n) ≡ m = omega arith in
-    ap (λ (x : ℕ). total x f) (sym parts)
-    ∙ total-in-two n (m - n) f
-    ∙ (let none : total (m - n) (λ j. f (n + j)) ≡ 0 = total-zero (m - n) (λ j. f (n + j)) (λ i l. e (n + i) (omega arith) (omega arith)) in omega arith)
 
 -- ---- the dirty marks, absent processors and pages included
 

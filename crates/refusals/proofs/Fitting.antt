@@ -5,20 +5,20 @@ use native.Mathlib.Decide.{decLe, decLt}
 use native.Mathlib.Omega.{arith}
 use mathlib.Core.Path.{_≡_, refl, sym, ap, _∙_}
 use mathlib.Core.Bool.{Bool, true, false, cond, not, _&&_, _||_, and-false}
-use mathlib.Core.List.{List, [], _∷_}
+use mathlib.Core.List.{List, []}
 use lib.ListN.{length, getD}
 use lib.Dec.{leb, ltb, eqb}
 use borrow.Author.Tests.{lt-ltb, le-ltb, le-leb, lt-leb, eq-eqb, ne-eqb}
 use mir.Syntax.{w8, w32, w64}
 use mir.Val.{Fits}
-use Rattle.limits.specs.Limits.{firstArrived, pageWidth, processorLimit}
+use Rattle.limits.specs.Limits.{firstArrived, processorLimit}
 use Rattle.limits.specs.Sizes.{boundArea, kindBounds, kindLimit, valueLimit}
 use Rattle.rules.specs.InOrder.{present}
 use Rattle.rules.specs.Refusals.{knownKind, usesValue}
 use Rattle.rules.specs.State.{mainframe, hasArrived}
 use Rattle.rules.proofs.KindsOfSteps.{by-kind, known-says}
 use Rattle.memory.specs.Areas.{arrivedPlace, stateIn}
-use Rattle.memory.specs.Marks.{processorCount, pageCount, lockCount, arrivedMark}
+use Rattle.memory.specs.Marks.{processorCount, arrivedMark}
 use Rattle.refusals.specs.Parts.{seen, boundOf, fieldsFit, mayAct, stepFits}
 use Rattle.refusals.specs.Bounds.{objectBoundOf, valueBoundOf, inBounds, boundsOf}
 use Rattle.refusals.specs.Needed.{Counted, BoundsOf}

@@ -24,6 +24,7 @@ use limits::LAST_INTERVAL;
 use limits::PAGE_WIDTH;
 use limits::PROCESSOR_LIMIT;
 use limits::RECORD_LIMIT;
+use memory::flag;
 use memory::marks::has_arrived;
 use memory::marks::holder_of;
 use memory::marks::is_dirty;
@@ -270,15 +271,4 @@ fn dirty_pages(marks: &[u8]) -> usize
         k = k + 1;
     }
     wide(sum)
-}
-
-// 1 or 0.
-fn flag(set: bool) -> u8
-    ensures { λ r. ⌜ r ≡ cond set 1 0 ⌝ }
-    ensures { λ r. ⌜ r ≤ 1 ⌝ }
-{
-    if set {
-        return 1;
-    }
-    0
 }

@@ -1,6 +1,7 @@
 -- tables and clocks
 pub mod Tables
 pub mod Selected
+pub mod Sorting
 pub mod Holders
 pub mod Slots
 pub mod CopyWords
@@ -28,6 +29,7 @@ pub mod KeptFetch
 pub mod KeptLocks
 pub mod KeptBarrier
 pub mod Kept
+pub mod Standing
 pub mod Space
 pub mod InOrderRuns
 -- order and counts beside a run

@@ -69,7 +69,7 @@ arrivals-at-barrier n s (suc i) from to e =
     other k h = rw (arrived-at-barrier s (suc i) (suc k), ne-eqb (suc k) (suc i) (λ z. h (omega (arith, z))))
 
 -- an arrival completes the round when it is the last of the n
-completes-counts : (s : State) (p : ℕ) → 1 ≤ p → p ≤ s .counts .processors → hasArrived s p ≡ false
+pub completes-counts : (s : State) (p : ℕ) → 1 ≤ p → p ≤ s .counts .processors → hasArrived s p ≡ false
     → completes s p ≡ eqb (arrivals (s .counts .processors) s + 1) (s .counts .processors)
 unfolding completes allArrived arrivals atBarrier closed
 completes-counts s p from to e =

@@ -1,6 +1,7 @@
 -- Laws of tables: what stands at a place after one place was changed, and tests and sums over the numbers below a bound. Rests on the
 -- definitions alone. Assumes nothing.
-use Prim.Native.Nat.{ℕ, zero, suc, _+_, _≤_, _<_, max}
+use Prim.Native.Nat.{ℕ, zero, suc, _+_, _-_, _*_, _≤_, _<_, max}
+use native.Mathlib.Nat.{add-zero, add-suc, zero-mul, suc-mul}
 use native.Mathlib.Omega.{arith}
 use native.Mathlib.Decide.{ℕ-discrete}
 use mathlib.Core.Path.{_≡_, refl, sym, ap, ap₂, _∙_}
@@ -202,6 +203,26 @@ total-change (suc n) f h i l e = go (ℕ-discrete i n) (total-change n f h i)
     go : Dec (i ≡ n) → (i < n → ((k : ℕ) → (k ≡ i → ⊥) → f k ≡ h k) → total n f + h i ≡ total n h + f i) → total n f + f n + h i ≡ total n h + h n + f i
     go (yes k) r = rw k (omega (arith, total-same n f h (λ j m. e j (λ z. omega (arith, z, k)))))
     go (no k) r = omega (arith, r (omega arith) e, e n (λ z. k (sym z)))
+
+-- a sum in two parts
+pub total-in-two : (a b : ℕ) (f : ℕ → ℕ) → total (a + b) f ≡ total a f + total b (λ j. f (a + j))
+unfolding total
+total-in-two a zero f = rw (add-zero a) (omega arith)
+total-in-two a (suc b) f = rw (add-suc a b) (omega (arith, total-in-two a b f))
+
+-- a sum in n rows of w
+pub total-in-rows : (n w : ℕ) (f : ℕ → ℕ) → total (n * w) f ≡ total n (λ i. total w (λ j. f (i * w + j)))
+unfolding total
+total-in-rows zero w f = rw (zero-mul w)
+total-in-rows (suc n) w f = rw (suc-mul n w) (total-in-two (n * w) w f ∙ ap (λ (x : ℕ). x + total w (λ j. f (n * w + j))) (total-in-rows n w f))
+
+-- what is 0 adds nothing
+pub total-of-fewer : (n m : ℕ) (f : ℕ → ℕ) → n ≤ m → ((i : ℕ) → n ≤ i → i < m → f i ≡ 0) → total m f ≡ total n f
+total-of-fewer n m f h e =
+    let parts : n + (m - n) ≡ m = omega arith in
+    ap (λ (x : ℕ). total x f) (sym parts)
+    ∙ total-in-two n (m - n) f
+    ∙ (let none : total (m - n) (λ j. f (n + j)) ≡ 0 = total-zero (m - n) (λ j. f (n + j)) (λ i l. e (n + i) (omega arith) (omega arith)) in omega arith)
 
 -- a sum over more numbers is no smaller
 pub total-of-more : (n m : ℕ) (f : ℕ → ℕ) → n ≤ m → total n f ≤ total m f

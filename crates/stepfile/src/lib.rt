@@ -3,7 +3,6 @@ ghost use mathlib.Core.Bool.{true};
 ghost use lib.ListN.{length, take, drop};
 ghost use Rattle.limits.specs.Limits.{fileRecordWidth};
 ghost use Rattle.memory.specs.Areas.{areas};
-ghost use Rattle.checking.specs.Areas.{OrderIs};
 ghost use Rattle.taking.specs.Records.{recordTaken};
 ghost use Rattle.taking.specs.Needed.{standsAt, Took};
 ghost use Rattle.passing.specs.Bytes.{bytesTaken};
