@@ -33,15 +33,16 @@ use Rattle.closing.proofs.SlotBytes.{part-stored}
 pub words-row : (w : List ℕ) (row : ℕ) → length w ≡ wordArea → row < wordRowLimit → RowThere pageWidth w row
 words-row w row e h = record { within = omega arith }
 
-module _ (w r : List ℕ) (p i g slot : ℕ) (there : SlotThere w r p i g slot) where
+module _ (w r : List ℕ) (p i g mask slot : ℕ) (there : SlotThere w r p i g mask slot) where
   -- the page has its rows
   pub record-on-page : OnPage p g
   record-on-page = record { from = there .from; to = there .to; page = there .page }
 
   -- the pages are whole and the slot is
-  pub record-fits : (old new : List ℕ) (twin copy : ℕ) → old ≡ rowOf pageWidth w twin → new ≡ rowOf pageWidth w copy → twin < wordRowLimit → copy < wordRowLimit
-      → RecordFits p i g old new (take (slotWidth * slot + slotWidth - slotWidth * slot) (drop (slotWidth * slot) r))
-  record-fits old new twin copy eo en ht hc =
+  pub record-fits : (old new : List ℕ) (twin copy : ℕ) → old ≡ rowOf pageWidth w twin → new ≡ rowOf pageWidth w copy → twin ≡ twinRow mainframe p g → copy ≡ copyRow mainframe p g
+      → twin < wordRowLimit → copy < wordRowLimit
+      → RecordFits p i g old new mask (take (slotWidth * slot + slotWidth - slotWidth * slot) (drop (slotWidth * slot) r))
+  record-fits old new twin copy eo en et ec ht hc =
       let k : slotWidth * slot + slotWidth - slotWidth * slot ≡ slotWidth = omega arith in
       record {
         processor = there .to;
@@ -50,6 +51,7 @@ module _ (w r : List ℕ) (p i g slot : ℕ) (there : SlotThere w r p i g slot) 
         old-whole = ap length eo ∙ length-row pageWidth w twin (omega (arith, there .words));
         new-whole = ap length en ∙ length-row pageWidth w copy (omega (arith, there .words));
         room = rw k (length-take-le slotWidth (drop (slotWidth * slot) r) (omega (arith, length-drop (slotWidth * slot) r, there .records, there .place)));
+        masked = there .masked ∙ rw (eo, en, et, ec);
       }
 
   -- the slot put back has the bytes of the record
@@ -59,14 +61,14 @@ module _ (w r : List ℕ) (p i g slot : ℕ) (there : SlotThere w r p i g slot) 
       → take (slotWidth * slot) r ++ (part ++ drop (slotWidth * slot + slotWidth - slotWidth * slot) (drop (slotWidth * slot) r)) ≡ sets r (slotWidth * slot) (slotBytes (pageRecord p i g w))
   unfolding pageRecord recordOf slotBytes
   record-laid part old new twin copy e eo en et ec ht hc =
-      let fits = record-fits old new twin copy eo en ht hc in
+      let fits = record-fits old new twin copy eo en et ec ht hc in
       let few : length (written old new) ≤ diffLimit = at-most-131-bytes old new (fits .old-whole) (fits .new-whole) in
       part-stored r part (slotBytes (recordOf p i g old new)) (slotWidth * slot) (slotWidth * slot + slotWidth - slotWidth * slot) (omega (arith, there .records, there .place)) (omega (arith, few)) e
       ∙ rw (eo, en, et, ec)
 
 -- ---- one record more
 
-module _ (c w r m : List ℕ) (p g : ℕ) (ready : Appendable c w r m p g) where
+module _ (c w r m : List ℕ) (p g mask : ℕ) (ready : Appendable c w r m p g mask) where
   -- its clock is there
   pub append-clocks : ClocksOf c p
   append-clocks = record { clocks = ready .lent .clocks; from = ready .from; to = ready .to }
@@ -82,7 +84,7 @@ module _ (c w r m : List ℕ) (p g : ℕ) (ready : Appendable c w r m p g) where
 
   module _ (e : ℕ) (entry : OwnEntry c p e) where
     -- the first free slot is there, and numbers a little above the own entry fit a byte
-    pub append-slot : (slot x k : ℕ) → (slot ≡ standingCount m) × (slot < 65536) → x ≡ e → k ≤ 100 → SlotThere w r p (x + k) g slot
+    pub append-slot : (slot x k : ℕ) → (slot ≡ standingCount m) × (slot < 65536) → x ≡ e → k ≤ 100 → SlotThere w r p (x + k) g mask slot
     append-slot slot x k at is h =
         record {
           words = ready .lent .words;
@@ -92,6 +94,7 @@ module _ (c w r m : List ℕ) (p g : ℕ) (ready : Appendable c w r m p g) where
           interval = omega (arith, is, entry .is w r m, ready .own-fits);
           page = ready .page;
           place = omega (arith, at .0, ready .room);
+          masked = ready .masked;
         }
 
     record-is : pageRecord p (e + 1) g w ≡ newRecord (stateIn mainframe c w r m) p g

@@ -1,18 +1,18 @@
--- The words of a page as a part of the area, and whether two pages differ: one law for each way of the code, and `page-laws`.
+-- The words of a page as a part of the area, and whether two pages differ by their mask.
 -- Assumes nothing.
-use Prim.Native.Nat.{ℕ, suc, _+_, _-_, _*_, _≤_, _<_}
-use native.Mathlib.Numerals.{add-one}
+use Prim.Native.Nat.{ℕ, zero, suc, _+_, _-_, _*_}
 use native.Mathlib.Omega.{arith}
-use mathlib.Core.Path.{_≡_, refl, sym, _∙_}
-use mathlib.Core.Bool.{Bool, true, false, not, _||_}
-use mathlib.Core.List.{List}
-use lib.ListN.{length, getD, take, drop, drop-of-length-le}
-use lib.Seq.{drop-cons}
+use mathlib.Core.Path.{_≡_, refl, sym, ap, _∙_}
+use mathlib.Core.Bool.{Bool, true, false, cond, not, _||_}
+use mathlib.Core.Option.{none, some}
+use mathlib.Core.List.{List, [], _∷_}
+use lib.ListN.{length, take, drop}
 use lib.Dec.{eqb}
 use borrow.Author.Tests.{eq-eqb, ne-eqb}
 use borrow.Author.Needs.{needs}
 use Rattle.limits.specs.Limits.{pageWidth}
-use Rattle.writer.specs.Needed.{PagesWhole}
+use Rattle.diff.specs.Format.{setting, difference}
+use Rattle.writer.specs.Masks.{maskOf}
 use Rattle.rules.specs.Close.{differ}
 use Rattle.memory.specs.Layout.{rowOf}
 
@@ -21,9 +21,8 @@ pub page-part : (w : List ℕ) (row : ℕ) → take (pageWidth * row + pageWidth
 unfolding rowOf
 page-part w row = let e : pageWidth * row + pageWidth - pageWidth * row ≡ pageWidth = omega arith in rw e
 
--- ---- whether any of the first i words differs, and then the others
+-- ---- a mark more
 
--- a word more
 module _ (before : Bool) (old new : ℕ) where
   pub equal-word : old ≡ new → before ≡ (before || not (eqb old new))
   equal-word e = go before ∙ rw (eq-eqb old new e)
@@ -39,48 +38,23 @@ module _ (before : Bool) (old new : ℕ) where
       go true = refl
       go false = refl
 
--- found: whether one of the first i words differs
-pub record Differing (old new : List ℕ) (found : Bool) (i : ℕ) : Type 0 where
-  pub old-whole : length old ≡ pageWidth
-  pub new-whole : length new ≡ pageWidth
-  pub upto : i ≤ pageWidth
-  pub all : differ old new ≡ (found || differ (drop i old) (drop i new))
+-- ---- two pages
 
--- before the first word
-pub differing-begins : (old new : List ℕ) → PagesWhole old new → Differing old new false 0
-differing-begins old new p = record { old-whole = p .old-whole; new-whole = p .new-whole; upto = omega arith; all = refl }
+-- two pages differ where their mask is not 0
+pub mask-tells : (old new : List ℕ) → length old ≡ length new → not (eqb (maskOf (difference old new)) 0) ≡ differ old new
+unfolding maskOf difference setting differ
+mask-tells [] [] e = refl
+mask-tells [] (y ∷ new) e = absurd (omega (arith, e))
+mask-tells (x ∷ old) [] e = absurd (omega (arith, e))
+mask-tells (x ∷ old) (y ∷ new) e = go (eqb x y) (mask-tells old new (omega (arith, e)))
+  where
+    even : (n : ℕ) → eqb (2 * n) 0 ≡ eqb n 0
+    even zero = refl
+    even (suc n) = ne-eqb (2 * suc n) 0 (λ z. omega (arith, z)) ∙ sym (ne-eqb (suc n) 0 (λ z. omega (arith, z)))
 
-module _ (old new : List ℕ) (found : Bool) (i : ℕ) where
-  -- one more word
-  pub differing-more : (r : Bool) → Differing old new found i → i < pageWidth → r ≡ (found || not (eqb (getD old i 0) (getD new i 0))) → Differing old new r (i + 1)
-  unfolding differ
-  differing-more r p more e =
-      let ho : i < length old = omega (arith, p .old-whole) in
-      let hn : i < length new = omega (arith, p .new-whole) in
-      record {
-        old-whole = p .old-whole;
-        new-whole = p .new-whole;
-        upto = omega arith;
-        all =
-            p .all
-            ∙ rw (drop-cons old i 0 ho, drop-cons new i 0 hn, e, add-one i)
-            (go found (not (eqb (getD old i 0) (getD new i 0))) (differ (drop (suc i) old) (drop (suc i) new)));
-      }
-    where
-      go : (a b c : Bool) → (a || (b || c)) ≡ (a || b || c)
-      go true b c = refl
-      go false b c = refl
+    go : (b : Bool) → not (eqb (maskOf (difference old new)) 0) ≡ differ old new
+        → not (eqb (maskOf (cond b none (some y) ∷ difference old new)) 0) ≡ (not b || differ old new)
+    go true h = ap not (even (maskOf (difference old new))) ∙ h
+    go false h = ap not (ne-eqb (1 + 2 * maskOf (difference old new)) 0 (λ z. omega (arith, z)))
 
-  -- all words are seen
-  pub differing-ends : Differing old new found i → pageWidth ≤ i → found ≡ differ old new
-  unfolding differ
-  differing-ends p done =
-      let ho : length old ≤ i = omega (arith, p .old-whole) in
-      let hn : length new ≤ i = omega (arith, p .new-whole) in
-      sym (p .all ∙ rw (drop-of-length-le old ho, drop-of-length-le new hn) (go found))
-    where
-      go : (b : Bool) → (b || false) ≡ b
-      go true = refl
-      go false = refl
-
-pub ruleset page-laws = (page-part, equal-word, unlike-word, differing-begins, differing-more, differing-ends, needs)
+pub ruleset page-laws = (page-part, equal-word, unlike-word, needs)

@@ -6,18 +6,15 @@ use mathlib.Core.Path.{_≡_, refl, sym, ap, _∙_}
 use mathlib.Core.List.{List, [], _∷_, _++_, append-assoc}
 use lib.ListN.{length, take, drop, set, take-append-drop, length-drop, length-set}
 use lib.Seq.{length-take-le, drop-append-le, set-comm, drop-drop, sets, length-sets, sets-eq}
-use borrow.Author.Tests.{le-ltb, eq-eqb}
 use borrow.Author.Needs.{needs}
-use Rattle.limits.specs.Limits.{pageWidth, slotHead}
+use Rattle.limits.specs.Limits.{slotHead}
 use Rattle.limits.specs.Sizes.{diffLimit, slotWidth}
-use Rattle.writer.specs.Answers.{writeRefusal, writeAnswer, outAfter}
+use Rattle.writer.specs.Needed.{RoomForDiff}
 use Rattle.diff.specs.Format.{written}
 use Rattle.diff.proofs.Theorems.{at-most-131-bytes}
 use Rattle.rules.specs.State.{slotBytes}
 use Rattle.closing.specs.Parts.{recordOf}
 use Rattle.closing.specs.Needed.{RecordFits, SlotFits, DiffFits}
-use Rattle.writer.specs.declared.Written.{Written}
-use Rattle.writer.specs.declared.Written.the-variants.{Length, Refused}
 
 -- a list stored into a part of another, and the part put back
 pub part-stored : (xs ys vs : List ℕ) (a k : ℕ) → a + k ≤ length xs → length vs ≤ k → ys ≡ sets (take k (drop a xs)) 0 vs
@@ -38,53 +35,30 @@ part-stored xs ys vs a k h l e =
 
 -- ---- the diff of two whole pages finds room
 
-module _ (old new out : List ℕ) (fits : DiffFits old new out) where
-  finds-room : writeRefusal pageWidth old new out ≡ 0
-  unfolding writeRefusal
-  finds-room =
-      let few = at-most-131-bytes old new (fits .old-whole) (fits .new-whole) in
-      rw (
-        eq-eqb (length old) pageWidth (fits .old-whole),
-        eq-eqb (length new) pageWidth (fits .new-whole),
-        le-ltb (length out) (length (written old new)) (omega (arith, few, fits .room)),
-      )
+module _ (old new : List ℕ) (mask : ℕ) (out : List ℕ) (fits : DiffFits old new mask out) where
+  pub diff-room : RoomForDiff old new mask out
+  diff-room =
+      record {
+        whole = record { old-whole = fits .old-whole; new-whole = fits .new-whole };
+        is = fits .masked;
+        room = omega (arith, at-most-131-bytes old new (fits .old-whole) (fits .new-whole), fits .room);
+      }
 
-  answered : writeAnswer pageWidth old new out ≡ Length (length (written old new))
-  unfolding writeAnswer
-  answered = rw finds-room
-
-  -- the diff is laid from the start on
-  pub diff-laid : (out′ : List ℕ) → out′ ≡ outAfter pageWidth old new out → out′ ≡ sets out 0 (written old new)
-  unfolding outAfter
-  diff-laid out′ e = e ∙ rw finds-room
-
-  abbrev lengthIn : Written → ℕ
-  lengthIn (Length n) = n
-  lengthIn (Refused n) = 300
-
-  module _ (a : Written) (is : a ≡ writeAnswer pageWidth old new out) where
-    -- the length that is answered
-    pub diff-length : (n : ℕ) → a ≡ Length n → n % 256 ≡ length (written old new)
-    diff-length n e =
-        let l : n ≡ length (written old new) = ap lengthIn (sym e ∙ is ∙ answered) in
-        omega (arith, l, at-most-131-bytes old new (fits .old-whole) (fits .new-whole))
-
-    -- a refusal does not arise
-    pub never-refused : (n : ℕ) → a ≡ Refused n → 0 ≡ length (written old new)
-    never-refused n e =
-        let l : _≡_ {A = ℕ} 300 (length (written old new)) = ap lengthIn (sym e ∙ is ∙ answered) in
-        absurd (omega (arith, l, at-most-131-bytes old new (fits .old-whole) (fits .new-whole)))
+  -- the length fits a byte
+  pub diff-length : (n : ℕ) → n ≡ length (written old new) → n % 256 ≡ length (written old new)
+  diff-length n e = omega (arith, e, at-most-131-bytes old new (fits .old-whole) (fits .new-whole))
 
 -- ---- the part behind the four numbers
 
-module _ (old new slot : List ℕ) (fits : SlotFits old new slot) where
+module _ (old new : List ℕ) (mask : ℕ) (slot : List ℕ) (fits : SlotFits old new mask slot) where
   -- every diff has room behind the numbers
-  pub room-behind : DiffFits old new (take (slotWidth - slotHead) (drop slotHead slot))
+  pub room-behind : DiffFits old new mask (take (slotWidth - slotHead) (drop slotHead slot))
   room-behind =
       record {
         old-whole = fits .old-whole;
         new-whole = fits .new-whole;
         room = omega (arith, length-take-le diffLimit (drop slotHead slot) (omega (arith, length-drop slotHead slot, fits .room)));
+        masked = fits .masked;
       }
 
   -- the part put back has the diff behind the numbers
@@ -101,14 +75,18 @@ set-before [] l i j a h = refl
 set-before (v ∷ vs) l i j a h =
     set-before vs (set l i v) (suc i) j a (omega arith) ∙ ap (λ (k : List ℕ). sets k (suc i) vs) (set-comm l i j v a (λ e. omega (arith, e, h)))
 
-module _ (p i g : ℕ) (old new slot : List ℕ) (fits : RecordFits p i g old new slot) where
+module _ (p i g : ℕ) (old new : List ℕ) (mask : ℕ) (slot : List ℕ) (fits : RecordFits p i g old new mask slot) where
   -- what the diff needs
-  pub slot-fits : SlotFits old new slot
-  slot-fits = record { old-whole = fits .old-whole; new-whole = fits .new-whole; room = fits .room }
+  pub slot-fits : SlotFits old new mask slot
+  slot-fits = record { old-whole = fits .old-whole; new-whole = fits .new-whole; room = fits .room; masked = fits .masked }
 
   -- a place of the slot, after the diff was laid
   pub slot-place : (out : List ℕ) (k : ℕ) → out ≡ sets slot slotHead (written old new) → k < slotWidth → k < length out
   slot-place out k e h = let l : length out ≡ length slot = ap length e ∙ length-sets slot slotHead (written old new) in omega (arith, l, fits .room)
+
+  -- the same after one number
+  pub slot-place-1 : (out : List ℕ) (k a : ℕ) → out ≡ sets slot slotHead (written old new) → k < slotWidth → k < length (set out 0 a)
+  slot-place-1 out k a e h = omega (arith, slot-place out k e h, length-set out 0 a)
 
   -- the same after two numbers
   pub slot-place-2 : (out : List ℕ) (k a b : ℕ) → out ≡ sets slot slotHead (written old new) → k < slotWidth → k < length (set (set out 0 a) 1 b)
@@ -133,4 +111,4 @@ module _ (p i g : ℕ) (old new slot : List ℕ) (fits : RecordFits p i g old ne
       ∙ ap (λ (x : List ℕ). set x 3 (length d)) (set-before d (set (set slot 0 p) 1 i) slotHead 2 g (omega arith))
       ∙ set-before d (set (set (set slot 0 p) 1 i) 2 g) slotHead 3 (length d) (omega arith))
 
-pub ruleset slot-laws = (diff-laid, diff-length, never-refused, room-behind, diff-behind, slot-fits, slot-place, slot-place-2, slot-place-3, slot-filled, needs)
+pub ruleset slot-laws = (diff-room, diff-length, room-behind, diff-behind, slot-fits, slot-place, slot-place-1, slot-place-2, slot-place-3, slot-filled, needs)

@@ -9,14 +9,13 @@ ghost use lib.Dec.{eqb};
 ghost use Rattle.limits.specs.Limits.{pageWidth, slotHead};
 ghost use Rattle.limits.specs.Sizes.{slotWidth};
 ghost use Rattle.diff.specs.Format.{written};
-ghost use Rattle.writer.specs.Needed.{PagesWhole};
 ghost use Rattle.rules.specs.State.{mainframe, slotBytes};
-ghost use Rattle.rules.specs.Close.{differ, raised, closed};
+ghost use Rattle.rules.specs.Close.{raised, closed};
 ghost use Rattle.memory.specs.Layout.{rowOf};
 ghost use Rattle.memory.specs.Areas.{stateIn};
 ghost use Rattle.memory.specs.Needed.{Acts, RowThere, MarksOf, Holds};
 ghost use Rattle.closing.specs.Parts.{recordOf, pageRecord, oneMore, pageRecorded, allRecorded, PageChanged, AnyChanged, AnyDirty, Ticked};
-ghost use Rattle.closing.specs.Needed.{Recordable, Appendable, PageThere, SlotThere, RecordFits, SlotFits, DiffFits, Raisable, Tickable};
+ghost use Rattle.closing.specs.Needed.{Recordable, Appendable, PageThere, SlotThere, RecordFits, SlotFits, DiffFits, ChangedWords, Raisable, Tickable};
 use clock::Clock;
 use clock::IntervalId;
 use clock::PageId;
@@ -38,7 +37,6 @@ use memory::own_entry;
 use memory::put_clock;
 use memory::twin_row;
 use memory::wide;
-use writer::Written;
 
 // Closes the interval of a processor: for each page that changed one record, if there is one the clock of the interval, and clean pages.
 // A processor without a dirty page has nothing to close.
@@ -130,62 +128,43 @@ fn record_page(
     ensures { λ r. ⌜ PageChanged (now (words .entry)) (now (marks .entry)) (p .0) (g .0) r ⌝ }
     ensures { λ r. ⌜ Holds (now (clocks .entry)) (now (words .entry)) (now (records .exit)) (now (marks .exit)) (pageRecorded (stateIn mainframe (now (clocks .entry)) (now (words .entry)) (now (records .entry)) (now (marks .entry))) (p .0) (g .0)) ⌝ }
 {
-    if page_changed(p, g, words, marks) {
-        append(p, g, clocks, words, records, marks);
-        return true;
+    let mask = changed_words(p, g, words, marks);
+    if mask == 0 {
+        return false;
     }
-    false
+    append(p, g, mask, clocks, words, records, marks);
+    true
 }
 
-// Whether a page of a processor is dirty and differs from its twin.
-fn page_changed(p: ProcessorId, g: PageId, words: &[u32], marks: &[u8]) -> bool
+// The words in which a dirty page of a processor differs from its twin, as a mask; 0 for a page that is clean.
+fn changed_words(p: ProcessorId, g: PageId, words: &[u32], marks: &[u8]) -> u32
     requires { ⌜ PageThere (now words) (now marks) (p .0) (g .0) ⌝ }
-    ensures { λ r. ⌜ PageChanged (now (words .entry)) (now (marks .entry)) (p .0) (g .0) r ⌝ }
+    ensures { λ r. ⌜ ChangedWords (now (words .entry)) (now (marks .entry)) (p .0) (g .0) r ⌝ }
 {
     if !is_dirty(marks, p, g) {
-        return false;
+        return 0;
     }
     let old = page(words, twin_row(p, g));
     let new = page(words, copy_row(p, g));
-    differs(old, new)
-}
-
-// Whether any word differs. Every word is looked at: a loop that stops nowhere becomes vector instructions.
-fn differs(old: &[u32], new: &[u32]) -> bool
-    requires { ⌜ PagesWhole (now old) (now new) ⌝ }
-    ensures { λ r. ⌜ r ≡ differ (now (old .entry)) (now (new .entry)) ⌝ }
-{
-    let mut found = false;
-    let mut i: usize = 0;
-    while i < PAGE_WIDTH {
-        found = either(found, old[i], new[i]);
-        i = i + 1;
-    }
-    found
-}
-
-// Whether a word before differs, or this one does.
-fn either(before: bool, old: u32, new: u32) -> bool
-    ensures { λ r. ⌜ r ≡ (before || not (eqb old new)) ⌝ }
-{
-    if old == new { before } else { true }
+    writer::changed_words(old, new)
 }
 
 // One record more: that of a page that changed, in the first slot that is free.
 fn append(
     p: ProcessorId,
     g: PageId,
+    mask: u32,
     clocks: &[u8],
     words: &[u32],
     records: &mut [u8],
     marks: &mut [u8],
 )
-    requires { ⌜ Appendable (now clocks) (now words) (now records) (now marks) (p .0) (g .0) ⌝ }
+    requires { ⌜ Appendable (now clocks) (now words) (now records) (now marks) (p .0) (g .0) mask ⌝ }
     ensures { λ _. ⌜ Holds (now (clocks .entry)) (now (words .entry)) (now (records .exit)) (now (marks .exit)) (oneMore (stateIn mainframe (now (clocks .entry)) (now (words .entry)) (now (records .entry)) (now (marks .entry))) (p .0) (g .0)) ⌝ }
 {
     let interval = IntervalId(wide(own_entry(clocks, p)) + 1);
     let count = standing_count(marks);
-    lay_record(p, interval, g, words, records, count);
+    lay_record(p, interval, g, mask, words, records, count);
     put_standing_count(marks, count + 1);
 }
 
@@ -194,18 +173,19 @@ fn lay_record(
     p: ProcessorId,
     interval: IntervalId,
     g: PageId,
+    mask: u32,
     words: &[u32],
     records: &mut [u8],
     slot: usize,
 )
-    requires { ⌜ SlotThere (now words) (now records) (p .0) (interval .0) (g .0) slot ⌝ }
+    requires { ⌜ SlotThere (now words) (now records) (p .0) (interval .0) (g .0) mask slot ⌝ }
     ensures { λ _. ⌜ now (records .exit) ≡ sets (now (records .entry)) (slotWidth * slot) (slotBytes (pageRecord (p .0) (interval .0) (g .0) (now (words .entry)))) ⌝ }
 {
     let old = page(words, twin_row(p, g));
     let new = page(words, copy_row(p, g));
     let from = SLOT_WIDTH * slot;
     let to = from + SLOT_WIDTH;
-    fill_slot(p, interval, g, old, new, &mut records[from..to]);
+    fill_slot(p, interval, g, old, new, mask, &mut records[from..to]);
 }
 
 // The bytes of a record in its slot; those behind it keep what they hold.
@@ -215,12 +195,13 @@ fn fill_slot(
     g: PageId,
     old: &[u32],
     new: &[u32],
+    mask: u32,
     slot: &mut [u8],
 )
-    requires { ⌜ RecordFits (p .0) (interval .0) (g .0) (now old) (now new) (now slot) ⌝ }
+    requires { ⌜ RecordFits (p .0) (interval .0) (g .0) (now old) (now new) mask (now slot) ⌝ }
     ensures { λ _. ⌜ now (slot .exit) ≡ sets (now (slot .entry)) 0 (slotBytes (recordOf (p .0) (interval .0) (g .0) (now (old .entry)) (now (new .entry)))) ⌝ }
 {
-    let n = lay_diff_behind(old, new, slot);
+    let n = lay_diff_behind(old, new, mask, slot);
     slot[0] = (p.0 % 256) as u8;
     slot[1] = (interval.0 % 256) as u8;
     slot[2] = (g.0 % 256) as u8;
@@ -228,23 +209,21 @@ fn fill_slot(
 }
 
 // The diff of two pages behind the four numbers of a slot, and its length.
-fn lay_diff_behind(old: &[u32], new: &[u32], slot: &mut [u8]) -> u8
-    requires { ⌜ SlotFits (now old) (now new) (now slot) ⌝ }
+fn lay_diff_behind(old: &[u32], new: &[u32], mask: u32, slot: &mut [u8]) -> u8
+    requires { ⌜ SlotFits (now old) (now new) mask (now slot) ⌝ }
     ensures { λ r. ⌜ r ≡ length (written (now (old .entry)) (now (new .entry))) ⌝ }
     ensures { λ r. ⌜ now (slot .exit) ≡ sets (now (slot .entry)) slotHead (written (now (old .entry)) (now (new .entry))) ⌝ }
 {
-    lay_diff(old, new, &mut slot[SLOT_HEAD..SLOT_WIDTH])
+    lay_diff(old, new, mask, &mut slot[SLOT_HEAD..SLOT_WIDTH])
 }
 
-// The diff of two pages at the start of `out`, and its length. It is never refused: 131 bytes suffice for every diff.
-fn lay_diff(old: &[u32], new: &[u32], out: &mut [u8]) -> u8
-    requires { ⌜ DiffFits (now old) (now new) (now out) ⌝ }
+// The diff of two pages at the start of `out`, and its length: 131 bytes suffice for every diff.
+fn lay_diff(old: &[u32], new: &[u32], mask: u32, out: &mut [u8]) -> u8
+    requires { ⌜ DiffFits (now old) (now new) mask (now out) ⌝ }
     ensures { λ r. ⌜ r ≡ length (written (now (old .entry)) (now (new .entry))) ⌝ }
     ensures { λ r. ⌜ now (out .exit) ≡ sets (now (out .entry)) 0 (written (now (old .entry)) (now (new .entry))) ⌝ }
 {
-    let Written::Length(n) = writer::write(old, new, out) else {
-        return 0;
-    };
+    let n = writer::write_changed(old, new, mask, out);
     (n % 256) as u8
 }
 

@@ -1,3 +1,4 @@
+pub mod Masks
 pub mod Writing
 pub mod Measuring
 pub mod WriteLoops

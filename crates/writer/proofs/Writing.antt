@@ -6,13 +6,12 @@ use native.Mathlib.Numerals.{add-one}
 use native.Mathlib.Omega.{arith}
 use mathlib.Core.Path.{_≡_, refl, sym, ap, _∙_}
 use mathlib.Core.Option.{Option, none, some}
-use mathlib.Core.List.{List, [], _∷_, _++_, append-nil}
-use lib.ListN.{length, getD, set, drop, length-set, length-append, length-drop, drop-of-length-le}
+use mathlib.Core.List.{List, [], _∷_, _++_}
+use lib.ListN.{length, getD, set, drop, length-set, length-append, drop-of-length-le}
 use lib.Seq.{sets, set-comm}
-use borrow.Author.Tests.{eq-eqb, ne-eqb}
 use Rattle.limits.specs.Limits.{pageWidth}
-use Rattle.diff.specs.Format.{Run, setting, difference, ended, runsFrom, runs, setWords, pairBytes, wordBytes}
-use Rattle.writer.specs.Needed.{PagesWhole, NoneBetween, RoomForPair}
+use Rattle.diff.specs.Format.{Run, setting, difference, ended, runsFrom, setWords, pairBytes, wordBytes}
+use Rattle.writer.specs.Needed.{PagesWhole, RoomForPair}
 use Rattle.diff.proofs.Theorems.{length-difference}
 
 -- ---- one pair and one word
@@ -82,19 +81,12 @@ unfolding ended
 length-ended o zero = omega arith
 length-ended o (suc k) = omega arith
 
--- an open run that has words is one of the runs
-pub open-run-counts : (o k : ℕ) (d : List (Option ℕ)) → min k 1 ≤ length (runsFrom o k d)
+-- there are no more runs than words
+pub runs-fit : (o k : ℕ) (d : List (Option ℕ)) → length (runsFrom o k d) ≤ min k 1 + length d
 unfolding runsFrom
-open-run-counts o k [] = omega (arith, length-ended o k)
-open-run-counts o k (none ∷ d) = omega (arith, length-ended o k, length-append (ended o k) (runsFrom (o + k + 1) 0 d))
-open-run-counts o k (some v ∷ d) = omega (arith, open-run-counts o (k + 1) d)
-
--- where no word is set any more, only the open run is left
-open-run-is-last : (o k : ℕ) (d : List (Option ℕ)) → length (setWords d) ≡ 0 → runsFrom o k d ≡ ended o k
-unfolding runsFrom setWords ended
-open-run-is-last o k [] h = refl
-open-run-is-last o k (none ∷ d) h = ap (λ (rs : List Run). ended o k ++ rs) (open-run-is-last (o + k + 1) 0 d h) ∙ append-nil (ended o k)
-open-run-is-last o k (some v ∷ d) h = absurd (omega (arith, h))
+runs-fit o k [] = omega (arith, length-ended o k)
+runs-fit o k (none ∷ d) = omega (arith, length-ended o k, length-append (ended o k) (runsFrom (o + k + 1) 0 d), runs-fit (o + k + 1) 0 d)
+runs-fit o k (some v ∷ d) = omega (arith, runs-fit o (k + 1) d)
 
 -- ---- the word at a place of the difference
 
@@ -112,44 +104,10 @@ module _ (old new : List ℕ) (whole : PagesWhole old new) (i : ℕ) where
       difference-at old new i (omega (arith, whole .old-whole)) (omega (arith, whole .new-whole))
       ∙ ap (λ (n : ℕ). setting (getD old i 0) (getD new i 0) ∷ drop n (difference old new)) (sym (add-one i))
 
-  kept-word : i < pageWidth → getD old i 0 ≡ getD new i 0 → drop i (difference old new) ≡ none ∷ drop (i + 1) (difference old new)
-  unfolding setting
-  kept-word h e = next-word h ∙ rw (eq-eqb _ _ e)
-
-  set-word : i < pageWidth → (getD old i 0 ≡ getD new i 0 → ⊥) → drop i (difference old new) ≡ some (getD new i 0) ∷ drop (i + 1) (difference old new)
-  unfolding setting
-  set-word h e = next-word h ∙ rw (ne-eqb _ _ e)
-
   pub no-word : pageWidth ≤ i → drop i (difference old new) ≡ []
   no-word h =
       drop-of-length-le (difference old new) {i = i}
       (omega (arith, length-difference old new (whole .old-whole ∙ sym (whole .new-whole)), whole .old-whole))
-
--- ---- the runs that are left
-
--- the runs of the words from offset + len on, where the len words before those are set and their run may go on
-unfoldable pub runsLeft : List ℕ → List ℕ → ℕ → ℕ → List Run
-runsLeft old new offset len = runsFrom offset len (drop (offset + len) (difference old new))
-
-pub all-runs-left : (old new : List ℕ) → runs (difference old new) ≡ runsLeft old new 0 0
-unfolding runs runsLeft
-all-runs-left old new = refl
-
-module _ (old new : List ℕ) (offset len : ℕ) (whole : PagesWhole old new) where
-  pub kept-word-ends-run : offset + len < pageWidth → getD old (offset + len) 0 ≡ getD new (offset + len) 0
-      → runsLeft old new offset len ≡ ended offset len ++ runsLeft old new (offset + len + 1) 0
-  unfolding runsLeft runsFrom
-  kept-word-ends-run h e =
-      ap (λ (d : List (Option ℕ)). runsFrom offset len d) (kept-word old new whole (offset + len) h e)
-      ∙ ap (λ (n : ℕ). ended offset len ++ runsFrom (offset + len + 1) 0 (drop n (difference old new))) (sym (add-zero (offset + len + 1)))
-
-  pub set-word-lengthens-run : offset + len < pageWidth → (getD old (offset + len) 0 ≡ getD new (offset + len) 0 → ⊥)
-      → runsLeft old new offset len ≡ runsLeft old new offset (len + 1)
-  unfolding runsLeft runsFrom
-  set-word-lengthens-run h e =
-      let next : offset + len + 1 ≡ offset + (len + 1) = omega arith in
-      ap (λ (d : List (Option ℕ)). runsFrom offset len d) (set-word old new whole (offset + len) h e)
-      ∙ ap (λ (n : ℕ). runsFrom offset (len + 1) (drop n (difference old new))) next
 
 -- ---- the words that are left
 
@@ -162,67 +120,6 @@ unfolding wordsLeft
 all-words-left old new = refl
 
 module _ (old new : List ℕ) (i : ℕ) (whole : PagesWhole old new) where
-  pub kept-word-adds-none : i < pageWidth → getD old i 0 ≡ getD new i 0 → wordsLeft old new i ≡ wordsLeft old new (i + 1)
-  unfolding wordsLeft setWords
-  kept-word-adds-none h e = ap setWords (kept-word old new whole i h e)
-
-  pub set-word-is-next : i < pageWidth → (getD old i 0 ≡ getD new i 0 → ⊥) → wordsLeft old new i ≡ getD new i 0 ∷ wordsLeft old new (i + 1)
-  unfolding wordsLeft setWords
-  set-word-is-next h e = ap setWords (set-word old new whole i h e)
-
   pub page-end-has-none : pageWidth ≤ i → wordsLeft old new i ≡ []
   unfolding wordsLeft setWords
   page-end-has-none h = ap setWords (no-word old new whole i h)
-
--- each word of the page that is left is set at most once
-set-words-fit : (d : List (Option ℕ)) → length (setWords d) ≤ length d
-unfolding setWords
-set-words-fit [] = omega arith
-set-words-fit (none ∷ d) = omega (arith, set-words-fit d)
-set-words-fit (some v ∷ d) = omega (arith, set-words-fit d)
-
-pub words-left-fit : (old new : List ℕ) (i : ℕ) → PagesWhole old new → i ≤ pageWidth → i + length (wordsLeft old new i) ≤ pageWidth
-unfolding wordsLeft
-words-left-fit old new i whole h =
-    let d = difference old new in
-    omega (arith, set-words-fit (drop i d), length-drop i d, length-difference old new (whole .old-whole ∙ sym (whole .new-whole)), whole .old-whole)
-
--- where a word is left, the page goes on
-pub word-left-on-page : (old new : List ℕ) (i : ℕ) → PagesWhole old new → 0 < length (setWords (drop i (difference old new))) → i < pageWidth
-word-left-on-page old new i whole h =
-    let d = difference old new in
-    omega (arith, h, set-words-fit (drop i d), length-drop i d, length-difference old new (whole .old-whole ∙ sym (whole .new-whole)), whole .old-whole)
-
--- a word that is kept and has no run before it changes nothing of what is left
-module _ (old new : List ℕ) (i : ℕ) (whole : PagesWhole old new) (h : i < pageWidth) (e : getD old i 0 ≡ getD new i 0) where
-  pub kept-word-starts-none : runsFrom i 0 (drop i (difference old new)) ≡ runsFrom (i + 1) 0 (drop (i + 1) (difference old new))
-  unfolding runsFrom ended
-  kept-word-starts-none =
-      let next : i + 0 + 1 ≡ i + 1 = omega arith in
-      ap (λ (d : List (Option ℕ)). runsFrom i 0 d) (kept-word old new whole i h e)
-      ∙ ap (λ (n : ℕ). runsFrom n 0 (drop (i + 1) (difference old new))) next
-
-  pub kept-word-sets-none : setWords (drop i (difference old new)) ≡ setWords (drop (i + 1) (difference old new))
-  unfolding setWords
-  kept-word-sets-none = ap setWords (kept-word old new whole i h e)
-
--- what is left at two places between which no word is set
-module _ (old new : List ℕ) (from to : ℕ) (p : NoneBetween old new from to) where
-  pub runs-left-same : runsLeft old new from 0 ≡ runsLeft old new to 0
-  unfolding runsLeft
-  runs-left-same =
-      ap (λ (n : ℕ). runsFrom from 0 (drop n (difference old new))) (add-zero from)
-      ∙ p .same-runs
-      ∙ ap (λ (n : ℕ). runsFrom to 0 (drop n (difference old new))) (sym (add-zero to))
-
-  pub words-left-same : wordsLeft old new (from + 0) ≡ wordsLeft old new (to + 0)
-  unfolding wordsLeft
-  words-left-same =
-      ap (λ (n : ℕ). setWords (drop n (difference old new))) (add-zero from)
-      ∙ p .same-words
-      ∙ ap (λ (n : ℕ). setWords (drop n (difference old new))) (sym (add-zero to))
-
--- where no word is left, the open run is the last
-pub no-word-left-ends-run : (old new : List ℕ) (offset len : ℕ) → length (wordsLeft old new (offset + len)) ≡ 0 → runsLeft old new offset len ≡ ended offset len
-unfolding wordsLeft runsLeft
-no-word-left-ends-run old new offset len h = open-run-is-last offset len (drop (offset + len) (difference old new)) h
