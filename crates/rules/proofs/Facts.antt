@@ -71,6 +71,7 @@ pub record InOrder (lim : Limits) (s : State) : Type 0 where
   pub absent-clock : (h : Holder) (q : ℕ) → presentHolder s h ≡ false → entryOf (clockOf (s .clocks) h) q ≡ 0
   pub absent-entry : (h : Holder) (q : ℕ) → present s q ≡ false → entryOf (clockOf (s .clocks) h) q ≡ 0
   pub absent-copy : (p g o : ℕ) → presentHolder s (Applied p g) ≡ false → getD (copyOf (s .pages) p g) o 0 ≡ 0
+  pub absent-twin : (p g o : ℕ) → presentHolder s (Applied p g) ≡ false → getD (twinOf (s .pages) p g) o 0 ≡ 0
   pub absent-clean : (p g : ℕ) → presentHolder s (Applied p g) ≡ false → dirtyAt (s .pages) p g ≡ false
   pub absent-not-arrived : (p : ℕ) → 1 ≤ p → present s p ≡ false → hasArrived s p ≡ false
   pub absent-not-held : (l : ℕ) → presentHolder s (Lock l) ≡ false → holder s l ≡ 0

@@ -13,13 +13,13 @@ use Rattle.limits.specs.Limits.{slotHead}
 use Rattle.clock.specs.Clocks.{entryOf}
 use Rattle.diff.specs.Reading.{readRefusal}
 use Rattle.rules.specs.Tables.{every}
-use Rattle.rules.specs.State.{Limits, Holder, Processor, Lock, Applied, Interval, clockOf, copyOf, dirtyAt, State, clock, own, holder, hasArrived}
-use Rattle.rules.specs.InOrder.{present, everyProcessor, everyHolder, slotSize, sized, inRange, presentHolder, allZero, absentZero, laterIntervalsZero, entriesKnown, appliedKnown, recordAt, diffLegal, recordSound, sameNotice, recordsSound, roomKept, dirtyHaveInterval, holdersPresent, someoneMissing, inOrder}
+use Rattle.rules.specs.State.{Limits, Holder, Processor, Lock, Applied, Interval, clockOf, copyOf, twinOf, dirtyAt, State, clock, own, holder, hasArrived}
+use Rattle.rules.specs.InOrder.{present, everyProcessor, everyPage, everyHolder, slotSize, sized, inRange, presentHolder, allZero, absentZero, laterIntervalsZero, entriesKnown, appliedKnown, recordAt, diffLegal, recordSound, sameNotice, recordsSound, roomKept, dirtyHaveInterval, holdersPresent, someoneMissing, inOrder}
 use Rattle.rules.proofs.Tables.{every-at, any-at}
 use Rattle.rules.proofs.Facts.{Within, Sized, RecordSound, InOrder}
 use Rattle.rules.proofs.Everywhere.{and-left, and-right, conjoined-at, or-says, or-either, every-processor-at, every-page-at, every-interval-at, every-holder-at, by-place, all-zero-at, entry-all-zero, covered-entries}
 use Rattle.rules.proofs.Rows.{rows-sized-says}
-use Rattle.rules.proofs.Outside.{entry-outside, entry-absent-place, copy-outside, clean-outside, not-arrived-outside, not-held-outside}
+use Rattle.rules.proofs.Outside.{entry-outside, entry-absent-place, copy-outside, twin-outside, clean-outside, not-arrived-outside, not-held-outside}
 use Rattle.rules.proofs.Conditions.{sizedTests, sized-tests, absentTests, absent-tests, countsTests, counts-tests, recordTests, record-tests, orderTests, order-tests}
 
 module _ (lim : Limits) (s : State) where
@@ -71,9 +71,19 @@ module _ (lim : Limits) (s : State) where
     pub clock : (h : Holder) (q : ℕ) → presentHolder s h ≡ false → entryOf (clockOf (s .clocks) h) q ≡ 0
     pub entry : (h : Holder) (q : ℕ) → present s q ≡ false → entryOf (clockOf (s .clocks) h) q ≡ 0
     pub copy : (p g o : ℕ) → presentHolder s (Applied p g) ≡ false → getD (copyOf (s .pages) p g) o 0 ≡ 0
+    pub twin : (p g o : ℕ) → presentHolder s (Applied p g) ≡ false → getD (twinOf (s .pages) p g) o 0 ≡ 0
     pub clean : (p g : ℕ) → presentHolder s (Applied p g) ≡ false → dirtyAt (s .pages) p g ≡ false
     pub not-arrived : (p : ℕ) → 1 ≤ p → present s p ≡ false → hasArrived s p ≡ false
     pub not-held : (l : ℕ) → presentHolder s (Lock l) ≡ false → holder s l ≡ 0
+
+  -- the words of absent pages, in a table of copies or of twins that has none outside its places
+  absent-words : (page : ℕ → ℕ → List ℕ) → everyPage lim (λ p g. presentHolder s (Applied p g) || allZero (page p g)) ≡ true
+      → ((p g : ℕ) → ((1 ≤ p) × (p ≤ lim .processors) × (g < lim .pages) → ⊥) → page p g ≡ []) → (p g o : ℕ) → presentHolder s (Applied p g) ≡ false → getD (page p g) o 0 ≡ 0
+  unfolding Within
+  absent-words page e outside p g o a =
+      by-place lim (Applied p g)
+      (λ w. all-zero-at (page p g) o (or-says (presentHolder s (Applied p g)) (allZero (page p g)) (every-page-at lim _ p g e (w .0) (w .1) (w .2)) a))
+      (λ n. ap (λ (l : List ℕ). getD l o 0) (outside p g n))
 
   absent-says : Sized lim s → absentZero lim s ≡ true → Absent
   unfolding absentTests Within
@@ -92,21 +102,19 @@ module _ (lim : Limits) (s : State) where
                 (λ w. eqb-true _ _ (or-says (present s q) (eqb (entryOf (clockOf (s .clocks) h) q) 0) (every-processor-at lim _ q (every-holder-at lim _ h (part 1) w) (v .0) (v .1)) a))
                 (λ n. entry-outside lim s z h q n))
                 (λ n. entry-absent-place lim s z h q n);
-            copy = λ p g o a.
-                by-place lim (Applied p g)
-                (λ w. all-zero-at (copyOf (s .pages) p g) o (or-says (presentHolder s (Applied p g)) (allZero (copyOf (s .pages) p g)) (every-page-at lim _ p g (part 2) (w .0) (w .1) (w .2)) a))
-                (λ n. ap (λ (l : List ℕ). getD l o 0) (copy-outside lim s z p g n));
+            copy = absent-words (copyOf (s .pages)) (part 2) (copy-outside lim s z);
+            twin = absent-words (twinOf (s .pages)) (part 3) (twin-outside lim s z);
             clean = λ p g a.
                 by-place lim (Applied p g)
-                (λ w. not-true _ (or-says (presentHolder s (Applied p g)) (not (dirtyAt (s .pages) p g)) (every-page-at lim _ p g (part 3) (w .0) (w .1) (w .2)) a))
+                (λ w. not-true _ (or-says (presentHolder s (Applied p g)) (not (dirtyAt (s .pages) p g)) (every-page-at lim _ p g (part 4) (w .0) (w .1) (w .2)) a))
                 (λ n. clean-outside lim s z p g n);
             not-arrived = λ p l a.
                 by-place lim (Processor p)
-                (λ w. not-true _ (or-says (present s p) (not (hasArrived s p)) (every-processor-at lim _ p (part 4) (w .0) (w .1)) a))
+                (λ w. not-true _ (or-says (present s p) (not (hasArrived s p)) (every-processor-at lim _ p (part 5) (w .0) (w .1)) a))
                 (λ n. not-arrived-outside lim s z p (lt-of-not-le (λ k. n (l, k))));
             not-held = λ l a.
                 by-place lim (Lock l)
-                (λ w. eqb-true _ _ (or-says (presentHolder s (Lock l)) (eqb (holder s l) 0) (every-at (lim .locks) _ l (part 5) w) a))
+                (λ w. eqb-true _ _ (or-says (presentHolder s (Lock l)) (eqb (holder s l) 0) (every-at (lim .locks) _ l (part 6) w) a))
                 (λ n. not-held-outside lim s z l (omega (arith, lt-of-not-le n)));
           }
 
@@ -226,6 +234,7 @@ in-order-says lim s e = go (λ i. conjoined-at (orderTests lim s) i (sym (order-
           absent-clock = absent .clock;
           absent-entry = absent .entry;
           absent-copy = absent .copy;
+          absent-twin = absent .twin;
           absent-clean = absent .clean;
           absent-not-arrived = absent .not-arrived;
           absent-not-held = absent .not-held;

@@ -11,7 +11,7 @@ use Rattle.limits.specs.Limits.{slotHead}
 use Rattle.clock.specs.Clocks.{entryOf}
 use Rattle.diff.specs.Reading.{readRefusal}
 use Rattle.rules.specs.Tables.{every}
-use Rattle.rules.specs.State.{Limits, Holder, Lock, Applied, Interval, clockOf, copyOf, dirtyAt, State, clock, own, holder, hasArrived}
+use Rattle.rules.specs.State.{Limits, Holder, Lock, Applied, Interval, clockOf, copyOf, twinOf, dirtyAt, State, clock, own, holder, hasArrived}
 use Rattle.rules.specs.InOrder.{present, everyProcessor, everyHolder, slotSize, sized, inRange, countsInRange, presentHolder, allZero, absentZero, laterIntervalsZero, entriesKnown, appliedKnown, recordAt, diffLegal, recordSound, sameNotice, recordsSound, roomKept, dirtyHaveInterval, holdersPresent, someoneMissing, inOrder}
 use Rattle.rules.proofs.Tables.{every-holds, any-holds}
 use Rattle.rules.proofs.Facts.{Sized, RecordSound, InOrder}
@@ -69,6 +69,7 @@ module _ (lim : Limits) (s : State) (o : InOrder lim s) where
       (every-holder-holds lim _ (λ h w. or-when (presentHolder s h) _ (λ a. entries-all-zero (clockOf (s .clocks) h) (λ q. o .absent-clock h q a))))
       (every-holder-holds lim _ (λ h w. every-processor-holds lim _ (λ q k l. or-when (present s q) _ (λ a. eq-eqb _ _ (o .absent-entry h q a)))))
       (every-page-holds lim _ (λ p g k l m. or-when (presentHolder s (Applied p g)) _ (λ a. all-zero-holds (copyOf (s .pages) p g) (λ i. o .absent-copy p g i a))))
+      (every-page-holds lim _ (λ p g k l m. or-when (presentHolder s (Applied p g)) _ (λ a. all-zero-holds (twinOf (s .pages) p g) (λ i. o .absent-twin p g i a))))
       (every-page-holds lim _ (λ p g k l m. or-when (presentHolder s (Applied p g)) _ (λ a. not-when (dirtyAt (s .pages) p g) (o .absent-clean p g a))))
       (every-processor-holds lim _ (λ p k l. or-when (present s p) _ (λ a. not-when (hasArrived s p) (o .absent-not-arrived p k a))))
       (every-holds (lim .locks) _ (λ l k. or-when (presentHolder s (Lock l)) _ (λ a. eq-eqb _ _ (o .absent-not-held l a))))

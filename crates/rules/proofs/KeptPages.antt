@@ -10,7 +10,7 @@ use mathlib.Core.List.{List, [], map}
 use lib.ListN.{length, getD}
 use lib.Dec.{ltb, eqb}
 use borrow.Author.Tests.{lt-ltb}
-use Rattle.rules.specs.Tables.{put}
+use Rattle.rules.specs.Tables.{put, cell, putCell}
 use Rattle.rules.specs.State.{Limits, Counts, Applied, Pages, copyOf, twinOf, dirtyAt}
 use Rattle.rules.specs.Close.{cleaned}
 use Rattle.rules.specs.Fetch.{withCopy}
@@ -55,6 +55,7 @@ cleaned-in-order lim n m p f h k =
       twin = unfold cleaned twinOf in f .twin;
       dirty = unfold cleaned in rows-map-row lim (lim .pages) (m .dirty) p (λ (x : ℕ). 0) (f .dirty) h k;
       absent-copy = unfold cleaned copyOf in f .absent-copy;
+      absent-twin = unfold cleaned twinOf in f .absent-twin;
       absent-clean = λ q g a. go q g a (ℕ-discrete q p);
     }
   where
@@ -96,6 +97,12 @@ present-page lim n p g q h a d e z =
     sym z ∙ ap₂ (λ (x y : ℕ). presentAmong n x && ltb y (n .pages)) d e ∙ and-eq-true-iff (presentAmong n p) (ltb g (n .pages)) .1 (a .processor, lt-ltb g (n .pages) (a .page)) in
     false≢true t
 
+-- a table of copies or of twins with another page at a present place: the words of absent pages are as they were
+absent-words-kept : (lim : Limits) (n : Counts) (t : List (List (List ℕ))) (p g : ℕ) (page : List ℕ) → AtPage lim n p g
+    → ((q h o : ℕ) → holderAmong n (Applied q h) ≡ false → getD (cell [] t q h) o 0 ≡ 0)
+    → (q h o : ℕ) → holderAmong n (Applied q h) ≡ false → getD (cell [] (putCell [] t p g page) q h) o 0 ≡ 0
+absent-words-kept lim n t p g page a f q h o z = by-put-cell (λ w. getD w o 0 ≡ 0) [] t p g q h page (λ d e. absurd (present-page lim n p g q h a d e z)) (f q h o z)
+
 -- a copy of the right length at a present page
 pub copy-replaced : (lim : Limits) (n : Counts) (m : Pages) (p g : ℕ) (page : List ℕ) → AtPage lim n p g → length page ≡ lim .words → PagesInOrder lim n m
     → PagesInOrder lim n (withCopy m p g page)
@@ -108,8 +115,8 @@ copy-replaced lim n m p g page a l f =
       twins = f .twins;
       twin = f .twin;
       dirty = f .dirty;
-      absent-copy = λ q h o z.
-          by-put-cell (λ w. getD w o 0 ≡ 0) [] (m .copies) p g q h page (λ d e. absurd (present-page lim n p g q h a d e z)) (f .absent-copy q h o z);
+      absent-copy = absent-words-kept lim n (m .copies) p g page a (f .absent-copy);
+      absent-twin = f .absent-twin;
       absent-clean = f .absent-clean;
     }
 
@@ -158,6 +165,7 @@ new-twin-in-order lim n m p g a f =
       twin = λ q h x y z. by-put-cell (λ w. length w ≡ lim .words) [] (m .twins) p g q h (copyOf m p g) (λ d e. f .copy p g (b .0) fit on) (f .twin q h x y z);
       dirty = rows-put-cell 0 lim (lim .pages) (m .dirty) p g 1 (f .dirty) (b .0) fit on;
       absent-copy = f .absent-copy;
+      absent-twin = absent-words-kept lim n (m .twins) p g (copyOf m p g) a (f .absent-twin);
       absent-clean = λ q h z.
           by-put-cell (λ w. not (eqb w 0) ≡ false) 0 (m .dirty) p g q h 1 (λ d e. absurd (present-page lim n p g q h a d e z)) (f .absent-clean q h z);
     }

@@ -94,6 +94,7 @@ pub record PagesInOrder (lim : Limits) (n : Counts) (m : Pages) : Type 0 where
   pub twin : (p g : ℕ) → 1 ≤ p → p ≤ lim .processors → g < lim .pages → length (twinOf m p g) ≡ lim .words
   pub dirty : Rows lim (lim .pages) (m .dirty)
   pub absent-copy : (p g o : ℕ) → holderAmong n (Applied p g) ≡ false → getD (copyOf m p g) o 0 ≡ 0
+  pub absent-twin : (p g o : ℕ) → holderAmong n (Applied p g) ≡ false → getD (twinOf m p g) o 0 ≡ 0
   pub absent-clean : (p g : ℕ) → holderAmong n (Applied p g) ≡ false → dirtyAt m p g ≡ false
 
 -- a slot that holds a sound record, where o gives each processor's own entry
@@ -182,6 +183,7 @@ parts-of lim s f =
             twin = f .sized .twin;
             dirty = dirty-rows lim s (f .sized);
             absent-copy = f .absent-copy;
+            absent-twin = f .absent-twin;
             absent-clean = f .absent-clean;
           };
       records =
@@ -258,6 +260,7 @@ in-order-of lim s f =
       absent-clock = λ h q e. f .clocks .absent-clock h q (sym (holder-among s h) ∙ e);
       absent-entry = f .clocks .absent-entry;
       absent-copy = f .pages .absent-copy;
+      absent-twin = f .pages .absent-twin;
       absent-clean = f .pages .absent-clean;
       absent-not-arrived = f .marks .absent-not-arrived;
       absent-not-held = f .marks .absent-not-held;

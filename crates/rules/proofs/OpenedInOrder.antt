@@ -104,14 +104,23 @@ opened-page lim p g h k l =
     ∙ getD-replicate (lim .pages) g (replicate {A = ℕ} (lim .words) 0) [] l)
     ∙ length-replicate (lim .words) 0
 
--- every word of every copy is 0
-pub opened-word : (lim : Limits) (p g o : ℕ) → getD (copyOf (zeroPages lim) p g) o 0 ≡ 0
-unfolding copyOf zeroPages
-opened-word lim p g o =
+-- every word of every page of a table of zeros is 0
+zero-word : (lim : Limits) (p g o : ℕ) → getD (cell [] (rows (lim .processors) (replicate (lim .pages) (replicate {A = ℕ} (lim .words) 0))) p g) o 0 ≡ 0
+zero-word lim p g o =
     rows-all (λ (row : List (List ℕ)). getD (getD row g []) o 0 ≡ 0) (lim .processors) (replicate (lim .pages) (replicate {A = ℕ} (lim .words) 0)) p
     (replicated (λ (page : List ℕ). getD page o 0 ≡ 0) (lim .pages) g (replicate {A = ℕ} (lim .words) 0) []
     (replicated (λ (n : ℕ). n ≡ 0) (lim .words) o 0 0 refl refl) refl)
     refl
+
+-- so is every word of every copy
+pub opened-word : (lim : Limits) (p g o : ℕ) → getD (copyOf (zeroPages lim) p g) o 0 ≡ 0
+unfolding copyOf zeroPages
+opened-word lim p g o = zero-word lim p g o
+
+-- and of every twin
+opened-twin-word : (lim : Limits) (p g o : ℕ) → getD (twinOf (zeroPages lim) p g) o 0 ≡ 0
+unfolding twinOf zeroPages
+opened-twin-word lim p g o = zero-word lim p g o
 
 -- every page is clean
 pub opened-clean : (lim : Limits) (p g : ℕ) → dirtyAt (zeroPages lim) p g ≡ false
@@ -205,6 +214,7 @@ module _ (lim : Limits) (c : Counts) where
             absent-clock = λ h q a. opened-entry lim h q;
             absent-entry = λ h q a. opened-entry lim h q;
             absent-copy = λ p g o a. opened-word lim p g o;
+            absent-twin = λ p g o a. opened-twin-word lim p g o;
             absent-clean = λ p g a. opened-clean lim p g;
             absent-not-arrived = λ p h a. opened-not-arrived p;
             absent-not-held = λ l a. opened-not-held l;

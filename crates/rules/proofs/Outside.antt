@@ -9,7 +9,7 @@ use lib.ListN.{length, List·getD-eq-default}
 use lib.Dec.{eqb}
 use Rattle.clock.specs.Clocks.{entryOf}
 use Rattle.rules.specs.Tables.{cell}
-use Rattle.rules.specs.State.{Limits, Holder, Processor, Lock, Barrier, Applied, Interval, clockOf, copyOf, dirtyAt, State, holder, hasArrived}
+use Rattle.rules.specs.State.{Limits, Holder, Processor, Lock, Barrier, Applied, Interval, clockOf, copyOf, twinOf, dirtyAt, State, holder, hasArrived}
 use Rattle.rules.proofs.Facts.{Within, Sized}
 use Rattle.rules.proofs.Everywhere.{has-place, entry-past, entry-none}
 use Rattle.rules.proofs.Rows.{nothing, Rows, row-outside, cell-outside}
@@ -74,6 +74,11 @@ module _ (lim : Limits) (s : State) (z : Sized lim s) where
   pub copy-outside : (p g : ℕ) → ((1 ≤ p) × (p ≤ lim .processors) × (g < lim .pages) → ⊥) → copyOf (s .pages) p g ≡ []
   unfolding copyOf
   copy-outside p g h = cell-outside [] lim (lim .pages) (s .pages .copies) copies-rows p g h
+
+  -- nor has its twin
+  pub twin-outside : (p g : ℕ) → ((1 ≤ p) × (p ≤ lim .processors) × (g < lim .pages) → ⊥) → twinOf (s .pages) p g ≡ []
+  unfolding twinOf
+  twin-outside p g h = cell-outside [] lim (lim .pages) (s .pages .twins) twins-rows p g h
 
   -- it is clean
   pub clean-outside : (p g : ℕ) → ((1 ≤ p) × (p ≤ lim .processors) × (g < lim .pages) → ⊥) → dirtyAt (s .pages) p g ≡ false

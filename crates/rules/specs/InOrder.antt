@@ -87,12 +87,14 @@ unfoldable pub allZero : List ℕ → Bool
 allZero [] = true
 allZero (x ∷ l) = eqb x 0 && allZero l
 
--- clocks of absent holders and entries of absent processors; words and dirty marks of absent pages; arrived marks; holders
+-- clocks of absent holders and entries of absent processors; words (of copies and of twins) and dirty marks of absent pages; arrived marks;
+-- holders
 unfoldable pub absentZero : Limits → State → Bool
 absentZero lim s =
     everyHolder lim (λ h. presentHolder s h || allZero (clockOf (s .clocks) h))
     && everyHolder lim (λ h. everyProcessor lim (λ q. present s q || eqb (entryOf (clockOf (s .clocks) h) q) 0))
     && everyPage lim (λ p g. presentHolder s (Applied p g) || allZero (copyOf (s .pages) p g))
+    && everyPage lim (λ p g. presentHolder s (Applied p g) || allZero (twinOf (s .pages) p g))
     && everyPage lim (λ p g. presentHolder s (Applied p g) || not (dirtyAt (s .pages) p g))
     && everyProcessor lim (λ p. present s p || not (hasArrived s p))
     && every (lim .locks) (λ l. presentHolder s (Lock l) || eqb (holder s l) 0)
