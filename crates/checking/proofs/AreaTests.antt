@@ -8,7 +8,7 @@ use lib.Dec.{leb}
 use borrow.Author.Tests.{leb-true, not-true, not-false, le-leb, lt-leb}
 use borrow.Author.Needs.{needs}
 use Rattle.limits.specs.Limits.{lockLimit, pageLimit, processorLimit, recordLimit}
-use Rattle.limits.specs.Sizes.{firstLockRow}
+use Rattle.limits.specs.Sizes.{copyLimit, firstLockRow}
 use Rattle.rules.specs.Tables.{every}
 use Rattle.rules.proofs.Everywhere.{and-left, and-right}
 use Rattle.memory.specs.Needed.{Lent}
@@ -19,7 +19,7 @@ use Rattle.marktests.specs.Needed.{CountsFit, MarksThere}
 use Rattle.marktests.proofs.Passing.{and-fails, and-goes-on}
 use Rattle.recordtests.specs.Tests.{ownFits, recordsHoldWith}
 use Rattle.recordtests.specs.Needed.{OwnFit, SlotsThere}
-use Rattle.checking.specs.Tests.{rowsHold, ownEntries, appliedHold, intervalsHold, clocksHoldWith, copiesHold, countsHold, areasHoldWith, areasHold}
+use Rattle.checking.specs.Tests.{rowsHold, ownEntries, appliedHold, intervalsHold, clocksHoldWith, wordsHold, countsHold, areasHoldWith, areasHold}
 use Rattle.checking.specs.Needed.{ClocksThere, AreasThere}
 
 -- ---- the test of the counts
@@ -91,7 +91,7 @@ own-fit-clocks own c processors pages locks t e k =
 
 -- the tests of the areas, one after the other
 pub areas-is : (own c w r m : List ℕ) (processors pages locks standing : ℕ) (t : Bool)
-    → t ≡ (clocksHoldWith own c processors pages locks && (every processorLimit (copiesHold w processors pages) && (marksHoldWith own m processors pages locks standing && recordsHoldWith own r processors pages standing)))
+    → t ≡ (clocksHoldWith own c processors pages locks && (every processorLimit (wordsHold w 0 processors pages) && (every processorLimit (wordsHold w copyLimit processors pages) && (marksHoldWith own m processors pages locks standing && recordsHoldWith own r processors pages standing))))
     → t ≡ areasHoldWith own c w r m processors pages locks standing
 unfolding areasHoldWith
 areas-is own c w r m processors pages locks standing t e = e

@@ -1,4 +1,4 @@
--- Lent memory that holds a state in order passes the tests on its clocks and copies. Assumes nothing.
+-- Lent memory that holds a state in order passes the tests on its clocks and words. Assumes nothing.
 use Prim.Native.Nat.{ℕ, zero, suc, _+_, _*_, _≤_, _<_}
 use native.Mathlib.Omega.{arith}
 use mathlib.Core.Path.{_≡_, sym, ap, _∙_}
@@ -7,12 +7,12 @@ use mathlib.Core.List.{List}
 use lib.ListN.{getD}
 use lib.Dec.{ltb}
 use borrow.Author.Tests.{le-ltb, le-leb}
-use Rattle.limits.specs.Limits.{intervalLimit, lockLimit, pageLimit, processorLimit}
-use Rattle.limits.specs.Sizes.{clockWidth, firstAppliedRow, firstIntervalRow, firstLockRow}
+use Rattle.limits.specs.Limits.{intervalLimit, lockLimit, pageLimit, pageWidth, processorLimit}
+use Rattle.limits.specs.Sizes.{clockWidth, copyLimit, firstAppliedRow, firstIntervalRow, firstLockRow}
 use Rattle.clock.specs.Clocks.{zeros}
 use Rattle.rules.specs.InOrder.{presentHolder}
 use Rattle.rules.specs.Refusals.{fits}
-use Rattle.rules.specs.State.{mainframe, Holder, Processor, Lock, Barrier, Applied, Interval, clock}
+use Rattle.rules.specs.State.{mainframe, Holder, Processor, Lock, Barrier, Applied, Interval, copyOf, twinOf, clock}
 use Rattle.rules.specs.Tables.{every}
 use Rattle.rules.proofs.Facts.{Within, InOrder}
 use Rattle.rules.proofs.Tables.{every-holds}
@@ -22,9 +22,9 @@ use Rattle.memory.specs.Marks.{lockCount, pageCount, processorCount}
 use Rattle.memory.proofs.RowLaws.{get-row}
 use Rattle.marktests.specs.Tests.{pagesOf}
 use Rattle.recordtests.specs.Tests.{ownFits}
-use Rattle.checking.specs.Tests.{rowsHold, ownEntries, appliedHold, intervalsHold, clocksHoldWith, copiesHold}
-use Rattle.checking.proofs.PlaceFacts.{rows-hold-when, copies-zero-when}
-use Rattle.checking.proofs.StateReads.{entry-read, own-read, word-read, present-read, page-present-read, lock-present-read}
+use Rattle.checking.specs.Tests.{rowsHold, ownEntries, appliedHold, intervalsHold, clocksHoldWith, wordsHold}
+use Rattle.checking.proofs.PlaceFacts.{rows-hold-when, words-zero-when}
+use Rattle.checking.proofs.StateReads.{entry-read, own-read, copy-word-read, twin-word-read, present-read, page-present-read, lock-present-read}
 
 module _ (c w r m : List ℕ) (o : InOrder mainframe (stateIn mainframe c w r m)) where
   -- ---- clocks
@@ -114,12 +114,23 @@ module _ (c w r m : List ℕ) (o : InOrder mainframe (stateIn mainframe c w r m)
   unfolding clocksHoldWith
   clocks-say = rw (own-fits-says, processor-rows-says, lock-rows-says, applied-says, intervals-says)
 
-  -- ---- copies
+  -- ---- words
+
+  -- the words of absent pages pass, where those of the pages in the rows from `first` on are 0
+  words-say : (first : ℕ) (page : ℕ → ℕ → List ℕ)
+      → ((k g i : ℕ) → k < processorLimit → g < pageLimit → i < pageWidth → getD (page (suc k) g) i 0 ≡ getD w (pageWidth * (first + pageLimit * k + g) + i) 0)
+      → ((p g i : ℕ) → presentHolder (stateIn mainframe c w r m) (Applied p g) ≡ false → getD (page p g) i 0 ≡ 0)
+      → every processorLimit (wordsHold w first (processorCount m) (pageCount m)) ≡ true
+  unfolding wordsHold
+  words-say first page read absent =
+      every-holds processorLimit (wordsHold w first (processorCount m) (pageCount m))
+      (λ k a. words-zero-when w first k (pagesOf (processorCount m) (pageCount m) k)
+      (λ g i h n b. sym (read k g i a n b) ∙ absent (suc k) g i (page-present-read c w r m k g ∙ le-ltb g _ h)))
 
   -- the copies of absent pages pass
-  pub copies-say : every processorLimit (copiesHold w (processorCount m) (pageCount m)) ≡ true
-  unfolding copiesHold
-  copies-say =
-      every-holds processorLimit (copiesHold w (processorCount m) (pageCount m))
-      (λ k a. copies-zero-when w k (pagesOf (processorCount m) (pageCount m) k)
-      (λ g i h n b. sym (word-read c w r m k g i a n b) ∙ o .absent-copy (suc k) g i (page-present-read c w r m k g ∙ le-ltb g _ h)))
+  pub copies-say : every processorLimit (wordsHold w 0 (processorCount m) (pageCount m)) ≡ true
+  copies-say = words-say 0 (copyOf (stateIn mainframe c w r m .pages)) (copy-word-read c w r m) (o .absent-copy)
+
+  -- so do their twins
+  pub twins-say : every processorLimit (wordsHold w copyLimit (processorCount m) (pageCount m)) ≡ true
+  twins-say = words-say copyLimit (twinOf (stateIn mainframe c w r m .pages)) (twin-word-read c w r m) (o .absent-twin)

@@ -25,7 +25,7 @@ use Rattle.recordtests.specs.Tests.{noticeHolds, diffHolds, recordHolds, differ
 use Rattle.checking.specs.Tests.{ownEntries, countsHold, areasHoldWith, areasHold}
 use Rattle.checking.proofs.PlaceFacts.{marks-zero-when}
 use Rattle.checking.proofs.StateReads.{own-read, dirty-mark-read, arrived-mark-read, holder-mark-read, dirty-pages-read, record-processor, record-interval, record-page, record-length, record-diff, same-notice-read, present-read, page-present-read, lock-present-read, own-of-read}
-use Rattle.checking.proofs.ClocksSay.{clocks-say, copies-say}
+use Rattle.checking.proofs.ClocksSay.{clocks-say, copies-say, twins-say}
 
 module _ (c w r m : List ℕ) (o : InOrder mainframe (stateIn mainframe c w r m)) where
   -- ---- marks
@@ -132,4 +132,4 @@ module _ (c w r m : List ℕ) (o : InOrder mainframe (stateIn mainframe c w r m)
   -- a state in order passes all tests
   pub areas-say : areasHold c w r m ≡ true
   unfolding areasHold areasHoldWith
-  areas-say = rw (counts-say, clocks-say c w r m o, copies-say c w r m o, marks-say, records-say)
+  areas-say = rw (counts-say, clocks-say c w r m o, copies-say c w r m o, twins-say c w r m o, marks-say, records-say)

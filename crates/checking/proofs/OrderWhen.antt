@@ -6,6 +6,7 @@ use mathlib.Core.List.{List}
 use lib.Dec.{leb}
 use borrow.Author.Tests.{le-leb}
 use Rattle.limits.specs.Limits.{lockLimit, pageLimit, processorLimit}
+use Rattle.limits.specs.Sizes.{copyLimit}
 use Rattle.rules.specs.InOrder.{inRange, countsInRange, absentZero, inOrder}
 use Rattle.rules.specs.State.{mainframe, standing}
 use Rattle.rules.specs.Tables.{every}
@@ -21,19 +22,20 @@ use Rattle.memory.proofs.Encoding.{lent-sized, lent-right}
 use Rattle.marktests.specs.Tests.{dirtyHold, holdersHold, arrivedHold, roomHolds, marksHoldWith}
 use Rattle.recordtests.specs.Tests.{recordsHoldWith}
 use Rattle.checking.specs.Areas.{areasInOrder}
-use Rattle.checking.specs.Tests.{ownEntries, clocksHoldWith, copiesHold, countsHold, areasHoldWith, areasHold}
+use Rattle.checking.specs.Tests.{ownEntries, clocksHoldWith, wordsHold, countsHold, areasHoldWith, areasHold}
 use Rattle.checking.proofs.AreaTests.{counts-in, counts-fit}
 use Rattle.checking.proofs.PlaceFacts.{same-truth}
 use Rattle.checking.proofs.MarksSay.{areas-say}
 use Rattle.checking.proofs.ClocksWhen.{held, ClocksPass, clocks-pass}
 use Rattle.checking.proofs.ClockConditions.{absent-clocks, absent-entries, later-intervals-when, entries-known-when, applied-known-when}
-use Rattle.checking.proofs.PageConditions.{absent-copies, absent-clean, dirty-have-interval-when, absent-not-held, holders-present-when, absent-not-arrived, someone-missing-when, room-kept-when}
+use Rattle.checking.proofs.PageConditions.{absent-copies, absent-twins, absent-clean, dirty-have-interval-when, absent-not-held, holders-present-when, absent-not-arrived, someone-missing-when, room-kept-when}
 use Rattle.checking.proofs.RecordConditions.{records-sound-when}
 
 -- the tests on the four areas pass
 record AreasPass (c w r m : List ℕ) (processors pages locks standing : ℕ) : Type 0 where
   pub clocks : ClocksPass c processors pages locks
-  pub copies : every processorLimit (copiesHold w processors pages) ≡ true
+  pub copies : every processorLimit (wordsHold w 0 processors pages) ≡ true
+  pub twins : every processorLimit (wordsHold w copyLimit processors pages) ≡ true
   pub dirty : every processorLimit (dirtyHold (ownEntries c) m processors pages) ≡ true
   pub holders : holdersHold m processors locks ≡ true
   pub arrived : arrivedHold m processors ≡ true
@@ -45,21 +47,24 @@ areas-pass : (c w r m : List ℕ) (processors pages locks standing : ℕ) → ar
 unfolding areasHoldWith marksHoldWith
 areas-pass c w r m processors pages locks standing e =
     let clocks : Bool = clocksHoldWith (ownEntries c) c processors pages locks in
-    let copies : Bool = every processorLimit (copiesHold w processors pages) in
+    let copies : Bool = every processorLimit (wordsHold w 0 processors pages) in
+    let twins : Bool = every processorLimit (wordsHold w copyLimit processors pages) in
     let dirty : Bool = every processorLimit (dirtyHold (ownEntries c) m processors pages) in
     let holders : Bool = holdersHold m processors locks in
     let arrived : Bool = arrivedHold m processors in
     let room : Bool = roomHolds m processors pages standing in
     let records : Bool = recordsHoldWith (ownEntries c) r processors pages standing in
     let marks : Bool = dirty && (holders && (arrived && room)) in
-    let a = and-right clocks (copies && (marks && records)) e in
-    let b = and-right copies (marks && records) a in
+    let a = and-right clocks (copies && (twins && (marks && records))) e in
+    let t = and-right copies (twins && (marks && records)) a in
+    let b = and-right twins (marks && records) t in
     let d = and-left marks records b in
     let f = and-right dirty (holders && (arrived && room)) d in
     let g = and-right holders (arrived && room) f in
     record {
-      clocks = clocks-pass c processors pages locks (and-left clocks (copies && (marks && records)) e);
-      copies = and-left copies (marks && records) a;
+      clocks = clocks-pass c processors pages locks (and-left clocks (copies && (twins && (marks && records))) e);
+      copies = and-left copies (twins && (marks && records)) a;
+      twins = and-left twins (marks && records) t;
       dirty = and-left dirty (holders && (arrived && room)) d;
       holders = and-left holders (arrived && room) f;
       arrived = and-left arrived room g;
@@ -89,6 +94,7 @@ module _ (c w r m : List ℕ) (lent : Lent c w r m) where
       (absent-clocks c w r m size (z .clocks))
       (absent-entries c w r m size (z .clocks))
       (absent-copies c w r m size (z .copies))
+      (absent-twins c w r m size (z .twins))
       (absent-clean c w r m (z .dirty))
       (absent-not-arrived c w r m (z .arrived))
       (absent-not-held c w r m (z .holders))

@@ -1,18 +1,18 @@
--- Lent memory that passes the tests on its copies and marks meets the rules' conditions on pages, locks and the barrier. Assumes nothing.
+-- Lent memory that passes the tests on its words and marks meets the rules' conditions on pages, locks and the barrier. Assumes nothing.
 use Prim.Native.Nat.{ℕ, zero, suc, _+_, _-_, _*_, _≤_, _<_}
 use native.Mathlib.Omega.{arith}
 use native.Mathlib.Decide.{decLt}
 use mathlib.Core.Path.{_≡_, sym, ap, _∙_}
 use mathlib.Core.Bool.{Bool, true, false, cond, not, _||_, false≢true}
 use mathlib.Core.List.{List}
-use lib.ListN.{getD, List·getD-eq-default}
+use lib.ListN.{length, getD, List·getD-eq-default}
 use lib.Dec.{ltb, eqb}
 use borrow.Author.Tests.{ltb-false, leb-true, eqb-false, not-false, lt-ltb, le-ltb, le-leb, eq-eqb}
 use Rattle.limits.specs.Limits.{firstArrived, intervalLimit, lockLimit, pageLimit, pageWidth, processorLimit, recordLimit}
-use Rattle.limits.specs.Sizes.{firstDirty, firstHolder}
+use Rattle.limits.specs.Sizes.{copyLimit, firstDirty, firstHolder}
 use Rattle.clock.specs.Clocks.{zeros}
 use Rattle.rules.specs.InOrder.{present, everyProcessor, everyPage, presentHolder, allZero, dirtyPages, roomKept, dirtyHaveInterval, holdersPresent, someoneMissing}
-use Rattle.rules.specs.State.{mainframe, Lock, Applied, copyOf, dirtyAt, own, holder, hasArrived}
+use Rattle.rules.specs.State.{mainframe, Lock, Applied, copyOf, twinOf, dirtyAt, own, holder, hasArrived}
 use Rattle.rules.specs.Tables.{every, any, total}
 use Rattle.rules.proofs.Everywhere.{and-left, and-right, and-both, or-when, every-processor-holds, every-page-holds, all-zero-holds}
 use Rattle.rules.proofs.Facts.{Sized}
@@ -20,30 +20,45 @@ use Rattle.rules.proofs.Tables.{every-at, every-holds, Passes, any-at, any-hold
 use Rattle.memory.specs.Areas.{recordsIn, stateIn, standingCount}
 use Rattle.memory.specs.Marks.{lockCount, pageCount, processorCount}
 use Rattle.marktests.specs.Tests.{zeroAt, pagesOf, mayBeDirty, dirtyHold, holderWithin, holdersHold, arrivedHold, dirtyOf, roomHolds}
-use Rattle.checking.specs.Tests.{ownEntries, copiesHold}
-use Rattle.checking.proofs.PlaceFacts.{copies-zero-at, marks-zero-at}
-use Rattle.checking.proofs.StateReads.{own-read, word-read, dirty-mark-read, arrived-mark-read, holder-mark-read, dirty-pages-read, present-read, page-present-read, lock-present-read}
+use Rattle.checking.specs.Tests.{ownEntries, wordsHold}
+use Rattle.checking.proofs.PlaceFacts.{words-zero-at, marks-zero-at}
+use Rattle.checking.proofs.StateReads.{own-read, copy-word-read, twin-word-read, dirty-mark-read, arrived-mark-read, holder-mark-read, dirty-pages-read, present-read, page-present-read, lock-present-read}
 use Rattle.checking.proofs.ClocksWhen.{held}
 
 module _ (c w r m : List ℕ) (size : Sized mainframe (held c w r m)) where
-  -- ---- copies
+  -- ---- words
 
-  -- words of absent pages are 0
-  pub absent-copies : every processorLimit (copiesHold w (processorCount m) (pageCount m)) ≡ true
-      → everyPage mainframe (λ (p g : ℕ). presentHolder (held c w r m) (Applied p g) || allZero (copyOf (held c w r m .pages) p g)) ≡ true
-  unfolding mainframe copiesHold
-  absent-copies e = every-page-holds mainframe _ (λ p g k l n. or-when (presentHolder (held c w r m) (Applied p g)) _ (λ a. all-zero-holds _ (λ i. zeros p g i k l n a)))
+  -- words of absent pages are 0, where the pages are the rows from `first` on
+  absent-words : (first : ℕ) (page : ℕ → ℕ → List ℕ)
+      → ((k g i : ℕ) → k < processorLimit → g < pageLimit → i < pageWidth → getD (page (suc k) g) i 0 ≡ getD w (pageWidth * (first + pageLimit * k + g) + i) 0)
+      → ((p g : ℕ) → 1 ≤ p → p ≤ processorLimit → g < pageLimit → length (page p g) ≡ pageWidth) → every processorLimit (wordsHold w first (processorCount m) (pageCount m)) ≡ true
+      → everyPage mainframe (λ (p g : ℕ). presentHolder (held c w r m) (Applied p g) || allZero (page p g)) ≡ true
+  unfolding mainframe wordsHold
+  absent-words first page read whole e =
+      every-page-holds mainframe _ (λ p g k l n. or-when (presentHolder (held c w r m) (Applied p g)) _ (λ a. all-zero-holds _ (λ i. zeros p g i k l n a)))
     where
-      zeros : (p g i : ℕ) → 1 ≤ p → p ≤ processorLimit → g < pageLimit → presentHolder (held c w r m) (Applied p g) ≡ false → getD (copyOf (held c w r m .pages) p g) i 0 ≡ 0
+      zeros : (p g i : ℕ) → 1 ≤ p → p ≤ processorLimit → g < pageLimit → presentHolder (held c w r m) (Applied p g) ≡ false → getD (page p g) i 0 ≡ 0
       zeros zero g i k l n a = absurd (omega arith)
       zeros (suc p) g i k l n a = go (decLt i pageWidth)
         where
-          go : Dec (i < pageWidth) → getD (copyOf (held c w r m .pages) (suc p) g) i 0 ≡ 0
+          go : Dec (i < pageWidth) → getD (page (suc p) g) i 0 ≡ 0
           go (yes b) =
-              word-read c w r m p g i l n b
-              ∙ copies-zero-at w p (pagesOf (processorCount m) (pageCount m) p) g i (every-at processorLimit (copiesHold w (processorCount m) (pageCount m)) p e l)
+              read p g i l n b
+              ∙ words-zero-at w first p (pagesOf (processorCount m) (pageCount m) p) g i (every-at processorLimit (wordsHold w first (processorCount m) (pageCount m)) p e l)
               (ltb-false g (pagesOf (processorCount m) (pageCount m) p) (sym (page-present-read c w r m p g) ∙ a)) n b
-          go (no b) = List·getD-eq-default (copyOf (held c w r m .pages) (suc p) g) 0 (omega (arith, size .copy (suc p) g k l n))
+          go (no b) = List·getD-eq-default (page (suc p) g) 0 (omega (arith, whole (suc p) g k l n))
+
+  -- of copies
+  pub absent-copies : every processorLimit (wordsHold w 0 (processorCount m) (pageCount m)) ≡ true
+      → everyPage mainframe (λ (p g : ℕ). presentHolder (held c w r m) (Applied p g) || allZero (copyOf (held c w r m .pages) p g)) ≡ true
+  unfolding mainframe
+  absent-copies = absent-words 0 (copyOf (held c w r m .pages)) (copy-word-read c w r m) (size .copy)
+
+  -- of twins
+  pub absent-twins : every processorLimit (wordsHold w copyLimit (processorCount m) (pageCount m)) ≡ true
+      → everyPage mainframe (λ (p g : ℕ). presentHolder (held c w r m) (Applied p g) || allZero (twinOf (held c w r m .pages) p g)) ≡ true
+  unfolding mainframe
+  absent-twins = absent-words copyLimit (twinOf (held c w r m .pages)) (twin-word-read c w r m) (size .twin)
 
 -- ---- dirty marks
 

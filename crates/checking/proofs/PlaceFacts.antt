@@ -75,20 +75,21 @@ rows-hold-when most c first n there within zeros =
 -- ---- pages of words
 
 -- the words of absent pages are 0
-pub copies-zero-at : (w : List ℕ) (k there g o : ℕ) → every (pageWidth * (pageLimit - there)) (zeroAt w (pageWidth * (pageLimit * k + there))) ≡ true → there ≤ g → g < pageLimit → o < pageWidth
-    → getD w (pageWidth * (pageLimit * k + g) + o) 0 ≡ 0
-copies-zero-at w k there g o e h b d =
-    let place : pageWidth * (pageLimit * k + g) + o ≡ pageWidth * (pageLimit * k + there) + (pageWidth * (g - there) + o) = omega arith in
-    ap (λ (j : ℕ). getD w j 0) place ∙ zero-at w (pageWidth * (pageLimit * k + there)) (pageWidth * (pageLimit - there)) (pageWidth * (g - there) + o) e (omega arith)
+pub words-zero-at : (w : List ℕ) (first k there g o : ℕ) → every (pageWidth * (pageLimit - there)) (zeroAt w (pageWidth * (first + pageLimit * k + there))) ≡ true
+    → there ≤ g → g < pageLimit → o < pageWidth → getD w (pageWidth * (first + pageLimit * k + g) + o) 0 ≡ 0
+words-zero-at w first k there g o e h b d =
+    let place : pageWidth * (first + pageLimit * k + g) + o ≡ pageWidth * (first + pageLimit * k + there) + (pageWidth * (g - there) + o) = omega arith in
+    ap (λ (j : ℕ). getD w j 0) place
+    ∙ zero-at w (pageWidth * (first + pageLimit * k + there)) (pageWidth * (pageLimit - there)) (pageWidth * (g - there) + o) e (omega arith)
 
 -- and where they are, the test passes
-pub copies-zero-when : (w : List ℕ) (k there : ℕ) → ((g o : ℕ) → there ≤ g → g < pageLimit → o < pageWidth → getD w (pageWidth * (pageLimit * k + g) + o) 0 ≡ 0)
-    → every (pageWidth * (pageLimit - there)) (zeroAt w (pageWidth * (pageLimit * k + there))) ≡ true
-copies-zero-when w k there zeros = zeros-hold w (pageWidth * (pageLimit * k + there)) (pageWidth * (pageLimit - there)) at
+pub words-zero-when : (w : List ℕ) (first k there : ℕ) → ((g o : ℕ) → there ≤ g → g < pageLimit → o < pageWidth → getD w (pageWidth * (first + pageLimit * k + g) + o) 0 ≡ 0)
+    → every (pageWidth * (pageLimit - there)) (zeroAt w (pageWidth * (first + pageLimit * k + there))) ≡ true
+words-zero-when w first k there zeros = zeros-hold w (pageWidth * (first + pageLimit * k + there)) (pageWidth * (pageLimit - there)) at
   where
-    at : (j : ℕ) → j < pageWidth * (pageLimit - there) → getD w (pageWidth * (pageLimit * k + there) + j) 0 ≡ 0
+    at : (j : ℕ) → j < pageWidth * (pageLimit - there) → getD w (pageWidth * (first + pageLimit * k + there) + j) 0 ≡ 0
     at j h =
-        let place : pageWidth * (pageLimit * k + there) + j ≡ pageWidth * (pageLimit * k + (there + j / pageWidth)) + j % pageWidth = omega arith in
+        let place : pageWidth * (first + pageLimit * k + there) + j ≡ pageWidth * (first + pageLimit * k + (there + j / pageWidth)) + j % pageWidth = omega arith in
         ap (λ (i : ℕ). getD w i 0) place ∙ zeros (there + j / pageWidth) (j % pageWidth) (omega arith) (omega arith) (omega arith)
 
 -- ---- marks

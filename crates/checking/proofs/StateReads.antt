@@ -8,19 +8,19 @@ use lib.ListN.{getD, take, drop}
 use lib.Dec.{leb, ltb, eqb}
 use borrow.Author.Tests.{ltb-true, ltb-false, le-ltb, le-leb, lt-leb}
 use Rattle.limits.specs.Limits.{firstArrived, lockLimit, pageLimit, pageWidth, processorLimit, recordLimit}
-use Rattle.limits.specs.Sizes.{clockWidth, diffLimit, firstDirty, firstHolder, slotWidth}
+use Rattle.limits.specs.Sizes.{clockWidth, copyLimit, diffLimit, firstDirty, firstHolder, slotWidth}
 use Rattle.clock.specs.Clocks.{entryOf}
 use Rattle.rules.specs.InOrder.{present, presentHolder, recordAt, sameNotice, dirtyPages}
-use Rattle.rules.specs.State.{mainframe, Holder, Processor, Lock, Applied, clockOf, copyOf, dirtyAt, Record, recordIn, clock, own, holder, hasArrived}
+use Rattle.rules.specs.State.{mainframe, Holder, Processor, Lock, Applied, clockOf, copyOf, twinOf, dirtyAt, Record, recordIn, clock, own, holder, hasArrived}
 use Rattle.rules.specs.Tables.{total}
 use Rattle.rules.proofs.Facts.{Within}
 use Rattle.rules.proofs.Tables.{total-same}
-use Rattle.memory.specs.Areas.{clockRow, copyRow, arrivedPlace, holderPlace, dirtyPlace, stateIn}
+use Rattle.memory.specs.Areas.{clockRow, copyRow, twinRow, arrivedPlace, holderPlace, dirtyPlace, stateIn}
 use Rattle.memory.specs.Layout.{rowOf}
 use Rattle.memory.specs.Marks.{lockCount, pageCount, processorCount, slotInterval, slotLength, slotPage, slotProcessor}
 use Rattle.memory.proofs.ClockLaws.{clock-read}
 use Rattle.memory.proofs.MarkLaws.{arrived-read, holder-read}
-use Rattle.memory.proofs.PageLaws.{copy-read, dirty-read}
+use Rattle.memory.proofs.PageLaws.{copy-read, twin-read, dirty-read}
 use Rattle.memory.proofs.RowLaws.{get-row}
 use Rattle.memory.proofs.SlotLaws.{slot-read, slot-byte, record-read}
 use Rattle.marktests.specs.Tests.{zeroAt, pagesOf, dirtyCount, dirtyOf}
@@ -39,13 +39,21 @@ pub own-read : (c w r m : List ℕ) (k : ℕ) → k < processorLimit → own (st
 unfolding own clock clockRow Within mainframe
 own-read c w r m k b = entry-read c w r m (Processor (suc k)) k (omega arith, b) b ∙ sym (own-entry c k b)
 
--- a word of a copy
-pub word-read : (c w r m : List ℕ) (k g o : ℕ) → k < processorLimit → g < pageLimit → o < pageWidth
-    → getD (copyOf (stateIn mainframe c w r m .pages) (suc k) g) o 0 ≡ getD w (pageWidth * (pageLimit * k + g) + o) 0
+-- a word of a page that is a row of words
+row-word : (w page : List ℕ) (row at o : ℕ) → page ≡ rowOf pageWidth w row → row ≡ at → o < pageWidth → getD page o 0 ≡ getD w (pageWidth * at + o) 0
+row-word w page row at o e f d = ap (λ (l : List ℕ). getD l o 0) (e ∙ ap (λ (i : ℕ). rowOf pageWidth w i) f) ∙ get-row pageWidth w at o 0 d
+
+-- a word of a copy: their rows are the first
+pub copy-word-read : (c w r m : List ℕ) (k g o : ℕ) → k < processorLimit → g < pageLimit → o < pageWidth
+    → getD (copyOf (stateIn mainframe c w r m .pages) (suc k) g) o 0 ≡ getD w (pageWidth * (0 + pageLimit * k + g) + o) 0
 unfolding stateIn copyRow mainframe
-word-read c w r m k g o a b d =
-    let row : copyRow mainframe (suc k) g ≡ pageLimit * k + g = omega arith in
-    ap (λ (l : List ℕ). getD l o 0) (copy-read w m (suc k) g (omega arith) a b ∙ ap (λ (i : ℕ). rowOf pageWidth w i) row) ∙ get-row pageWidth w (pageLimit * k + g) o 0 d
+copy-word-read c w r m k g o a b d = row-word w _ (copyRow mainframe (suc k) g) (0 + pageLimit * k + g) o (copy-read w m (suc k) g (omega arith) a b) (omega arith) d
+
+-- of a twin: theirs are behind
+pub twin-word-read : (c w r m : List ℕ) (k g o : ℕ) → k < processorLimit → g < pageLimit → o < pageWidth
+    → getD (twinOf (stateIn mainframe c w r m .pages) (suc k) g) o 0 ≡ getD w (pageWidth * (copyLimit + pageLimit * k + g) + o) 0
+unfolding stateIn twinRow copyRow mainframe
+twin-word-read c w r m k g o a b d = row-word w _ (twinRow mainframe (suc k) g) (copyLimit + pageLimit * k + g) o (twin-read w m (suc k) g (omega arith) a b) (omega arith) d
 
 -- a dirty mark
 pub dirty-mark-read : (c w r m : List ℕ) (k g : ℕ) → k < processorLimit → g < pageLimit → dirtyAt (stateIn mainframe c w r m .pages) (suc k) g ≡ not (zeroAt m (firstDirty + pageLimit * k) g)

@@ -7,27 +7,28 @@ use mathlib.Core.List.{List}
 use lib.ListN.{length}
 use borrow.Author.Needs.{needs}
 use Rattle.limits.specs.Limits.{pageLimit, pageWidth, processorLimit}
-use Rattle.limits.specs.Sizes.{wordArea}
+use Rattle.limits.specs.Sizes.{copyLimit, wordArea}
 use Rattle.rules.specs.Tables.{every}
 use Rattle.marktests.specs.Tests.{zeroAt, pagesOf}
 use Rattle.marktests.specs.Needed.{PlacesThere}
 use Rattle.marktests.proofs.Passing.{passed-none, passed-more, passed-broken, passed-all, kept-none, kept-all}
 use Rattle.marktests.proofs.MarkTests.{zero-kept, zero-lost}
-use Rattle.checking.specs.Tests.{copiesHold}
+use Rattle.checking.specs.Tests.{wordsHold}
 use Rattle.checking.specs.Needed.{WordsOne}
 
 -- the absent pages lie within the area
-pub copies-there : (w : List ℕ) (pages k there : ℕ) → WordsOne w pages k → there ≤ pages → PlacesThere w (pageWidth * (pageLimit * k + there)) (pageWidth * (pageLimit - there))
-copies-there w pages k there p h = record { within = omega (arith, p .words, p .pages-fit, p .processor) }
+pub pages-there : (w : List ℕ) (first pages k there : ℕ) → WordsOne w first pages k → there ≤ pages
+    → PlacesThere w (pageWidth * (first + pageLimit * k + there)) (pageWidth * (pageLimit - there))
+pages-there w first pages k there p h = record { within = omega (arith, p .words, p .rows, p .pages-fit, p .processor) }
 
 -- their words decide
-pub copies-is : (w : List ℕ) (processors pages k there : ℕ) (r : Bool) → there ≡ pagesOf processors pages k
-    → r ≡ every (pageWidth * (pageLimit - there)) (zeroAt w (pageWidth * (pageLimit * k + there))) → r ≡ copiesHold w processors pages k
-unfolding copiesHold
-copies-is w processors pages k there r t e = e ∙ rw t
+pub words-is : (w : List ℕ) (first processors pages k there : ℕ) (r : Bool) → there ≡ pagesOf processors pages k
+    → r ≡ every (pageWidth * (pageLimit - there)) (zeroAt w (pageWidth * (first + pageLimit * k + there))) → r ≡ wordsHold w first processors pages k
+unfolding wordsHold
+words-is w first processors pages k there r t e = e ∙ rw t
 
 -- one processor of eight
-pub words-one : (w : List ℕ) (pages k : ℕ) → length w ≡ wordArea → pages ≤ pageLimit → k < processorLimit → WordsOne w pages k
-words-one w pages k a b h = record { words = a; pages-fit = b; processor = h }
+pub words-one : (w : List ℕ) (first pages k : ℕ) → length w ≡ wordArea → first ≤ copyLimit → pages ≤ pageLimit → k < processorLimit → WordsOne w first pages k
+words-one w first pages k a f b h = record { words = a; rows = f; pages-fit = b; processor = h }
 
-pub ruleset words-checked = (passed-none, passed-more, passed-broken, passed-all, kept-none, kept-all, zero-kept, zero-lost, copies-there, copies-is, words-one, needs)
+pub ruleset words-checked = (passed-none, passed-more, passed-broken, passed-all, kept-none, kept-all, zero-kept, zero-lost, pages-there, words-is, words-one, needs)

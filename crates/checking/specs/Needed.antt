@@ -4,7 +4,7 @@ use mathlib.Core.Path.{_≡_}
 use mathlib.Core.List.{List}
 use lib.ListN.{length}
 use Rattle.limits.specs.Limits.{lockLimit, pageLimit, processorLimit}
-use Rattle.limits.specs.Sizes.{clockArea, clockWidth, wordArea}
+use Rattle.limits.specs.Sizes.{clockArea, clockWidth, copyLimit, wordArea}
 use Rattle.memory.specs.Needed.{Lent}
 use Rattle.marktests.specs.Needed.{CountsFit}
 use Rattle.recordtests.specs.Needed.{OwnFit}
@@ -33,9 +33,10 @@ pub record IntervalsOne (own c : List ℕ) (k : ℕ) : Type 0 where
   pub own-fit : OwnFit own
   pub processor : k < processorLimit
 
--- the area of the words and one processor of eight
-pub record WordsOne (w : List ℕ) (pages k : ℕ) : Type 0 where
+-- the area of the words, the first row of the copies or of the twins, and one processor of eight
+pub record WordsOne (w : List ℕ) (first pages k : ℕ) : Type 0 where
   pub words : length w ≡ wordArea
+  pub rows : first ≤ copyLimit
   pub pages-fit : pages ≤ pageLimit
   pub processor : k < processorLimit
 

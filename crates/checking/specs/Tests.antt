@@ -7,7 +7,7 @@ use mathlib.Core.List.{List}
 use lib.ListN.{getD}
 use lib.Dec.{leb}
 use Rattle.limits.specs.Limits.{intervalLimit, lockLimit, pageLimit, pageWidth, processorLimit, recordLimit}
-use Rattle.limits.specs.Sizes.{clockWidth, firstAppliedRow, firstIntervalRow, firstLockRow, ownStep}
+use Rattle.limits.specs.Sizes.{clockWidth, copyLimit, firstAppliedRow, firstIntervalRow, firstLockRow, ownStep}
 use Rattle.rules.specs.Tables.{every}
 use Rattle.memory.specs.Layout.{rowOf, tabulate}
 use Rattle.memory.specs.Marks.{lockCount, pageCount, processorCount}
@@ -50,11 +50,12 @@ clocksHoldWith own c processors pages locks =
     && (every processorLimit (appliedHold c processors pages)
     && every processorLimit (intervalsHold own c))))
 
--- ---- words: the copies of absent pages are zeros
+-- ---- words: the copies and the twins of absent pages are zeros
 
--- of one processor
-unfoldable pub copiesHold : List ℕ → ℕ → ℕ → ℕ → Bool
-copiesHold w processors pages k = every (pageWidth * (pageLimit - pagesOf processors pages k)) (zeroAt w (pageWidth * (pageLimit * k + pagesOf processors pages k)))
+-- of one processor, among the copies or among the twins, whose rows begin at row `first`
+unfoldable pub wordsHold : List ℕ → ℕ → ℕ → ℕ → ℕ → Bool
+wordsHold w first processors pages k =
+    every (pageWidth * (pageLimit - pagesOf processors pages k)) (zeroAt w (pageWidth * (first + pageLimit * k + pagesOf processors pages k)))
 
 -- ---- all four areas
 
@@ -67,9 +68,10 @@ countsHold processors pages locks standing =
 unfoldable pub areasHoldWith : List ℕ → List ℕ → List ℕ → List ℕ → List ℕ → ℕ → ℕ → ℕ → ℕ → Bool
 areasHoldWith own c w r m processors pages locks standing =
     clocksHoldWith own c processors pages locks
-    && (every processorLimit (copiesHold w processors pages)
+    && (every processorLimit (wordsHold w 0 processors pages)
+    && (every processorLimit (wordsHold w copyLimit processors pages)
     && (marksHoldWith own m processors pages locks standing
-    && recordsHoldWith own r processors pages standing))
+    && recordsHoldWith own r processors pages standing)))
 
 -- all conditions but the sizes
 unfoldable pub areasHold : List ℕ → List ℕ → List ℕ → List ℕ → Bool

@@ -5,7 +5,7 @@ ghost use mathlib.Core.Path.{_≡_};
 ghost use Prim.Native.Nat.{_*_, _<_, _≤_};
 ghost use lib.ListN.{length};
 ghost use Rattle.limits.specs.Limits.{pageLimit, processorLimit};
-ghost use Rattle.limits.specs.Sizes.{clockArea, clockWidth, wordArea};
+ghost use Rattle.limits.specs.Sizes.{clockArea, clockWidth, copyLimit, wordArea};
 ghost use Rattle.rules.specs.Tables.{every};
 ghost use Rattle.memory.specs.Needed.{Lent};
 ghost use Rattle.marktests.specs.Tests.{zeroAt};
@@ -13,10 +13,11 @@ ghost use Rattle.marktests.specs.Needed.{PlacesThere};
 ghost use Rattle.recordtests.specs.Tests.{ownFits};
 ghost use Rattle.recordtests.specs.Needed.{OwnFit};
 ghost use Rattle.checking.specs.Areas.{OrderIs};
-ghost use Rattle.checking.specs.Tests.{entryWithin, rowWithin, rowsHold, ownEntries, appliedHold, intervalsHold, clocksHoldWith, copiesHold, countsHold, areasHoldWith, areasHold};
+ghost use Rattle.checking.specs.Tests.{entryWithin, rowWithin, rowsHold, ownEntries, appliedHold, intervalsHold, clocksHoldWith, wordsHold, countsHold, areasHoldWith, areasHold};
 ghost use Rattle.checking.specs.Needed.{RowsThere, ClocksThere, ClocksOne, IntervalsOne, WordsOne, AreasThere};
 use limits::CLOCK_AREA;
 use limits::CLOCK_WIDTH;
+use limits::COPY_LIMIT;
 use limits::FIRST_APPLIED_ROW;
 use limits::FIRST_INTERVAL_ROW;
 use limits::FIRST_LOCK_ROW;
@@ -242,27 +243,27 @@ fn words_zero(words: &[u32], at: usize, n: usize) -> bool
     all
 }
 
-// Whether the copies of the absent pages of one processor are zeros.
-fn copies_of(words: &[u32], processors: usize, pages: usize, k: usize) -> bool
-    requires { ⌜ WordsOne (now words) pages k ⌝ }
-    ensures { λ r. ⌜ r ≡ copiesHold (now (words .entry)) processors pages k ⌝ }
+// Whether the absent pages of one processor are zeros, among the copies or among the twins, whose rows begin at a row.
+fn words_of(words: &[u32], first: usize, processors: usize, pages: usize, k: usize) -> bool
+    requires { ⌜ WordsOne (now words) first pages k ⌝ }
+    ensures { λ r. ⌜ r ≡ wordsHold (now (words .entry)) first processors pages k ⌝ }
 {
     let there = pages_of(processors, pages, k);
     words_zero(
         words,
-        PAGE_WIDTH * (PAGE_LIMIT * k + there),
+        PAGE_WIDTH * (first + PAGE_LIMIT * k + there),
         PAGE_WIDTH * (PAGE_LIMIT - there),
     )
 }
 
-// Whether the copies of all absent pages are.
-fn copies_hold(words: &[u32], processors: usize, pages: usize) -> bool
-    requires { ⌜ (length (now words) ≡ wordArea) × (pages ≤ pageLimit) ⌝ }
-    ensures { λ r. ⌜ r ≡ every processorLimit (copiesHold (now (words .entry)) processors pages) ⌝ }
+// Whether the absent pages of all processors are.
+fn words_hold(words: &[u32], first: usize, processors: usize, pages: usize) -> bool
+    requires { ⌜ (length (now words) ≡ wordArea) × (first ≤ copyLimit) × (pages ≤ pageLimit) ⌝ }
+    ensures { λ r. ⌜ r ≡ every processorLimit (wordsHold (now (words .entry)) first processors pages) ⌝ }
 {
     let mut k: usize = 0;
     while k < PROCESSOR_LIMIT {
-        if !copies_of(words, processors, pages, k) {
+        if !words_of(words, first, processors, pages, k) {
             return false;
         }
         k = k + 1;
@@ -313,7 +314,10 @@ fn all_hold(
     if !clocks_hold(clocks, own, processors, pages, locks) {
         return false;
     }
-    if !copies_hold(words, processors, pages) {
+    if !words_hold(words, 0, processors, pages) {
+        return false;
+    }
+    if !words_hold(words, COPY_LIMIT, processors, pages) {
         return false;
     }
     if !marks_hold(marks, own, processors, pages, locks, standing) {

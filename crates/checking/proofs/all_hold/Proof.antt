@@ -6,4 +6,4 @@ use Rattle.checking.proofs.all_hold.Tie as tie
 pub all-hold-spec : {M : Type 1} → statement M
 all-hold-spec =
     tie.close
-    (tie.spec (λ c κs. search areas-checked) (λ c. search areas-checked) (λ c κs. search areas-checked) (λ c. search areas-checked) (λ c κs. search areas-checked) (λ c. search areas-checked) (λ c κs. search areas-checked) (λ c. search areas-checked))
+    (tie.spec (λ c κs. search areas-checked) (λ c. search areas-checked) (λ c κs. search areas-checked) (λ c. search areas-checked) (λ c κs. search areas-checked) (λ c. search areas-checked) (λ c κs. search areas-checked) (λ c. search areas-checked) (λ c κs. search areas-checked) (λ c. search areas-checked))
