@@ -38,6 +38,7 @@ pub mod Ghosts
 pub mod StrictOrder
 pub mod Counted
 pub mod ActionKinds
+pub mod Edges
 pub mod MarksAfter
 pub mod NobodyArrived
 pub mod Allowed
