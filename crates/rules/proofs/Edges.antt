@@ -174,7 +174,7 @@ module _ (dropped : Edge → Bool) (n : ℕ) (es : List Event) (inside : ℕ →
   edge-stays e i j kept left from to edge start =
       let all : stays e ≡ true = rw left at kept in
       let here = every-at (length es) (λ i. not (inside i && joins e n es i j) || inside j) i
-          (every-at (length es) (λ j. every (length es) (λ i. not (inside i && joins e n es i j) || inside j)) j all (within j to)) (within i from) in
+      (every-at (length es) (λ j. every (length es) (λ i. not (inside i && joins e n es i j) || inside j)) j all (within j to)) (within i from) in
       rw (start, edge) at here
 
   or-first : (a b : Bool) → (a || b) ≡ false → a ≡ false

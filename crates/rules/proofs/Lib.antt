@@ -84,9 +84,11 @@ pub mod DemandThree
 pub mod Listing
 pub mod BenchFaults
 pub mod FromStart
+pub mod JudgedRuns
 pub mod ClosingFirst
 pub mod NoInterval
 pub mod StoredCases
 pub mod Cases
 pub mod Race
 pub mod PremisesMet
+pub mod OrderPinned
