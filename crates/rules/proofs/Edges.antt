@@ -1,14 +1,14 @@
 -- The edges of happens-before-1, each decided by a test that computes, and which edges a derivation has in it: so a run shows that one step is
 -- before another, that it is so by one edge alone, or that it is not. Rests on Tables, Everywhere and ActionKinds. Assumes nothing.
-use Prim.Native.Nat.{ℕ, zero, suc, _<_}
+use Prim.Native.Nat.{ℕ, _<_}
 use native.Mathlib.Omega.{arith}
 use native.Mathlib.Decide.{decLt}
 use mathlib.Core.Path.{_≡_, refl, sym, ap, _∙_}
 use mathlib.Core.Bool.{Bool, true, false, not, _&&_, _||_, false≢true}
 use mathlib.Core.List.{List, [], _∷_}
 use lib.ListN.{length, getD, List·getD-eq-default}
-use lib.Dec.{eqb, ltb}
-use borrow.Author.Tests.{eqb-true, eq-eqb, ltb-true, lt-ltb}
+use lib.Dec.{eqb, leb, ltb}
+use borrow.Author.Tests.{eqb-true, eq-eqb, ltb-true, lt-ltb, not-true}
 use Rattle.rules.specs.Tables.{every}
 use Rattle.rules.specs.Refusals.{Action, Read, Write, Acquire, Release, Arrive, Want, Unknown, actionOf}
 use Rattle.rules.specs.Order.{Event, noEvent, eventAt, Took, isArrival, countedOff, groupsBefore, rounds, Before, program, lock, round, chain}
@@ -233,3 +233,20 @@ module _ (n : ℕ) (es : List Event) (i j : ℕ) where
   only-chained no-program no-lock no-round (lock p q l t u h) = absurd (false≢true (sym no-lock ∙ lock-joins n es i j p q l t u h))
   only-chained no-program no-lock no-round (round p q b t u h) = absurd (false≢true (sym no-round ∙ round-joins n es i j p q b t u h))
   only-chained no-program no-lock no-round (chain k x y) = refl
+
+  -- the steps from place i on by other processors than the one at place j
+  others : ℕ → Bool
+  others k = not (eqb (processorAt es k) (processorAt es j)) && leb i k
+
+  apartTests : List Bool
+  apartTests = closedUnder none n es others ∷ others i ∷ not (others j) ∷ []
+
+  -- no edge leads from one of those to a step of the processor at place j
+  unfoldable pub apart : Bool
+  unfolding apartTests others none closedUnder conjoined
+  apart = conjoined apartTests
+
+  -- then the one is not before the other
+  pub apart-not-before : apart ≡ true → Before n es i j → ⊥
+  unfolding apart
+  apart-not-before h = not-before others (conjoined-at apartTests 0 h) (conjoined-at apartTests 1 h) (not-true (others j) (conjoined-at apartTests 2 h))

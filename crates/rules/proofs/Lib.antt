@@ -92,3 +92,4 @@ pub mod Cases
 pub mod Race
 pub mod PremisesMet
 pub mod OrderPinned
+pub mod NotOrdered

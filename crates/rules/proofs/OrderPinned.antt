@@ -3,8 +3,8 @@
 -- JudgedRuns and PremisesMet. Assumes nothing.
 use Prim.Native.Nat.{ℕ}
 use native.Mathlib.Omega.{arith}
-use mathlib.Core.Path.{_≡_, refl, sym, ap, _∙_, subst}
-use mathlib.Core.Bool.{Bool, true, false, not, _&&_, _||_}
+use mathlib.Core.Path.{_≡_, refl, sym, _∙_, subst}
+use mathlib.Core.Bool.{Bool, true, not, _&&_, _||_}
 use mathlib.Core.List.{List, [], _∷_}
 use lib.Dec.{eqb}
 use borrow.Author.Tests.{eq-eqb, not-true}
@@ -49,9 +49,9 @@ pub record Pinned (e : Edge) (c : Counts) (ts : List Step) (w j p v : ℕ) : Typ
   pub not-zero : v ≡ 0 → ⊥
 
 -- what the steps show, demand 3 judges
-pinned : (e : Edge) (c : Counts) (ts : List Step) (w j p v : ℕ) (es : List Event) → countsInRange mainframe c ≡ true
+pinned : {e : Edge} {c : Counts} {ts : List Step} {w j p v : ℕ} (es : List Event) → countsInRange mainframe c ≡ true
     → events ts (answersInOrder mainframe (opened mainframe c) ts) ≡ es → Shown e (c .processors) es w j p v → (v ≡ 0 → ⊥) → Pinned e c ts w j p v
-pinned e c ts w j p v es in-range computed shown not-zero =
+pinned {e} {c} {ts} {w} {j} {p} {v} es in-range computed shown not-zero =
     let here : Shown e (c .processors) (eventsFrom c ts) w j p v =
     subst (λ (l : List Event). Shown e (c .processors) l w j p v) (sym (events-computed c in-range ts es computed)) shown in
     record {
@@ -135,7 +135,7 @@ program-shown =
 
 program-pinned : Pinned ByProgram (counting 2 1) stepsProgram 0 2 1 6
 unfolding start stepsProgram events allAccepted countsInRange inRange
-program-pinned = pinned ByProgram (counting 2 1) stepsProgram 0 2 1 6 (allAccepted stepsProgram) refl refl program-shown (λ e. omega (arith, e))
+program-pinned = pinned (allAccepted stepsProgram) refl refl program-shown (λ e. omega (arith, e))
 
 -- ---- "each release before every later acquire of that lock"
 
@@ -164,7 +164,7 @@ lock-shown =
 
 lock-pinned : Pinned ByLock (counting 3 1) stepsLock 0 7 3 6
 unfolding start stepsLock events allAccepted countsInRange inRange
-lock-pinned = pinned ByLock (counting 3 1) stepsLock 0 7 3 6 (allAccepted stepsLock) refl refl lock-shown (λ e. omega (arith, e))
+lock-pinned = pinned (allAccepted stepsLock) refl refl lock-shown (λ e. omega (arith, e))
 
 -- ---- "every arrival of a completed round before every step any card takes after that round's last arrival"
 
@@ -194,7 +194,7 @@ round-shown =
 
 round-pinned : Pinned ByRound (counting 3 1) stepsRound 0 8 3 6
 unfolding start stepsRound events allAccepted countsInRange inRange
-round-pinned = pinned ByRound (counting 3 1) stepsRound 0 8 3 6 (allAccepted stepsRound) refl refl round-shown (λ e. omega (arith, e))
+round-pinned = pinned (allAccepted stepsRound) refl refl round-shown (λ e. omega (arith, e))
 
 -- ---- "and what follows by chaining"
 
@@ -212,7 +212,7 @@ chain-shown =
 
 chain-pinned : Pinned ByChain (counting 3 2) stepsC 0 8 3 5
 unfolding start countsInRange inRange
-chain-pinned = pinned ByChain (counting 3 2) stepsC 0 8 3 5 (allAccepted stepsC) refl computed-events chain-shown (λ e. omega (arith, e))
+chain-pinned = pinned (allAccepted stepsC) refl computed-events chain-shown (λ e. omega (arith, e))
 
 -- ---- the theorem
 

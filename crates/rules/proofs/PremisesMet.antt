@@ -1,7 +1,6 @@
 -- Demand 3 applied to the run of bench case C, where its premise is met: the value that processor 3 reads follows from the theorem over
 -- every list of steps, with no computation of what the rules store. Rests on Edges and JudgedRuns. Assumes nothing.
-use Prim.Native.Nat.{ℕ}
-use mathlib.Core.Path.{_≡_, refl, sym, ap, _∙_}
+use mathlib.Core.Path.{_≡_, refl, ap, _∙_}
 use mathlib.Core.List.{List, [], _∷_}
 use Rattle.rules.specs.State.{mainframe}
 use Rattle.rules.specs.InOrder.{inRange, countsInRange}
