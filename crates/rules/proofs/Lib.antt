@@ -93,3 +93,4 @@ pub mod Race
 pub mod PremisesMet
 pub mod OrderPinned
 pub mod NotOrdered
+pub mod RefusalRows
