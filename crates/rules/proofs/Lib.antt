@@ -94,3 +94,4 @@ pub mod PremisesMet
 pub mod OrderPinned
 pub mod NotOrdered
 pub mod RefusalRows
+pub mod OutOfOrder
