@@ -2,13 +2,13 @@
 -- conditions can be left out or follows from the others. Rests on Conditions. Assumes nothing.
 use Prim.Native.Nat.{ℕ}
 use mathlib.Core.Path.{_≡_, refl}
-use mathlib.Core.Bool.{Bool, true, false}
+use mathlib.Core.Bool.{true, false}
 use mathlib.Core.List.{List, [], _∷_}
 use lib.ListN.{replicate, set}
 use Rattle.clock.specs.Clocks.{covered}
 use Rattle.diff.specs.Reading.{mostRuns, pairHolds, orderly, pairsRefusal, readRefusal}
 use Rattle.rules.specs.Tables.{putCell}
-use Rattle.rules.specs.State.{Limits, Counts, Holder, Processor, Applied, Interval, Clocks, withClock, Pages, slotBytes, laidOver, State, withClocks, withPages, withRecords, withMarks}
+use Rattle.rules.specs.State.{Limits, Holder, Processor, Applied, Interval, withClock, slotBytes, laidOver, State, withClocks, withPages, withRecords, withMarks}
 use Rattle.rules.specs.InOrder.{everyProcessor, everyPage, everyHolder, slotSize, rowsSized, sized, inRange, countsInRange, presentHolder, allZero, absentZero, laterIntervalsZero, entriesKnown, appliedKnown, recordAt, diffLegal, recordSound, sameNotice, recordsSound, roomKept, dirtyHaveInterval, holdersPresent, someoneMissing, inOrder}
 use Rattle.rules.specs.Opening.{opened}
 use Rattle.rules.specs.Refusals.{stepOf, refusedAs, answer}
