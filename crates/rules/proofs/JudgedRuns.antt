@@ -14,21 +14,31 @@ use Rattle.rules.specs.Opening.{Opening, openingRefusal, opened}
 use Rattle.rules.specs.Refusals.{Step, Read, Write, actionOf}
 use Rattle.rules.specs.Runs.{answers, answersInOrder}
 use Rattle.rules.specs.Order.{Event, events, eventAt, Took, Before, chain, Ordered}
-use Rattle.rules.specs.Demand.{valueField, isWriteTo, lastWritten, EarlierWrite, Synchronized, valueAt, DemandThree}
+use Rattle.rules.specs.Demand.{valueField, isWriteTo, lastWritten, EarlierWrite, Synchronized, FromWrite, Judged, valueAt, DemandThree}
 use Rattle.rules.proofs.OpenedInOrder.{opened-in-order}
 use Rattle.rules.proofs.InOrderRuns.{answers-in-order}
-use Rattle.rules.proofs.ActionKinds.{writesTo, took-write}
+use Rattle.rules.proofs.ActionKinds.{writesTo, valueOf, took-write, took-value}
 use Rattle.rules.proofs.Edges.{joins}
 use Rattle.rules.proofs.DemandThree.{demand-three}
 
 -- ---- the premise
 
--- the places of the accepted writes to w before place j, the last one first
-unfoldable pub writesBefore : List Event → ℕ → ℕ → List ℕ
-writesBefore es w zero = []
-writesBefore es w (suc t) = cond (isWriteTo (eventAt es t) w) (t ∷ writesBefore es w t) (writesBefore es w t)
+-- a number for each accepted write to w before place j, by its place, the last one first
+ofWrites : (ℕ → ℕ) → List Event → ℕ → ℕ → List ℕ
+ofWrites f es w zero = []
+ofWrites f es w (suc t) = cond (isWriteTo (eventAt es t) w) (f t ∷ ofWrites f es w t) (ofWrites f es w t)
 
-Among : ℕ → List ℕ → Type 0
+-- their places
+unfoldable pub writesBefore : List Event → ℕ → ℕ → List ℕ
+unfolding ofWrites
+writesBefore es w j = ofWrites (λ t. t) es w j
+
+-- and their value fields
+unfoldable pub valuesBefore : List Event → ℕ → ℕ → List ℕ
+unfolding ofWrites
+valuesBefore es w j = ofWrites (λ t. valueField (eventAt es t .step .value)) es w j
+
+unfoldable pub Among : ℕ → List ℕ → Type 0
 Among i [] = ⊥
 Among i (x ∷ l) = (i ≡ x) ⊎ Among i l
 
@@ -53,25 +63,39 @@ module _ (n : ℕ) (es : List Event) where
   all-ordered (x ∷ l) i k j h (inr a) (inr b) = all-ordered l i k x (h .1) a b
 
 module _ (es : List Event) (w : ℕ) where
-  -- every accepted write to w before place j is at one of its places
-  write-among : (j i p v : ℕ) → Took es i p (Write w v) → i < j → Among i (writesBefore es w j)
-  unfolding writesBefore Among writesTo
-  write-among zero i p v took h = absurd (omega (arith, h))
-  write-among (suc t) i p v took h = go (ℕ-discrete i t) (write-among t i p v took)
+  -- every accepted write to w before place j is among them
+  write-among : (f : ℕ → ℕ) (j i p v : ℕ) → Took es i p (Write w v) → i < j → Among (f i) (ofWrites f es w j)
+  unfolding ofWrites Among writesTo
+  write-among f zero i p v took h = absurd (omega (arith, h))
+  write-among f (suc t) i p v took h = go (ℕ-discrete i t) (write-among f t i p v took)
     where
       is-write : isWriteTo (eventAt es i) w ≡ true
       is-write = took-write es i w p (Write w v) took ∙ eq-eqb w w refl
 
-      later : (b : Bool) → Among i (writesBefore es w t) → Among i (cond b (t ∷ writesBefore es w t) (writesBefore es w t))
+      later : (b : Bool) → Among (f i) (ofWrites f es w t) → Among (f i) (cond b (f t ∷ ofWrites f es w t) (ofWrites f es w t))
       later true m = inr m
       later false m = m
 
-      go : Dec (i ≡ t) → (i < t → Among i (writesBefore es w t)) → Among i (cond (isWriteTo (eventAt es t) w) (t ∷ writesBefore es w t) (writesBefore es w t))
-      go (yes e) below = rw (ap (λ (k : ℕ). isWriteTo (eventAt es k) w) (sym e) ∙ is-write) (inl e)
+      go : Dec (i ≡ t) → (i < t → Among (f i) (ofWrites f es w t)) → Among (f i) (cond (isWriteTo (eventAt es t) w) (f t ∷ ofWrites f es w t) (ofWrites f es w t))
+      go (yes e) below = rw (ap (λ (k : ℕ). isWriteTo (eventAt es k) w) (sym e) ∙ is-write) (inl (ap f e))
       go (no e) below = later (isWriteTo (eventAt es t) w) (below (omega (arith, h, e)))
+
+-- demand 3 leaves 0 and the value fields of the earlier writes, and no other value
+pub value-left : (n : ℕ) (es : List Event) (w j x : ℕ) → Judged n es w j x → (x ≡ 0) ⊎ Among x (valuesBefore es w j)
+unfolding valuesBefore writesTo valueOf
+value-left n es w j x judged = go (judged .some-write)
+  where
+    go : (x ≡ 0) ⊎ FromWrite es w j x → (x ≡ 0) ⊎ Among x (ofWrites (λ t. valueField (eventAt es t .step .value)) es w j)
+    go (inl e) = inl e
+    go (inr h) =
+        let took = h .write .wrote in
+        let value : eventAt es (h .place) .step .value ≡ h .value = took-value es (h .place) w (h .processor) (Write w (h .value)) took (eq-eqb w w refl) in
+        let found = write-among es w (λ t. valueField (eventAt es t .step .value)) j (h .place) (h .processor) (h .value) took (h .write .earlier) in
+        inr (subst (λ (y : ℕ). Among y (ofWrites (λ t. valueField (eventAt es t .step .value)) es w j)) (ap valueField value ∙ sym (h .is)) found)
 
 -- where the writes to w lead up to the read, the premise of demand 3 is met
 pub synchronized : (n : ℕ) (es : List Event) (w j : ℕ) (l : List ℕ) → writesBefore es w j ≡ l → LeadUp n es j l → Synchronized n es w j
+unfolding writesBefore
 synchronized n es w j l places h =
     record {
       ordered = λ i k p q u v a b by-others. go i k p q u v a b by-others (all-ordered n es l i k j h (at i p u a) (at k q v b));
@@ -79,7 +103,7 @@ synchronized n es w j l places h =
     }
   where
     at : (i p v : ℕ) → EarlierWrite es w j i p v → Among i l
-    at i p v a = subst (Among i) places (write-among es w j i p v (a .wrote) (a .earlier))
+    at i p v a = subst (Among i) places (write-among es w (λ t. t) j i p v (a .wrote) (a .earlier))
 
     go : (i k p q u v : ℕ) → EarlierWrite es w j i p u → EarlierWrite es w j k q v → (p ≡ q → ⊥) → (i ≡ k) ⊎ Ordered n es i k → Ordered n es i k
     go i k p q u v a b by-others (inl e) =
@@ -94,7 +118,7 @@ counting processors locks = record { processors = processors; pages = 1; locks =
 
 -- the steps of a list, all of them accepted; who unfolds it unfolds what is computed of their order
 unfoldable pub allAccepted : List Step → List Event
-unfolding eventAt actionOf joins writesBefore LeadUp lastWritten isWriteTo valueField
+unfolding eventAt actionOf joins writesBefore valuesBefore LeadUp lastWritten isWriteTo valueField
 allAccepted ts = map (λ t. record { step = t; accepted = true }) ts
 
 -- the accepted and refused steps of a run from an opening

@@ -15,7 +15,7 @@ use Rattle.rules.specs.Opening.{opened}
 use Rattle.rules.specs.Refusals.{Step, Read, Write}
 use Rattle.rules.specs.Runs.{answers, answersInOrder}
 use Rattle.rules.specs.Order.{Event, events, eventAt, Took, Before, chain}
-use Rattle.rules.specs.Demand.{isWriteTo, lastWritten, EarlierWrite, Synchronized, valueAt}
+use Rattle.rules.specs.Demand.{isWriteTo, lastWritten, EarlierWrite, Synchronized, Judged, valueAt}
 use Rattle.rules.proofs.Tables.{every-at}
 use Rattle.rules.proofs.Everywhere.{and-left, and-right}
 use Rattle.rules.proofs.ActionKinds.{writesTo, took-write}
@@ -47,6 +47,8 @@ pub record Pinned (e : Edge) (c : Counts) (ts : List Step) (w j p v : ℕ) : Typ
   pub shown : Shown e (c .processors) (eventsFrom c ts) w j p v
   pub value : valueAt (answers mainframe (opened mainframe c) ts) j ≡ v
   pub not-zero : v ≡ 0 → ⊥
+  -- demand 3 leaves no other value
+  pub no-other : (x : ℕ) → Judged (c .processors) (eventsFrom c ts) w j x → x ≡ v
 
 -- what the steps show, demand 3 judges
 pinned : {e : Edge} {c : Counts} {ts : List Step} {w j p v : ℕ} (es : List Event) → countsInRange mainframe c ≡ true
@@ -59,6 +61,7 @@ pinned {e} {c} {ts} {w} {j} {p} {v} es in-range computed shown not-zero =
       shown = here;
       value = read-judged c in-range ts j p w (here .read) (here .premise) ∙ here .last;
       not-zero = not-zero;
+      no-other = λ x judged. judged .last (here .premise) ∙ here .last;
     }
 
 -- ---- by this edge alone, computed
