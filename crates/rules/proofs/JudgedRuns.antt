@@ -116,6 +116,14 @@ synchronized n es w j l places h =
 abbrev pub counting : ℕ → ℕ → Counts
 counting processors locks = record { processors = processors; pages = 1; locks = locks }
 
+-- an opening with counts in range is accepted
+abbrev pub openingOf : Counts → Opening
+openingOf c = record { first = 0; counts = c; rest = 0 }
+
+pub opening-accepted : (c : Counts) → countsInRange mainframe c ≡ true → openingRefusal mainframe (openingOf c) ≡ 0
+unfolding openingRefusal
+opening-accepted c in-range = rw in-range
+
 -- the steps of a list, all of them accepted; who unfolds it unfolds what is computed of their order
 unfoldable pub allAccepted : List Step → List Event
 unfolding eventAt actionOf joins writesBefore valuesBefore LeadUp lastWritten isWriteTo valueField
@@ -135,10 +143,4 @@ module _ (c : Counts) (in-range : countsInRange mainframe c ≡ true) (ts : List
   pub read-judged : (j p w : ℕ) → Took (eventsFrom c ts) j p (Read w) → Synchronized (c .processors) (eventsFrom c ts) w j
       → valueAt (answers mainframe (opened mainframe c) ts) j ≡ lastWritten (eventsFrom c ts) w j
   unfolding DemandThree mainframe
-  read-judged j p w took sync = demand-three mainframe opening (omega arith) opening-accepted ts .reads j p w took .last sync
-    where
-      opening : Opening
-      opening = record { first = 0; counts = c; rest = 0 }
-
-      opening-accepted : openingRefusal mainframe opening ≡ 0
-      opening-accepted = unfold openingRefusal in rw in-range
+  read-judged j p w took sync = demand-three mainframe (openingOf c) (omega arith) (opening-accepted c in-range) ts .reads j p w took .last sync

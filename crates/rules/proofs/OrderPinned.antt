@@ -4,25 +4,25 @@
 use Prim.Native.Nat.{ℕ}
 use native.Mathlib.Omega.{arith}
 use mathlib.Core.Path.{_≡_, refl, sym, _∙_, subst}
-use mathlib.Core.Bool.{Bool, true, not, _&&_, _||_}
+use mathlib.Core.Bool.{Bool, true, not, _||_}
 use mathlib.Core.List.{List, [], _∷_}
 use lib.Dec.{eqb}
 use borrow.Author.Tests.{eq-eqb, not-true}
 use Rattle.rules.specs.Tables.{every}
 use Rattle.rules.specs.State.{mainframe, Counts}
 use Rattle.rules.specs.InOrder.{inRange, countsInRange}
-use Rattle.rules.specs.Opening.{opened}
+use Rattle.rules.specs.Opening.{openingRefusal, opened}
 use Rattle.rules.specs.Refusals.{Step, Read, Write}
 use Rattle.rules.specs.Runs.{answers, answersInOrder}
 use Rattle.rules.specs.Order.{Event, events, eventAt, Took, Before, chain}
 use Rattle.rules.specs.Demand.{isWriteTo, lastWritten, EarlierWrite, Synchronized, Judged, valueAt}
 use Rattle.rules.proofs.Tables.{every-at}
-use Rattle.rules.proofs.Everywhere.{and-left, and-right}
+use Rattle.rules.proofs.Everywhere.{conjoined, conjoined-at}
 use Rattle.rules.proofs.ActionKinds.{writesTo, took-write}
 use Rattle.rules.proofs.Edges.{Edge, ByProgram, ByLock, ByRound, ByChain, just, has, joins, joined, closedUnder, only-by, only-chained}
 use Rattle.rules.proofs.Listing.{reads, writes, acquires, releases, arrives, start}
 use Rattle.rules.proofs.BenchFaults.{stepsC}
-use Rattle.rules.proofs.JudgedRuns.{synchronized, eventsFrom, events-computed, read-judged, allAccepted, counting}
+use Rattle.rules.proofs.JudgedRuns.{synchronized, openingOf, opening-accepted, eventsFrom, events-computed, read-judged, allAccepted, counting}
 use Rattle.rules.proofs.PremisesMet.{read-taken, read-is-synchronized, computed-events}
 
 -- ---- what a run shows of an edge
@@ -43,7 +43,7 @@ pub record Shown (e : Edge) (n : ℕ) (es : List Event) (w j p v : ℕ) : Type 0
 
 -- a run from an accepted opening in which the premise holds by the edge e alone, and demand 3 gives the value: it is not 0
 pub record Pinned (e : Edge) (c : Counts) (ts : List Step) (w j p v : ℕ) : Type 0 where
-  pub in-range : countsInRange mainframe c ≡ true
+  pub opening : openingRefusal mainframe (openingOf c) ≡ 0
   pub shown : Shown e (c .processors) (eventsFrom c ts) w j p v
   pub value : valueAt (answers mainframe (opened mainframe c) ts) j ≡ v
   pub not-zero : v ≡ 0 → ⊥
@@ -57,7 +57,7 @@ pinned {e} {c} {ts} {w} {j} {p} {v} es in-range computed shown not-zero =
     let here : Shown e (c .processors) (eventsFrom c ts) w j p v =
     subst (λ (l : List Event). Shown e (c .processors) l w j p v) (sym (events-computed c in-range ts es computed)) shown in
     record {
-      in-range = in-range;
+      opening = opening-accepted c in-range;
       shown = here;
       value = read-judged c in-range ts j p w (here .read) (here .premise) ∙ here .last;
       not-zero = not-zero;
@@ -79,38 +79,39 @@ write-passes es w j test all i p u h =
     rw is-write at here
 
 module _ (n : ℕ) (es : List Event) (w j : ℕ) where
+  cutOffTests : Edge → (ℕ → ℕ → Bool) → ℕ → List Bool
+  cutOffTests e inside i = closedUnder (just e) n es (inside i) ∷ inside i i ∷ not (inside i j) ∷ []
+
   -- without the edge e a write leads to no place outside a set that it is in, and the read is outside
   unfoldable pub cutOff : Edge → (ℕ → ℕ → Bool) → ℕ → Bool
-  unfolding closedUnder just
-  cutOff e inside i = closedUnder (just e) n es (inside i) && inside i i && not (inside i j)
+  unfolding cutOffTests closedUnder just conjoined
+  cutOff e inside i = conjoined (cutOffTests e inside i)
 
   only-cut-off : (e : Edge) (inside : ℕ → ℕ → Bool) → everyWrite es w j (cutOff e inside) ≡ true → OnlyBy e n es w j
   unfolding cutOff
-  only-cut-off e inside all =
-      record {
-        derived = λ i p u h.
-            let passed = write-passes es w j (cutOff e inside) all i p u h in
-            let first = and-left (closedUnder (just e) n es (inside i) && inside i i) (not (inside i j)) passed in
-            only-by n es i j e (inside i) (and-left (closedUnder (just e) n es (inside i)) (inside i i) first) (and-right (closedUnder (just e) n es (inside i)) (inside i i) first)
-            (not-true (inside i j) (and-right (closedUnder (just e) n es (inside i) && inside i i) (not (inside i j)) passed));
-      }
+  only-cut-off e inside all = record { derived = λ i p u h. go i (write-passes es w j (cutOff e inside) all i p u h) }
+    where
+      go : (i : ℕ) → conjoined (cutOffTests e inside i) ≡ true → (x : Before n es i j) → has (just e) x ≡ true
+      go i h =
+          let tests = cutOffTests e inside i in
+          only-by n es i j e (inside i) (conjoined-at tests 0 h) (conjoined-at tests 1 h) (not-true (inside i j) (conjoined-at tests 2 h))
+
+  unjoinedTests : ℕ → List Bool
+  unjoinedTests i = not (joins ByProgram n es i j) ∷ not (joins ByLock n es i j) ∷ not (joins ByRound n es i j) ∷ []
 
   -- no edge by itself joins a write to the read
   unfoldable pub unjoined : ℕ → Bool
-  unfolding joins
-  unjoined i = not (joins ByProgram n es i j) && not (joins ByLock n es i j) && not (joins ByRound n es i j)
+  unfolding unjoinedTests joins conjoined
+  unjoined i = conjoined (unjoinedTests i)
 
   only-by-chaining : everyWrite es w j unjoined ≡ true → OnlyBy ByChain n es w j
   unfolding unjoined
-  only-by-chaining all =
-      record {
-        derived = λ i p u h.
-            let passed = write-passes es w j unjoined all i p u h in
-            let first = and-left (not (joins ByProgram n es i j) && not (joins ByLock n es i j)) (not (joins ByRound n es i j)) passed in
-            only-chained n es i j (not-true (joins ByProgram n es i j) (and-left (not (joins ByProgram n es i j)) (not (joins ByLock n es i j)) first))
-            (not-true (joins ByLock n es i j) (and-right (not (joins ByProgram n es i j)) (not (joins ByLock n es i j)) first))
-            (not-true (joins ByRound n es i j) (and-right (not (joins ByProgram n es i j) && not (joins ByLock n es i j)) (not (joins ByRound n es i j)) passed));
-      }
+  only-by-chaining all = record { derived = λ i p u h. go i (write-passes es w j unjoined all i p u h) }
+    where
+      go : (i : ℕ) → conjoined (unjoinedTests i) ≡ true → (x : Before n es i j) → has (just ByChain) x ≡ true
+      go i h =
+          let at = conjoined-at (unjoinedTests i) in
+          only-chained n es i j (not-true (joins ByProgram n es i j) (at 0 h)) (not-true (joins ByLock n es i j) (at 1 h)) (not-true (joins ByRound n es i j) (at 2 h))
 
 -- a place by itself, and the places of its processor: where a write can lead without the edge of a run
 abbrev itself : ℕ → ℕ → Bool
@@ -142,8 +143,8 @@ program-pinned = pinned (allAccepted stepsProgram) refl refl program-shown (λ e
 
 -- ---- "each release before every later acquire of that lock"
 
--- Under lock 0 processor 1 stores 5 in word 0, then 2 stores 6 there; 3 takes the lock and reads. Each step is by another processor than the
--- last that it depends on, and nobody arrives: without the lock a store leads to its processor's own steps alone
+-- Under lock 0 processor 1 stores 5 in word 0, then 2 stores 6 there; 3 takes the lock and reads. The stores and the read are by three
+-- processors, and nobody arrives: without the lock a store leads to its processor's own steps alone
 unfoldable pub stepsLock : List Step
 stepsLock = acquires 1 0 ∷ writes 1 0 5 ∷ releases 1 0 ∷ acquires 2 0 ∷ writes 2 0 6 ∷ releases 2 0 ∷ acquires 3 0 ∷ reads 3 0 ∷ []
 
