@@ -126,23 +126,23 @@ module _ (n : ℕ) (es : List Event) (i j : ℕ) where
   passed e h k = conjoined-at (tests e n es i j) k h
 
   -- and what passes a test is before
-  pub joined : (e : Edge) → joins e n es i j ≡ true → Before n es i j
+  pub joins-before : (e : Edge) → joins e n es i j ≡ true → Before n es i j
   unfolding joins tests
-  joined ByProgram h =
+  joins-before ByProgram h =
       let at = passed ByProgram h in
       program (processorAt es i) (actionAt es i) (actionAt es j) (took i (processorAt es i) (actionAt es i) (at 0) refl refl)
       (took j (processorAt es i) (actionAt es j) (at 1) (sym (eqb-true (processorAt es i) (processorAt es j) (at 2))) refl) (ltb-true i j (at 3))
-  joined ByLock h =
+  joins-before ByLock h =
       let at = passed ByLock h in
       let l = lockOf (actionAt es i) in
       let same : lockOf (actionAt es j) ≡ l = sym (eqb-true l (lockOf (actionAt es j)) (at 4)) in
       lock (processorAt es i) (processorAt es j) l (took i (processorAt es i) (Release l) (at 0) refl (release-is (actionAt es i) (at 2)))
       (took j (processorAt es j) (Acquire l) (at 1) refl (acquire-is (actionAt es j) (at 3) ∙ ap Acquire same)) (ltb-true i j (at 5))
-  joined ByRound h =
+  joins-before ByRound h =
       let at = passed ByRound h in
       round (processorAt es i) (processorAt es j) (actionAt es j) (took i (processorAt es i) Arrive (at 0) refl (arrives-is (actionAt es i) (at 2)))
       (took j (processorAt es j) (actionAt es j) (at 1) refl refl) (ltb-true (rounds n es i) (rounds n es j) (at 3))
-  joined ByChain h = absurd (false≢true h)
+  joins-before ByChain h = absurd (false≢true h)
 
 -- ---- places that no edge leads out of
 
@@ -201,11 +201,11 @@ module _ (dropped : Edge → Bool) (n : ℕ) (es : List Event) (inside : ℕ →
 -- ---- what follows for two steps
 
 -- no edge at all
-unfoldable pub none : Edge → Bool
-none e = false
+unfoldable pub noEdge : Edge → Bool
+noEdge e = false
 
-has-none : (n : ℕ) (es : List Event) (i j : ℕ) (x : Before n es i j) → has none x ≡ false
-unfolding has none
+has-none : (n : ℕ) (es : List Event) (i j : ℕ) (x : Before n es i j) → has noEdge x ≡ false
+unfolding has noEdge
 has-none n es i j (program p a b t u h) = refl
 has-none n es i j (lock p q l t u h) = refl
 has-none n es i j (round p q b t u h) = refl
@@ -213,8 +213,8 @@ has-none n es i j (chain k x y) = rw (has-none n es i k x, has-none n es k j y)
 
 module _ (n : ℕ) (es : List Event) (i j : ℕ) where
   -- where no edge leads out of some places, a step at one of them is not before a step elsewhere
-  pub not-before : (inside : ℕ → Bool) → closedUnder none n es inside ≡ true → inside i ≡ true → inside j ≡ false → Before n es i j → ⊥
-  not-before inside c from to x = false≢true (sym to ∙ before-stays none n es inside c i j x (has-none n es i j x) from)
+  pub not-before : (inside : ℕ → Bool) → closedUnder noEdge n es inside ≡ true → inside i ≡ true → inside j ≡ false → Before n es i j → ⊥
+  not-before inside c from to x = false≢true (sym to ∙ before-stays noEdge n es inside c i j x (has-none n es i j x) from)
 
   -- where none but those of one kind do, every derivation that it is before has that edge in it
   pub only-by : (e : Edge) (inside : ℕ → Bool) → closedUnder (just e) n es inside ≡ true → inside i ≡ true → inside j ≡ false
@@ -239,11 +239,11 @@ module _ (n : ℕ) (es : List Event) (i j : ℕ) where
   others k = not (eqb (processorAt es k) (processorAt es j)) && leb i k
 
   apartTests : List Bool
-  apartTests = closedUnder none n es others ∷ others i ∷ not (others j) ∷ []
+  apartTests = closedUnder noEdge n es others ∷ others i ∷ not (others j) ∷ []
 
   -- no edge leads from one of those to a step of the processor at place j
   unfoldable pub apart : Bool
-  unfolding apartTests others none closedUnder conjoined
+  unfolding apartTests others noEdge closedUnder conjoined
   apart = conjoined apartTests
 
   -- then the one is not before the other

@@ -117,12 +117,12 @@ abbrev pub counting : ℕ → ℕ → Counts
 counting processors locks = record { processors = processors; pages = 1; locks = locks }
 
 -- an opening with counts in range is accepted
-abbrev pub openingOf : Counts → Opening
-openingOf c = record { first = 0; counts = c; rest = 0 }
+abbrev pub openingWith : Counts → Opening
+openingWith c = record { first = 0; counts = c; rest = 0 }
 
-pub opening-accepted : (c : Counts) → countsInRange mainframe c ≡ true → openingRefusal mainframe (openingOf c) ≡ 0
+pub in-range-accepted : (c : Counts) → countsInRange mainframe c ≡ true → openingRefusal mainframe (openingWith c) ≡ 0
 unfolding openingRefusal
-opening-accepted c in-range = rw in-range
+in-range-accepted c in-range = rw in-range
 
 -- the steps of a list, all of them accepted; who unfolds it unfolds what is computed of their order
 unfoldable pub allAccepted : List Step → List Event
@@ -143,4 +143,4 @@ module _ (c : Counts) (in-range : countsInRange mainframe c ≡ true) (ts : List
   pub read-judged : (j p w : ℕ) → Took (eventsFrom c ts) j p (Read w) → Synchronized (c .processors) (eventsFrom c ts) w j
       → valueAt (answers mainframe (opened mainframe c) ts) j ≡ lastWritten (eventsFrom c ts) w j
   unfolding DemandThree mainframe
-  read-judged j p w took sync = demand-three mainframe (openingOf c) (omega arith) (opening-accepted c in-range) ts .reads j p w took .last sync
+  read-judged j p w took sync = demand-three mainframe (openingWith c) (omega arith) (in-range-accepted c in-range) ts .reads j p w took .last sync

@@ -15,11 +15,11 @@ use Rattle.rules.proofs.OpenedInOrder.{opened-in-order}
 use Rattle.rules.proofs.Edges.{apart, apart-not-before}
 use Rattle.rules.proofs.Listing.{reads, writes, acquires, releases, arrives, start, answering}
 use Rattle.rules.proofs.StoredCases.{accepted}
-use Rattle.rules.proofs.JudgedRuns.{counting, openingOf, opening-accepted, eventsFrom, allAccepted}
+use Rattle.rules.proofs.JudgedRuns.{counting, openingWith, in-range-accepted, eventsFrom, allAccepted}
 
 -- a run from an accepted opening with its answers, in which the step at place i is not before the step at place j
 pub record NotBefore (c : Counts) (ts : List Step) (answered : List Answer) (i j : ℕ) : Type 0 where
-  pub opening : openingRefusal mainframe (openingOf c) ≡ 0
+  pub opening : openingRefusal mainframe (openingWith c) ≡ 0
   pub answers-are : answers mainframe (opened mainframe c) ts ≡ answered
   pub not-before : Before (c .processors) (eventsFrom c ts) i j → ⊥
 
@@ -29,7 +29,7 @@ shown {c} {ts} {answered} {i} {j} in-range computed test =
     let answers-are : answers mainframe (opened mainframe c) ts ≡ answered =
     answers-in-order mainframe (opened mainframe c) ts (opened-in-order mainframe c in-range) ∙ computed in
     record {
-      opening = opening-accepted c in-range;
+      opening = in-range-accepted c in-range;
       answers-are = answers-are;
       not-before = λ x. apart-not-before (c .processors) (events ts answered) i j test (subst (λ (l : List Answer). Before (c .processors) (events ts l) i j) answers-are x);
     }

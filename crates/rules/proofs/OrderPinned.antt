@@ -19,10 +19,10 @@ use Rattle.rules.specs.Demand.{isWriteTo, lastWritten, EarlierWrite, Syn
 use Rattle.rules.proofs.Tables.{every-at}
 use Rattle.rules.proofs.Everywhere.{conjoined, conjoined-at}
 use Rattle.rules.proofs.ActionKinds.{writesTo, took-write}
-use Rattle.rules.proofs.Edges.{Edge, ByProgram, ByLock, ByRound, ByChain, just, has, joins, joined, closedUnder, only-by, only-chained}
+use Rattle.rules.proofs.Edges.{Edge, ByProgram, ByLock, ByRound, ByChain, just, has, joins, joins-before, closedUnder, only-by, only-chained}
 use Rattle.rules.proofs.Listing.{reads, writes, acquires, releases, arrives, start}
 use Rattle.rules.proofs.BenchFaults.{stepsC}
-use Rattle.rules.proofs.JudgedRuns.{synchronized, openingOf, opening-accepted, eventsFrom, events-computed, read-judged, allAccepted, counting}
+use Rattle.rules.proofs.JudgedRuns.{synchronized, openingWith, in-range-accepted, eventsFrom, events-computed, read-judged, allAccepted, counting}
 use Rattle.rules.proofs.PremisesMet.{read-taken, read-is-synchronized, computed-events}
 
 -- ---- what a run shows of an edge
@@ -43,7 +43,7 @@ pub record Shown (e : Edge) (n : ℕ) (es : List Event) (w j p v : ℕ) : Type 0
 
 -- a run from an accepted opening in which the premise holds by the edge e alone, and demand 3 gives the value: it is not 0
 pub record Pinned (e : Edge) (c : Counts) (ts : List Step) (w j p v : ℕ) : Type 0 where
-  pub opening : openingRefusal mainframe (openingOf c) ≡ 0
+  pub opening : openingRefusal mainframe (openingWith c) ≡ 0
   pub shown : Shown e (c .processors) (eventsFrom c ts) w j p v
   pub value : valueAt (answers mainframe (opened mainframe c) ts) j ≡ v
   pub not-zero : v ≡ 0 → ⊥
@@ -57,7 +57,7 @@ pinned {e} {c} {ts} {w} {j} {p} {v} es in-range computed shown not-zero =
     let here : Shown e (c .processors) (eventsFrom c ts) w j p v =
     subst (λ (l : List Event). Shown e (c .processors) l w j p v) (sym (events-computed c in-range ts es computed)) shown in
     record {
-      opening = opening-accepted c in-range;
+      opening = in-range-accepted c in-range;
       shown = here;
       value = read-judged c in-range ts j p w (here .read) (here .premise) ∙ here .last;
       not-zero = not-zero;
@@ -132,7 +132,7 @@ program-shown =
     let es = allAccepted stepsProgram in
     record {
       read = record { accepted = refl; processor = refl; action = refl };
-      premise = synchronized 2 es 0 2 (1 ∷ 0 ∷ []) refl (joined 2 es 1 2 ByProgram refl, (joined 2 es 0 1 ByProgram refl, tt));
+      premise = synchronized 2 es 0 2 (1 ∷ 0 ∷ []) refl (joins-before 2 es 1 2 ByProgram refl, (joins-before 2 es 0 1 ByProgram refl, tt));
       only = only-cut-off 2 es 0 2 ByProgram itself refl;
       last = refl;
     }
@@ -156,9 +156,9 @@ lock-shown =
       read = record { accepted = refl; processor = refl; action = refl };
       premise =
           synchronized 3 es 0 7 (4 ∷ 1 ∷ []) refl (
-            chain 5 (joined 3 es 4 5 ByProgram refl) (chain 6 (joined 3 es 5 6 ByLock refl) (joined 3 es 6 7 ByProgram refl)),
+            chain 5 (joins-before 3 es 4 5 ByProgram refl) (chain 6 (joins-before 3 es 5 6 ByLock refl) (joins-before 3 es 6 7 ByProgram refl)),
             (
-              chain 2 (joined 3 es 1 2 ByProgram refl) (chain 3 (joined 3 es 2 3 ByLock refl) (joined 3 es 3 4 ByProgram refl)),
+              chain 2 (joins-before 3 es 1 2 ByProgram refl) (chain 3 (joins-before 3 es 2 3 ByLock refl) (joins-before 3 es 3 4 ByProgram refl)),
               tt,
             ),
           );
@@ -186,9 +186,9 @@ round-shown =
       read = record { accepted = refl; processor = refl; action = refl };
       premise =
           synchronized 3 es 0 8 (4 ∷ 0 ∷ []) refl (
-            chain 7 (joined 3 es 4 7 ByProgram refl) (joined 3 es 7 8 ByRound refl),
+            chain 7 (joins-before 3 es 4 7 ByProgram refl) (joins-before 3 es 7 8 ByRound refl),
             (
-              chain 1 (joined 3 es 0 1 ByProgram refl) (joined 3 es 1 4 ByRound refl),
+              chain 1 (joins-before 3 es 0 1 ByProgram refl) (joins-before 3 es 1 4 ByRound refl),
               tt,
             ),
           );

@@ -15,13 +15,13 @@ use Rattle.rules.specs.Refusals.{stepOf, refusedAs, answer}
 use Rattle.rules.proofs.Conditions.{orderTests}
 use Rattle.rules.proofs.Listing.{start}
 
--- limits of two of everything, and pages of one word; two processors, one page and one lock are opened
-unfoldable pub small : Limits
+-- limits of two of each, and pages of one word; two processors, one page and one lock are opened
+unfoldable pub twoOfEach : Limits
 unfolding start covered mostRuns pairHolds orderly pairsRefusal readRefusal everyProcessor everyPage everyHolder rowsSized sized inRange countsInRange presentHolder allZero absentZero laterIntervalsZero entriesKnown appliedKnown recordAt diffLegal recordSound sameNotice recordsSound roomKept dirtyHaveInterval holdersPresent someoneMissing inOrder orderTests
-small = record { processors = 2; pages = 2; words = 1; locks = 2; records = 2; intervals = 2 }
+twoOfEach = record { processors = 2; pages = 2; words = 1; locks = 2; records = 2; intervals = 2 }
 
 unfoldable pub plain : State
-plain = opened small (record { processors = 2; pages = 1; locks = 1 })
+plain = opened twoOfEach (record { processors = 2; pages = 1; locks = 1 })
 
 -- ---- the plain state with one part changed
 
@@ -35,10 +35,10 @@ dirtied s p g = withPages s (record { copies = s .pages .copies; twins = s .page
 
 -- a slot with the record of an interval in which no word of page g changed, or with other bytes for its diff
 abbrev slotOf : ℕ → ℕ → ℕ → List ℕ → List ℕ
-slotOf p i g diff = laidOver (slotBytes (record { processor = p; interval = i; page = g; diff = diff })) (replicate (slotSize small) 0)
+slotOf p i g diff = laidOver (slotBytes (record { processor = p; interval = i; page = g; diff = diff })) (replicate (slotSize twoOfEach) 0)
 
 abbrev oneRecord : State → List ℕ → State
-oneRecord s a = withRecords s (record { standing = 1; slots = a ∷ replicate (slotSize small) 0 ∷ [] })
+oneRecord s a = withRecords s (record { standing = 1; slots = a ∷ replicate (slotSize twoOfEach) 0 ∷ [] })
 
 abbrev twoRecords : State → List ℕ → List ℕ → State
 twoRecords s a b = withRecords s (record { standing = 2; slots = a ∷ b ∷ [] })
@@ -50,12 +50,12 @@ marked s holders arrived = withMarks s (record { holders = holders; arrived = ar
 
 -- a state out of order by one condition alone, by its number in document 01's order from 0
 pub record BreaksOnly (k : ℕ) (s : State) : Type 0 where
-  pub out : inOrder small s ≡ false
-  pub alone : orderTests small s ≡ set (replicate 11 true) k false
+  pub out : inOrder twoOfEach s ≡ false
+  pub alone : orderTests twoOfEach s ≡ set (replicate 11 true) k false
 
 pub record OutOfOrder : Type 0 where
   -- with nothing changed the state is in order
-  pub in-order : inOrder small plain ≡ true
+  pub in-order : inOrder twoOfEach plain ≡ true
   -- "its size is the fixed one": one holder too few
   pub size : BreaksOnly 0 (marked plain (0 ∷ []) (0 ∷ 0 ∷ 0 ∷ []))
   -- "counts of cards, pages and locks are in range": three pages
@@ -91,11 +91,11 @@ pub record OutOfOrder : Type 0 where
   -- "not all cards have arrived"
   pub all-arrived : BreaksOnly 10 (marked plain (0 ∷ 0 ∷ []) (0 ∷ 1 ∷ 1 ∷ []))
   -- row 1 of the table of refusals stands above the others: kind 7, processor 9, object 99
-  pub row-1 : answer small (marked plain (0 ∷ 0 ∷ []) (0 ∷ 1 ∷ 1 ∷ [])) (stepOf 7 9 99 0) ≡ refusedAs 1
+  pub row-1 : answer twoOfEach (marked plain (0 ∷ 0 ∷ []) (0 ∷ 1 ∷ 1 ∷ [])) (stepOf 7 9 99 0) ≡ refusedAs 1
 
-pub out-of-order : OutOfOrder
-unfolding small plain answer
-out-of-order =
+pub each-condition-counts : OutOfOrder
+unfolding twoOfEach plain answer
+each-condition-counts =
     record {
       in-order = refl;
       size = record { out = refl; alone = refl };

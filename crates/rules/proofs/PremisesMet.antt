@@ -9,7 +9,7 @@ use Rattle.rules.specs.Refusals.{Read}
 use Rattle.rules.specs.Runs.{answers, answersInOrder}
 use Rattle.rules.specs.Order.{Event, events, Took, Before, chain}
 use Rattle.rules.specs.Demand.{lastWritten, Synchronized, valueAt}
-use Rattle.rules.proofs.Edges.{ByProgram, ByLock, joined}
+use Rattle.rules.proofs.Edges.{ByProgram, ByLock, joins-before}
 use Rattle.rules.proofs.Listing.{start}
 use Rattle.rules.proofs.BenchFaults.{stepsC}
 use Rattle.rules.proofs.JudgedRuns.{synchronized, counting, eventsFrom, events-computed, read-judged, allAccepted}
@@ -30,11 +30,11 @@ pub write-before-read : Before 3 (allAccepted stepsC) 1 8
 unfolding stepsC allAccepted
 write-before-read =
     let es = allAccepted stepsC in
-    chain 2 (joined 3 es 1 2 ByProgram refl)
-    (chain 3 (joined 3 es 2 3 ByLock refl)
-    (chain 6 (joined 3 es 3 6 ByProgram refl)
-    (chain 7 (joined 3 es 6 7 ByLock refl)
-    (joined 3 es 7 8 ByProgram refl))))
+    chain 2 (joins-before 3 es 1 2 ByProgram refl)
+    (chain 3 (joins-before 3 es 2 3 ByLock refl)
+    (chain 6 (joins-before 3 es 3 6 ByProgram refl)
+    (chain 7 (joins-before 3 es 6 7 ByLock refl)
+    (joins-before 3 es 7 8 ByProgram refl))))
 
 -- the write at place 1 is the only one to word 0, so the premise of demand 3 is met for the read at place 8
 pub read-is-synchronized : Synchronized 3 (allAccepted stepsC) 0 8

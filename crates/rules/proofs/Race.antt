@@ -13,7 +13,7 @@ use Rattle.rules.specs.Runs.{answersInOrder}
 use Rattle.rules.specs.Order.{Event, events, eventAt, Before, Ordered}
 use Rattle.rules.specs.Demand.{EarlierWrite, Synchronized, Judged}
 use Rattle.rules.proofs.StrictOrder.{before-goes-forward}
-use Rattle.rules.proofs.Edges.{none, closedUnder, not-before}
+use Rattle.rules.proofs.Edges.{noEdge, closedUnder, not-before}
 use Rattle.rules.proofs.Listing.{reads, writes, arrives, start, answering}
 use Rattle.rules.proofs.JudgedRuns.{Among, value-left, allAccepted}
 use Rattle.rules.proofs.StoredCases.{accepted}
@@ -37,7 +37,7 @@ raceEvents = events race (answersInOrder mainframe (start 2 1 1) race)
 
 -- no edge leads to the second write, so the first is not before it
 first-not-before : Before 2 raceEvents 0 1 → ⊥
-unfolding raceEvents race events start closedUnder none
+unfolding raceEvents race events start closedUnder noEdge
 first-not-before = not-before 2 raceEvents 0 1 (λ k. not (eqb k 1)) refl refl refl
 
 -- so at no later place is there a premise for word 0
