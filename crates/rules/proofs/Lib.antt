@@ -38,6 +38,7 @@ pub mod Ghosts
 pub mod StrictOrder
 pub mod Counted
 pub mod ActionKinds
+pub mod Edges
 pub mod MarksAfter
 pub mod NobodyArrived
 pub mod Allowed
@@ -83,9 +84,14 @@ pub mod DemandThree
 pub mod Listing
 pub mod BenchFaults
 pub mod FromStart
+pub mod JudgedRuns
 pub mod ClosingFirst
 pub mod NoInterval
 pub mod StoredCases
 pub mod Cases
 pub mod Race
 pub mod PremisesMet
+pub mod OrderPinned
+pub mod NotOrdered
+pub mod RefusalRows
+pub mod OutOfOrder
