@@ -53,7 +53,7 @@ module _ (old new out : List ℕ) where
   -- refused: it is 256 + the refusal
   pub refused-from-256 : (writeRefusal pageWidth old new out ≡ 0 → ⊥) → writeReturn (writeAnswer pageWidth old new out) ≡ 256 + writeRefusal pageWidth old new out
   unfolding writeAnswer writeReturn
-  refused-from-256 z = rw (ne-eqb (writeRefusal pageWidth old new out) 0 z)
+  refused-from-256 z = let e = ne-eqb (writeRefusal pageWidth old new out) 0 z in rw e (rw e)
 
   -- either has 32 bits
   answer-small : writeReturn (writeAnswer pageWidth old new out) < 4294967296
