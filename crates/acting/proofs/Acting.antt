@@ -27,6 +27,7 @@ use Rattle.barrier.specs.Effects.{Wanted}
 use Rattle.barrier.specs.Needed.{ArrivesKept}
 use Rattle.acting.specs.declared.Outcome.{Outcome}
 use Rattle.acting.specs.declared.Outcome.the-variants.{Done}
+use Rattle.acting.proofs.Telling.{done-tells}
 use Rattle.acting.specs.Needed.{Acting, ActingKept, Accessing, AccessingKept, Locking, Meeting, MeetingKept, DoneAs, DoneKept}
 
 -- ---- the effect of an action that is known
@@ -34,12 +35,12 @@ use Rattle.acting.specs.Needed.{Acting, ActingKept, Accessing, Accessing
 done-by : (e f : Effect) (o : Outcome) (c w r m : List ℕ) → e ≡ f → DoneAs f o c w r m → DoneAs e o c w r m
 done-by e f o c w r m q d =
     record {
-      outcome = d .outcome ∙ ap (λ (x : Effect). Done (x .value) (x .count)) (sym q);
+      outcome = rw q (d .outcome);
       areas = record { lent = d .areas .lent; is = d .areas .is ∙ ap (λ (x : Effect). x .after) (sym q) };
     }
 
 done-with : (e : Effect) (x n : ℕ) (c w r m : List ℕ) → x ≡ e .value → n ≡ e .count → Holds c w r m (e .after) → DoneAs e (Done x n) c w r m
-done-with e x n c w r m ex en h = record { outcome = ap (λ (y : ℕ). Done y n) ex ∙ ap (λ (y : ℕ). Done (e .value) y) en; areas = h }
+done-with e x n c w r m ex en h = record { outcome = rw (← ex, ← en) (done-tells x n); areas = h }
 
 -- ---- what the steps ask
 

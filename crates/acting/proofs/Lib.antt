@@ -1,2 +1,2 @@
-pub mod Acting
 pub mod Telling
+pub mod Acting

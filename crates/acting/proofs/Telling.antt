@@ -1,44 +1,34 @@
--- An outcome tells the answer of its step: refusal, value and count. Assumes nothing.
+-- Which outcome tells an answer: that of a step that was done, or that of a refusal; and no other. Assumes nothing.
 use Prim.Native.Nat.{ℕ}
-use mathlib.Core.Path.{_≡_, refl, sym, ap}
-use mathlib.Core.Bool.{Bool, true, false, cond}
+use native.Mathlib.Omega.{arith}
+use mathlib.Core.Path.{_≡_, refl, sym, ap, _∙_}
+use mathlib.Core.Bool.{Bool, true, false}
 use lib.Dec.{eqb}
-use borrow.Author.Tests.{eqb-true}
-use Rattle.rules.specs.InOrder.{inOrder}
-use Rattle.rules.specs.Refusals.{Step, refusedAs, actionOf, effect, refusalInOrder, answerInOrder, answer}
-use Rattle.rules.specs.State.{Limits, State}
-use Rattle.rules.specs.Steps.{Effect}
+use borrow.Author.Tests.{ne-eqb}
+use Rattle.rules.specs.Refusals.{Answer, refusedAs}
+use Rattle.acting.specs.declared.Outcome.{Outcome}
 use Rattle.acting.specs.declared.Outcome.the-variants.{Done, Refused}
-use Rattle.acting.specs.Telling.{outcomeRefusal, outcomeValue, outcomeCount, told}
-use Rattle.acting.specs.Outcomes.{outcomeOf}
+use Rattle.acting.specs.Telling.{outcomeRefusal, outcomeValue, outcomeCount, told, wasDone, Tells}
 
--- a refusal's outcome tells it
-pub told-refused : (n : ℕ) → told (outcomeOf (refusedAs n)) ≡ refusedAs n
-unfolding told outcomeOf refusedAs outcomeRefusal outcomeValue outcomeCount
-told-refused n = go (eqb n 0) refl
-  where
-    go : (b : Bool) → eqb n 0 ≡ b → told (cond b (Done 0 0) (Refused n)) ≡ refusedAs n
-    go true e = ap (λ (j : ℕ). refusedAs j) (sym (eqb-true n 0 e))
-    go false e = refl
+-- of an accepted step
+pub done-tells : (v k : ℕ) → Tells (Done v k) (record { refusal = 0; value = v; count = k })
+unfolding told outcomeRefusal outcomeValue outcomeCount wasDone
+done-tells v k = record { numbers = refl; accepted = refl }
 
--- in a state in order
-pub told-in-order : (lim : Limits) (s : State) (t : Step) → told (outcomeOf (answerInOrder lim s t)) ≡ answerInOrder lim s t
-unfolding answerInOrder told outcomeOf outcomeRefusal outcomeValue outcomeCount
-told-in-order lim s t = go (eqb (refusalInOrder lim s t) 0)
-  where
-    f : Effect
-    f = effect lim s (t .processor) (actionOf t)
+-- of a refused one
+pub refused-tells : (n : ℕ) → (n ≡ 0 → ⊥) → Tells (Refused n) (refusedAs n)
+unfolding told outcomeRefusal outcomeValue outcomeCount wasDone refusedAs
+refused-tells n z = record { numbers = refl; accepted = sym (ne-eqb n 0 z) }
 
-    go : (b : Bool) → told (outcomeOf (cond b (record { refusal = 0; value = f .value; count = f .count }) (refusedAs (refusalInOrder lim s t))))
-        ≡ cond b (record { refusal = 0; value = f .value; count = f .count }) (refusedAs (refusalInOrder lim s t))
-    go true = refl
-    go false = told-refused (refusalInOrder lim s t)
+apart : true ≡ false → ⊥
+apart e = let z : _≡_ {A = ℕ} 0 1 = cc in omega (arith, z)
 
--- in any state
-pub told-in-state : (lim : Limits) (s : State) (t : Step) → told (outcomeOf (answer lim s t)) ≡ answer lim s t
-unfolding answer
-told-in-state lim s t = go (inOrder lim s)
-  where
-    go : (b : Bool) → told (outcomeOf (cond b (answerInOrder lim s t) (refusedAs 1))) ≡ cond b (answerInOrder lim s t) (refusedAs 1)
-    go true = told-in-order lim s t
-    go false = told-refused 1
+-- an answer is told by one outcome alone
+pub one-outcome : (o o′ : Outcome) (a : Answer) → Tells o a → Tells o′ a → o ≡ o′
+unfolding told outcomeRefusal outcomeValue outcomeCount wasDone
+one-outcome (Done v k) (Done v′ k′) a h h′ =
+    let e = h .numbers ∙ sym (h′ .numbers) in
+    ap (λ (x : ℕ). Done x k) (ap (λ (x : Answer). x .value) e) ∙ ap (λ (x : ℕ). Done v′ x) (ap (λ (x : Answer). x .count) e)
+one-outcome (Done v k) (Refused n) a h h′ = absurd (apart (h .accepted ∙ sym (h′ .accepted)))
+one-outcome (Refused n) (Done v k) a h h′ = absurd (apart (h′ .accepted ∙ sym (h .accepted)))
+one-outcome (Refused n) (Refused n′) a h h′ = ap (λ (x : ℕ). Refused x) (ap (λ (x : Answer). x .refusal) (h .numbers ∙ sym (h′ .numbers)))

@@ -1,3 +1,2 @@
-pub mod Outcomes
 pub mod Telling
 pub mod Needed

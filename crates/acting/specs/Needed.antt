@@ -9,7 +9,7 @@ use Rattle.rules.specs.Steps.{Effect}
 use Rattle.memory.specs.Needed.{Ready, Holds}
 use Rattle.index.specs.Index.{IndexKept}
 use Rattle.acting.specs.declared.Outcome.{Outcome}
-use Rattle.acting.specs.declared.Outcome.the-variants.{Done}
+use Rattle.acting.specs.Telling.{Tells}
 
 -- the areas hold a state in order, and no row from 3 to 10 refuses the step
 pub record Acting (c w r m : List ℕ) (kind p object value : ℕ) : Type 0 where
@@ -49,7 +49,7 @@ pub record MeetingKept (c w r m : List ℕ) (kind p object value : ℕ) (x : Lis
 
 -- the outcome is that of an accepted step with the effect e, and the areas hold the state that e leaves
 pub record DoneAs (e : Effect) (o : Outcome) (c w r m : List ℕ) : Type 0 where
-  pub outcome : o ≡ Done (e .value) (e .count)
+  pub outcome : Tells o (record { refusal = 0; value = e .value; count = e .count })
   pub areas : Holds c w r m (e .after)
 
 -- the same, and the index is kept

@@ -1,5 +1,8 @@
--- The three numbers that an outcome stands for. Assumes nothing.
+-- What an outcome says: document 01's refusal, value and count for each of its cases. Assumes nothing.
 use Prim.Native.Nat.{ℕ}
+use mathlib.Core.Path.{_≡_}
+use mathlib.Core.Bool.{Bool, true, false}
+use lib.Dec.{eqb}
 use Rattle.rules.specs.Refusals.{Answer}
 use Rattle.acting.specs.declared.Outcome.{Outcome}
 use Rattle.acting.specs.declared.Outcome.the-variants.{Done, Refused}
@@ -22,3 +25,15 @@ outcomeCount (Refused refusal) = 0
 -- the three numbers that an outcome stands for
 unfoldable pub told : Outcome → Answer
 told o = record { refusal = outcomeRefusal o; value = outcomeValue o; count = outcomeCount o }
+
+-- whether it is the case of a step that was done
+unfoldable pub wasDone : Outcome → Bool
+wasDone (Done value count) = true
+wasDone (Refused refusal) = false
+
+-- the outcome tells this answer: its three numbers are the answer's, and its case says whether the step was accepted. No two outcomes tell the
+-- same answer (proofs/)
+pub record Tells (o : Outcome) (a : Answer) : Type 0 where
+  pub numbers : told o ≡ a
+  -- "A step is accepted exactly when its refusal is 0"
+  pub accepted : wasDone o ≡ eqb (a .refusal) 0

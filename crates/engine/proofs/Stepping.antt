@@ -8,10 +8,10 @@ use lib.ListN.{length, take, drop}
 use borrow.Author.Tests.{not-true, not-false, eq-eqb, ne-eqb}
 use borrow.Author.Needs.{needs}
 use Rattle.limits.specs.Sizes.{boundArea, firstBound, indexArea}
-use Rattle.rules.specs.Refusals.{Step, stepOf, Answer, refusedAs, actionOf, effect, refusalInOrder, answerInOrder, nextInOrder, answer}
+use Rattle.rules.specs.Refusals.{Step, stepOf, refusedAs, actionOf, effect, refusalInOrder, answerInOrder, nextInOrder}
 use Rattle.rules.specs.State.{mainframe, State, own}
 use Rattle.rules.proofs.Kept.{next-keeps-order}
-use Rattle.memory.specs.Areas.{stateIn, Areas, areas, heldBy, holding, rightSizes}
+use Rattle.memory.specs.Areas.{stateIn, areas, holding}
 use Rattle.memory.specs.Needed.{Ready, OwnEntry, ClocksOf}
 use Rattle.memory.proofs.Encoding.{held-again, holding-is}
 use Rattle.refusals.specs.Bounds.{boundsOf}
@@ -22,23 +22,9 @@ use Rattle.refusals.proofs.Refusing.{counted-when-ready, table-decides, refusal
 use Rattle.collecting.specs.Needed.{ReadyKept}
 use Rattle.acting.specs.declared.Outcome.{Outcome}
 use Rattle.acting.specs.declared.Outcome.the-variants.{Refused}
-use Rattle.acting.specs.Telling.{told}
-use Rattle.acting.specs.Outcomes.{outcomeOf}
 use Rattle.acting.specs.Needed.{DoneAs, DoneKept}
-use Rattle.acting.proofs.Telling.{told-refused, told-in-state}
-use Rattle.engine.specs.Promises.{answerOf}
+use Rattle.acting.proofs.Telling.{refused-tells}
 use Rattle.engine.specs.Needed.{RefusalIs, Refusable, RefusalBy, SteppedAs, SteppedKept}
-
--- ---- an outcome tells the answer of its step
-
--- in areas of any sizes and contents: the refusal, value and count of the outcome are those of the answer
-pub outcome-tells : (a : Areas) (t : Step) → told (outcomeOf (answerOf a t)) ≡ answerOf a t
-unfolding answerOf
-outcome-tells a t = go (rightSizes a)
-  where
-    go : (b : Bool) → told (outcomeOf (cond b (answer mainframe (heldBy a) t) (refusedAs 1))) ≡ cond b (answer mainframe (heldBy a) t) (refusedAs 1)
-    go true = told-in-state mainframe (heldBy a) t
-    go false = told-refused 1
 
 -- ---- refused, or done
 
@@ -58,10 +44,6 @@ module _ (s : State) (t : Step) (n : ℕ) (e : n ≡ refusalInOrder mainframe s 
   done-next : n ≡ 0 → nextInOrder mainframe s t ≡ effect mainframe s (t .processor) (actionOf t) .after
   unfolding nextInOrder
   done-next z = rw (← e, eq-eqb n 0 z)
-
-refused-outcome : (n : ℕ) → (n ≡ 0 → ⊥) → Refused n ≡ outcomeOf (refusedAs n)
-unfolding outcomeOf refusedAs
-refused-outcome n z = rw (ne-eqb n 0 z)
 
 -- ---- the refusal by the bounds, the own entry and the marks
 
@@ -137,17 +119,17 @@ module _ (c w r m : List ℕ) (k p o v n : ℕ) (h : Ready c w r m) (e : Refusal
   refused-as : (n ≡ 0 → ⊥) → SteppedAs (stateIn mainframe c w r m) (stepOf k p o v) (Refused n) c w r m
   refused-as z =
       record {
-        outcome = refused-outcome n z ∙ ap (λ (a : Answer). outcomeOf a) (sym (refused-answer (stateIn mainframe c w r m) (stepOf k p o v) n (e .is) z));
+        outcome = rw (refused-answer (stateIn mainframe c w r m) (stepOf k p o v) n (e .is) z) (refused-tells n z);
         areas = record { lent = h .lent; is = sym (refused-next (stateIn mainframe c w r m) (stepOf k p o v) n (e .is) z) };
       }
 
   done-as : (x : Outcome) (c′ w′ r′ m′ : List ℕ) → n ≡ 0
       → DoneAs (effect mainframe (stateIn mainframe c w r m) p (actionOf (stepOf k p o v))) x c′ w′ r′ m′
       → SteppedAs (stateIn mainframe c w r m) (stepOf k p o v) x c′ w′ r′ m′
-  unfolding outcomeOf stepOf
+  unfolding stepOf
   done-as x c′ w′ r′ m′ z d =
       record {
-        outcome = d .outcome ∙ ap (λ (a : Answer). outcomeOf a) (sym (done-answer (stateIn mainframe c w r m) (stepOf k p o v) n (e .is) z));
+        outcome = rw (done-answer (stateIn mainframe c w r m) (stepOf k p o v) n (e .is) z) (d .outcome);
         areas = record { lent = d .areas .lent; is = d .areas .is ∙ sym (done-next (stateIn mainframe c w r m) (stepOf k p o v) n (e .is) z) };
       }
 

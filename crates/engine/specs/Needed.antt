@@ -12,7 +12,7 @@ use Rattle.refusals.specs.Bounds.{boundsOf}
 use Rattle.refusals.specs.Needed.{Counted}
 use Rattle.index.specs.Index.{IndexKept}
 use Rattle.acting.specs.declared.Outcome.{Outcome}
-use Rattle.acting.specs.Outcomes.{outcomeOf}
+use Rattle.acting.specs.Telling.{Tells}
 
 -- n is the first row from 3 to 10 that refuses the step t, or 0
 pub record RefusalIs (s : State) (t : Step) (n : ℕ) : Type 0 where
@@ -31,7 +31,7 @@ pub record RefusalBy (c m : List ℕ) (t : Step) (n : ℕ) : Type 0 where
 
 -- the outcome is that of the step t on the state s in order, and the areas hold the state that t leaves
 pub record SteppedAs (s : State) (t : Step) (o : Outcome) (c w r m : List ℕ) : Type 0 where
-  pub outcome : o ≡ outcomeOf (answerInOrder mainframe s t)
+  pub outcome : Tells o (answerInOrder mainframe s t)
   pub areas : Holds c w r m (nextInOrder mainframe s t)
 
 -- the same, and the index is kept

@@ -6,7 +6,7 @@ ghost use Rattle.rules.specs.Refusals.{stepOf};
 ghost use Rattle.memory.specs.Areas.{stateIn, areas};
 ghost use Rattle.memory.specs.Needed.{Ready};
 ghost use Rattle.collecting.specs.Needed.{ReadyKept};
-ghost use Rattle.acting.specs.Outcomes.{outcomeOf};
+ghost use Rattle.acting.specs.Telling.{Tells};
 ghost use Rattle.engine.specs.Promises.{answerOf, areasAfter};
 ghost use Rattle.engine.specs.Needed.{Refusable, RefusalBy, SteppedAs, SteppedKept};
 use acting::Outcome;
@@ -26,7 +26,7 @@ pub fn step(
     records: &mut [u8],
     marks: &mut [u8],
 ) -> Outcome
-    ensures answer { λ r. ⌜ r ≡ outcomeOf (answerOf (areas (now (clocks .entry)) (now (words .entry)) (now (records .entry)) (now (marks .entry))) (stepOf kind processor object value)) ⌝ }
+    ensures answer { λ r. ⌜ Tells r (answerOf (areas (now (clocks .entry)) (now (words .entry)) (now (records .entry)) (now (marks .entry))) (stepOf kind processor object value)) ⌝ }
     ensures memory { λ r. ⌜ areas (now (clocks .exit)) (now (words .exit)) (now (records .exit)) (now (marks .exit)) ≡ areasAfter (areas (now (clocks .entry)) (now (words .entry)) (now (records .entry)) (now (marks .entry))) (stepOf kind processor object value) ⌝ }
 {
     if !checking::in_order(clocks, words, records, marks) {

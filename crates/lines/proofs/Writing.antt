@@ -14,7 +14,7 @@ use borrow.Author.Tests.{leb-true, leb-false, not-true, not-false, le-leb, lt-le
 use borrow.Author.Needs.{needs}
 use Rattle.limits.specs.Limits.{lineLimit}
 use Rattle.lines.specs.Decimal.{digits}
-use Rattle.lines.specs.Lines.{lineBytes, lineFits, lineAnswer, lineLeft}
+use Rattle.lines.specs.Lines.{lineBytes, lineFits, lineAnswer, placeSaid, lineLeft}
 use Rattle.lines.specs.Needed.{Room, DigitsFit, PairFits, Put, pairBytes, fieldBytes, halfBytes}
 use Rattle.lines.specs.declared.Placed.the-variants.{End, NoRoom}
 use Rattle.lines.proofs.Digits.{digits-one, digits-two, digits-pair-more, length-two, length-pair-more, length-four-more, at-most-ten-digits}
@@ -218,8 +218,8 @@ module _ (bytes at : ℕ) where
 
 -- `line_into` by what `line_fits` says
 module _ (out : List ℕ) (at number refusal value count : ℕ) (r : Bool) (is : r ≡ lineFits (length out) at) where
-  pub no-room-answered : not r ≡ true → NoRoom ≡ lineAnswer out at number refusal value count
-  unfolding lineAnswer
+  pub no-room-answered : not r ≡ true → placeSaid NoRoom ≡ lineAnswer out at number refusal value count
+  unfolding lineAnswer placeSaid
   no-room-answered h = rw (sym is ∙ not-true r h)
 
   pub no-room-untouched : not r ≡ true → out ≡ lineLeft out at number refusal value count
@@ -227,8 +227,8 @@ module _ (out : List ℕ) (at number refusal value count : ℕ) (r : Bool) (is :
   no-room-untouched h = rw (sym is ∙ not-true r h)
 
   module _ (h : not r ≡ false) where
-    pub end-answered : (end : ℕ) → end ≡ at + length (lineBytes number refusal value count) → End end ≡ lineAnswer out at number refusal value count
-    unfolding lineAnswer
+    pub end-answered : (end : ℕ) → end ≡ at + length (lineBytes number refusal value count) → placeSaid (End end) ≡ lineAnswer out at number refusal value count
+    unfolding lineAnswer placeSaid
     end-answered end e = rw (sym is ∙ not-false r h, e)
 
     pub line-left : (out′ : List ℕ) → out′ ≡ sets out at (lineBytes number refusal value count) → out′ ≡ lineLeft out at number refusal value count

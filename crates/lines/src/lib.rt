@@ -5,7 +5,7 @@ ghost use lib.ListN.{length};
 ghost use lib.Seq.{sets};
 ghost use Rattle.limits.specs.Limits.{lineLimit};
 ghost use Rattle.lines.specs.Decimal.{digits};
-ghost use Rattle.lines.specs.Lines.{lineBytes, lineFits, lineAnswer, lineLeft};
+ghost use Rattle.lines.specs.Lines.{lineBytes, lineFits, lineAnswer, placeSaid, lineLeft};
 ghost use Rattle.lines.specs.Needed.{Room, DigitsFit, PairFits, Put, pairBytes, fieldBytes, halfBytes, Eight, Counted, Countable, EightFit, ShortFits, behindNumber};
 use limits::LINE_LIMIT;
 
@@ -24,7 +24,7 @@ pub fn line_into(
     value: u32,
     count: u32,
 ) -> Placed
-    ensures answer { λ r. ⌜ r ≡ lineAnswer (now (out .entry)) at number refusal value count ⌝ }
+    ensures answer { λ r. ⌜ placeSaid r ≡ lineAnswer (now (out .entry)) at number refusal value count ⌝ }
     ensures memory { λ r. ⌜ now (out .exit) ≡ lineLeft (now (out .entry)) at number refusal value count ⌝ }
 {
     if !line_fits(out.len(), at) {

@@ -1,7 +1,9 @@
 -- What the functions of this crate say of one another. Assumes nothing.
-use Prim.Native.Nat.{ℕ}
+use Prim.Native.Nat.{ℕ, _+_}
 use mathlib.Core.Path.{_≡_}
 use mathlib.Core.List.{List, [], _∷_}
+use Rattle.writer.specs.declared.Written.{Written}
+use Rattle.writer.specs.declared.Written.the-variants.{Length, Refused}
 use Rattle.acting.specs.Telling.{outcomeRefusal, told}
 use Rattle.acting.specs.declared.Outcome.{Outcome}
 use Rattle.records.specs.Records.{answerWords}
@@ -10,3 +12,8 @@ use Rattle.records.specs.Records.{answerWords}
 pub record ToldAs (o : Outcome) (n : ℕ) (out : List ℕ) : Type 0 where
   pub returned : n ≡ outcomeRefusal o
   pub laid : out ≡ answerWords (told o ∷ [])
+
+-- a length, or 256 + a refusal
+unfoldable pub writtenNumber : Written → ℕ
+writtenNumber (Length n) = n
+writtenNumber (Refused n) = 256 + n

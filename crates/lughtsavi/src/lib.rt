@@ -1,6 +1,6 @@
 // The engine and the diffs for callers in C and Rust: functions on numbers and slices, declared for C in include/lughtsavi.h.
 // None has a `requires`: each refuses instead. Every contract determines the answer and what each lent slice holds afterwards,
-// by an equation with a definition of the crate that does the work, or of specs/Numbers.antt where an enum is turned into numbers.
+// by an equation with a definition of the crate that does the work, or of specs/Numbers.antt.
 ghost use mathlib.Core.Path.{_≡_};
 ghost use mathlib.Core.List.{_∷_, []};
 ghost use Prim.Native.Nat.{_<_};
@@ -14,8 +14,8 @@ ghost use Rattle.memory.specs.Areas.{areas};
 ghost use Rattle.checking.specs.Areas.{areasInOrder};
 ghost use Rattle.opening.specs.Promises.{openRefusal, areasOpened};
 ghost use Rattle.running.specs.Runs.{Ran};
-ghost use Rattle.lughtsavi.specs.Numbers.{stepReturn, slices, slicesAfter, writtenNumber};
-ghost use Rattle.lughtsavi.specs.Needed.{ToldAs};
+ghost use Rattle.lughtsavi.specs.Numbers.{stepReturn, slices, slicesAfter, writeReturn};
+ghost use Rattle.lughtsavi.specs.Needed.{ToldAs, writtenNumber};
 use acting::Outcome;
 use writer::Written;
 
@@ -128,7 +128,7 @@ pub extern "C" fn lughtsavi_run(
 // Writes what turns the page `old` into the page `new` as a diff at the start of `out`: its length in bytes, or 256 + the refusal.
 #[no_mangle]
 pub extern "C" fn lughtsavi_diff_write(old: &[u32], new: &[u32], out: &mut [u8]) -> u32
-    ensures answer { λ r. ⌜ r ≡ writtenNumber (writeAnswer pageWidth (now (old .entry)) (now (new .entry)) (now (out .entry))) ⌝ }
+    ensures answer { λ r. ⌜ r ≡ writeReturn (writeAnswer pageWidth (now (old .entry)) (now (new .entry)) (now (out .entry))) ⌝ }
     ensures memory { λ r. ⌜ now (out .exit) ≡ outAfter pageWidth (now (old .entry)) (now (new .entry)) (now (out .entry)) ⌝ }
 {
     let written = writer::write(old, new, out);

@@ -19,7 +19,7 @@ use Rattle.engine.specs.Promises.{answerOf, areasAfter}
 use Rattle.checking.specs.Areas.{OrderIs}
 use Rattle.engine.specs.Needed.{SteppedAs}
 use Rattle.engine.proofs.Answering.{in-order-after, in-order-answered, out-of-order, out-of-order-untouched, ready-when-fine}
-use Rattle.engine.proofs.Stepping.{outcome-tells, stepped-ready}
+use Rattle.engine.proofs.Stepping.{stepped-ready}
 use Rattle.records.specs.Records.{stepFrom}
 use Rattle.lines.specs.Lines.{lineBytes}
 use Rattle.taking.specs.Records.{openingTaken, recordTaken, refusalLine, stepTaken, tooManyTaken}
@@ -40,7 +40,7 @@ module _ (t : Step) (c w r m : List ℕ) where
   pub answered-out-of-order : OrderIs false c w r m → Answered t c w r m (Refused 1) false c w r m
   answered-out-of-order h =
       record {
-        outcome = ap (λ (o : Outcome). told o) (out-of-order c w r m false h t refl) ∙ outcome-tells (areas c w r m) t;
+        outcome = out-of-order c w r m false h t refl .numbers;
         left = out-of-order-untouched c w r m false h t refl;
         order = h;
       }
@@ -49,7 +49,7 @@ module _ (t : Step) (c w r m : List ℕ) where
       → Answered t c w r m o true c′ w′ r′ m′
   answered-in-order h o c′ w′ r′ m′ d =
       record {
-        outcome = ap (λ (x : Outcome). told x) (in-order-answered c w r m true h refl t o c′ w′ r′ m′ d) ∙ outcome-tells (areas c w r m) t;
+        outcome = in-order-answered c w r m true h refl t o c′ w′ r′ m′ d .numbers;
         left = in-order-after c w r m true h refl t o c′ w′ r′ m′ d;
         order = ready-order c′ w′ r′ m′ (stepped-ready c w r m t o c′ w′ r′ m′ (ready-when-fine c w r m true h refl) d);
       }

@@ -3,6 +3,7 @@ use Prim.Native.Nat.{ℕ, _+_, _-_, _*_, _≤_, _<_}
 use native.Mathlib.Omega.{arith}
 use mathlib.Core.Path.{_≡_, refl, sym, _∙_}
 use mathlib.Core.Bool.{Bool, true, false, cond}
+use mathlib.Core.Option.{Option, none, some}
 use mathlib.Core.List.{List, [], _∷_}
 use lib.ListN.{length, getD, take, drop}
 use lib.Dec.{eqb}
@@ -12,7 +13,7 @@ use Rattle.limits.specs.Limits.{pageWidth}
 use Rattle.limits.specs.Sizes.{runLimit}
 use Rattle.diff.specs.Format.{Run}
 use Rattle.diff.specs.Reading.{runCount, mostRuns, runsAt, runsIn, wordsPlace, wordCount, readRefusal}
-use Rattle.reader.specs.Pairs.{pairAmong, pairAt, wordsOf, Readable}
+use Rattle.reader.specs.Pairs.{PairThere, said, pairAmong, pairAt, wordsOf, placeAfter, Readable}
 use Rattle.reader.specs.declared.Pair.{Pair}
 use Rattle.reader.specs.declared.Pair.the-variants.{At, Nothing}
 use Rattle.diff.proofs.Legal.{legal-when-read}
@@ -46,10 +47,10 @@ module _ (bytes : List ℕ) (at n first left words offset len : ℕ) where
   record Next : Type 0 where
     pub count : wordCount (runsAt bytes first left) ≡ len + wordCount (runsAt bytes (first + 2) (left - 1))
     pub among : pairAmong (runsAt bytes first left) first words at
-        ≡ cond (eqb at first) (At offset len words (first + 2)) (pairAmong (runsAt bytes (first + 2) (left - 1)) (first + 2) (words + 4 * len) at)
+        ≡ cond (eqb at first) (said (At offset len words (first + 2))) (pairAmong (runsAt bytes (first + 2) (left - 1)) (first + 2) (words + 4 * len) at)
 
   next : 0 < left → offset ≡ getD bytes first 0 → len ≡ getD bytes (first + 1) 0 → Next
-  unfolding wordCount pairAmong
+  unfolding wordCount pairAmong said
   next more o k = let front = runs-left bytes first left more in record { count = rw (front, k); among = rw (front, o, k) }
 
   -- the words of the next run lie within the bytes
@@ -57,7 +58,7 @@ module _ (bytes : List ℕ) (at n first left words offset len : ℕ) where
   words-there p more o k = omega (arith, p .exact, next more o k .count)
 
   pub pair-found : Finding bytes at n first left words → 0 < left → offset ≡ getD bytes first 0 → len ≡ getD bytes (first + 1) 0 → at ≡ first
-      → At offset len words (first + 2) ≡ pairAmong (runsIn bytes) 1 (wordsPlace bytes) at
+      → said (At offset len words (first + 2)) ≡ pairAmong (runsIn bytes) 1 (wordsPlace bytes) at
   pair-found p more o k e = sym (p .same ∙ next more o k .among ∙ rw (eq-eqb at first e))
 
   pub finding-more : Finding bytes at n first left words → 0 < left → offset ≡ getD bytes first 0 → len ≡ getD bytes (first + 1) 0 → (at ≡ first → ⊥)
@@ -73,32 +74,32 @@ module _ (bytes : List ℕ) (at n first left words offset len : ℕ) where
       }
 
 pub no-pair-left : (bytes : List ℕ) (at n first left words : ℕ) → Finding bytes at n first left words → left ≤ 0
-    → Nothing ≡ pairAmong (runsIn bytes) 1 (wordsPlace bytes) at
-unfolding pairAmong runsAt
-no-pair-left bytes at n first left words p none = let e : left ≡ 0 = omega arith in sym (p .same ∙ rw e)
+    → said Nothing ≡ pairAmong (runsIn bytes) 1 (wordsPlace bytes) at
+unfolding pairAmong runsAt said
+no-pair-left bytes at n first left words p z = let e : left ≡ 0 = omega arith in sym (p .same ∙ rw e)
 
 -- ---- the pair at a place of any byte string
 
 module _ (bytes : List ℕ) (at r : ℕ) (is : r ≡ readRefusal pageWidth bytes) where
-  pub no-diff-no-pair : (r ≡ 0 → ⊥) → Nothing ≡ pairAt pageWidth bytes at
-  unfolding pairAt
+  pub no-diff-no-pair : (r ≡ 0 → ⊥) → said Nothing ≡ pairAt pageWidth bytes at
+  unfolding pairAt said
   no-diff-no-pair h = rw (ne-eqb (readRefusal pageWidth bytes) 0 (rw is at h))
 
   pub readable : r ≡ 0 → Readable bytes
   readable z = record { accepted = sym is ∙ z }
 
-  pub pair-of-diff : (p : Pair) → r ≡ 0 → p ≡ pairAmong (runsIn bytes) 1 (wordsPlace bytes) at → p ≡ pairAt pageWidth bytes at
+  pub pair-of-diff : (p : Pair) → r ≡ 0 → said p ≡ pairAmong (runsIn bytes) 1 (wordsPlace bytes) at → said p ≡ pairAt pageWidth bytes at
   unfolding pairAt
   pair-of-diff p z e = e ∙ rw (eq-eqb (readRefusal pageWidth bytes) 0 (sym is ∙ z))
 
 -- ---- the words of the run at a place
 
 -- where the words of a pair end, if it has any
-abbrev lastWord : Pair → ℕ
-lastWord (At offset len words next) = words + 4 * len
-lastWord Nothing = 0
+abbrev lastWord : Option PairThere → ℕ
+lastWord (some p) = p .words + 4 * p .len
+lastWord none = 0
 
-pick-below : (t : Bool) (p q : Pair) (m : ℕ) → lastWord p ≤ m → lastWord q ≤ m → lastWord (cond t p q) ≤ m
+pick-below : (t : Bool) (p q : Option PairThere) (m : ℕ) → lastWord p ≤ m → lastWord q ≤ m → lastWord (cond t p q) ≤ m
 pick-below true p q m h k = h
 pick-below false p q m h k = k
 
@@ -112,24 +113,36 @@ pair-within : (bytes : List ℕ) (at : ℕ) → lastWord (pairAt pageWidth bytes
 unfolding pairAt
 pair-within bytes at = go (eqb (readRefusal pageWidth bytes) 0) refl
   where
-    go : (t : Bool) → eqb (readRefusal pageWidth bytes) 0 ≡ t → lastWord (cond t (pairAmong (runsIn bytes) 1 (wordsPlace bytes) at) Nothing) ≤ length bytes
+    go : (t : Bool) → eqb (readRefusal pageWidth bytes) 0 ≡ t → lastWord (cond t (pairAmong (runsIn bytes) 1 (wordsPlace bytes) at) none) ≤ length bytes
     go true e = among-within (runsIn bytes) 1 (wordsPlace bytes) at (length bytes) (omega (arith, legal-when-read pageWidth bytes (eqb-true _ _ e) .exact))
     go false e = omega arith
 
-module _ (bytes : List ℕ) (at : ℕ) (p : Pair) (is : p ≡ pairAt pageWidth bytes at) where
+module _ (bytes : List ℕ) (at : ℕ) (p : Pair) (is : said p ≡ pairAt pageWidth bytes at) where
   pub nothing-handed-out : p ≡ Nothing → [] ≡ wordsOf (pairAt pageWidth bytes at) bytes
-  unfolding wordsOf
+  unfolding wordsOf said
   nothing-handed-out e = rw (← is, e)
 
   module _ (offset len words next : ℕ) (there : p ≡ At offset len words next) where
     pub run-within : words + 4 * len ≤ length bytes
+    unfolding said
     run-within = rw (← is, there) at (pair-within bytes at)
 
     pub run-handed-out : (part : List ℕ) → part ≡ take (4 * len) (drop words bytes) → part ≡ wordsOf (pairAt pageWidth bytes at) bytes
-    unfolding wordsOf
+    unfolding wordsOf said
     run-handed-out part e = e ∙ rw (← is, there)
 
 pub part-of : (bytes : List ℕ) (words len : ℕ) → take (words + 4 * len - words) (drop words bytes) ≡ take (4 * len) (drop words bytes)
 part-of bytes words len = let e : words + 4 * len - words ≡ 4 * len = omega arith in rw e
 
-pub ruleset pair-laws = (finding-begins, has-first-byte, words-there, pair-found, finding-more, no-pair-left, no-diff-no-pair, readable, pair-of-diff, nothing-handed-out, run-within, run-handed-out, part-of, needs)
+-- ---- the place behind a pair
+
+module _ (p : Pair) (at : ℕ) where
+  pub next-place : (offset len words next : ℕ) → p ≡ At offset len words next → next ≡ placeAfter (said p) at
+  unfolding placeAfter said
+  next-place offset len words next there = rw there
+
+  pub same-place : p ≡ Nothing → at ≡ placeAfter (said p) at
+  unfolding placeAfter said
+  same-place none-there = rw none-there
+
+pub ruleset pair-laws = (finding-begins, has-first-byte, words-there, pair-found, finding-more, no-pair-left, no-diff-no-pair, readable, pair-of-diff, nothing-handed-out, run-within, run-handed-out, part-of, next-place, same-place, needs)

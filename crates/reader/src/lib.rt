@@ -5,7 +5,7 @@ ghost use Prim.Native.Nat.{_+_, _*_, _<_, _≤_};
 ghost use lib.ListN.{length, take, drop};
 ghost use Rattle.limits.specs.Limits.{pageWidth};
 ghost use Rattle.diff.specs.Reading.{runsIn, wordsPlace};
-ghost use Rattle.reader.specs.Pairs.{pairAmong, pairAt, wordsOf, Readable};
+ghost use Rattle.reader.specs.Pairs.{said, pairAmong, pairAt, wordsOf, placeAfter, moved, Readable};
 use diff::check;
 
 // What stands at a place of a diff: a run's offset and length in words, where its words stand, and the next pair's place.
@@ -21,7 +21,7 @@ pub enum Pair {
 
 // The pair at a place of a diff, or that there is none.
 pub fn pair_at(bytes: &[u8], at: usize) -> Pair
-    ensures { λ r. ⌜ r ≡ pairAt pageWidth (now (bytes .entry)) at ⌝ }
+    ensures { λ r. ⌜ said r ≡ pairAt pageWidth (now (bytes .entry)) at ⌝ }
 {
     if check(bytes) != 0 {
         return Pair::Nothing;
@@ -32,7 +32,7 @@ pub fn pair_at(bytes: &[u8], at: usize) -> Pair
 // The same where the bytes are known to be a diff.
 fn find_pair(bytes: &[u8], at: usize) -> Pair
     requires { ⌜ Readable (now bytes) ⌝ }
-    ensures { λ r. ⌜ r ≡ pairAmong (runsIn (now (bytes .entry))) 1 (wordsPlace (now (bytes .entry))) at ⌝ }
+    ensures { λ r. ⌜ said r ≡ pairAmong (runsIn (now (bytes .entry))) 1 (wordsPlace (now (bytes .entry))) at ⌝ }
 {
     let n = wide(bytes[0]);
     let mut first: usize = 1;
@@ -69,18 +69,29 @@ pub fn stand<'a>(bytes: &'a [u8], at: usize) -> Reader<'a>
     Reader { bytes, at }
 }
 
-// The pair at which a reader stands, with the place of the next, or that there is none.
-pub fn next<'a>(r: Reader<'a>) -> Pair
-    ensures { λ p. ⌜ p ≡ pairAt pageWidth (now (r .entry .bytes)) (r .entry .at) ⌝ }
+// The pair at which a reader stands, or that there is none; the reader moves on to the next.
+pub fn next<'s, 'a>(r: &'s mut Reader<'a>) -> Pair
+    ensures { λ p. ⌜ (said p ≡ pairAt pageWidth (now (now (r .entry) .bytes)) (now (r .entry) .at)) × (now (r .exit) ≡ moved (now (r .entry))) ⌝ }
 {
-    pair_at(r.bytes, r.at)
+    let at = r.at;
+    let pair = pair_at(r.bytes, at);
+    r.at = place_after(pair, at);
+    pair
 }
 
-// The same on plain parameters, for every other caller.
-pub fn read_pair(bytes: &[u8], at: usize) -> Pair
-    ensures { λ r. ⌜ r ≡ pairAt pageWidth (now (bytes .entry)) at ⌝ }
+// The place behind a pair; where there is none, the place itself.
+fn place_after(pair: Pair, at: usize) -> usize
+    ensures { λ r. ⌜ r ≡ placeAfter (said pair) at ⌝ }
 {
-    next(stand(bytes, at))
+    match pair {
+        Pair::At {
+            offset: _,
+            len: _,
+            words: _,
+            next,
+        } => next,
+        Pair::Nothing => at,
+    }
 }
 
 // The words of the run at a place, as that part of the caller's bytes; no bytes where there is no pair.

@@ -18,7 +18,6 @@ use Rattle.index.proofs.Kept.{new-kept}
 use Rattle.collecting.specs.Needed.{ReadyKept}
 use Rattle.acting.specs.declared.Outcome.{Outcome}
 use Rattle.acting.specs.Telling.{told}
-use Rattle.acting.proofs.Telling.{told-in-order}
 use Rattle.engine.specs.Needed.{SteppedKept}
 use Rattle.records.specs.Records.{stepFrom, stepsIn, answerWords}
 use Rattle.records.specs.Needed.{StepThere}
@@ -38,7 +37,7 @@ step-laid bs i s y out out′ c w r m x k l =
       laid =
           l .is
           ∙ ap (λ (a : Answer). sets out (3 * i) (answerWords (a ∷ [])))
-          (ap (λ (z : Outcome). told z) (d .outcome) ∙ told-in-order mainframe s (stepFrom (drop (fileRecordWidth * i) bs)));
+          (d .outcome .numbers);
       areas = d .areas;
       kept = k .kept;
     }

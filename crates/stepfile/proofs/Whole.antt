@@ -28,7 +28,7 @@ use Rattle.stepfile.specs.Files.{answerLines, stepCount, endLine, opened
 use Rattle.stepfile.specs.Feeding.{begun, after, lastLine}
 use Rattle.stepfile.specs.Promises.{progressOf, finishLine, Reached}
 use Rattle.stepfile.specs.declared.Progress.{Progress}
-use Rattle.stepfile.proofs.Carried.{Carried, opened-carried, next-carried, carried-answer, carried-after}
+use Rattle.engine.proofs.Carried.{Carried, opened-carried, next-carried, carried-answer, carried-after}
 
 -- ---- what stands between two records, and the lines at the end
 

@@ -18,10 +18,11 @@ use borrow.Author.Needs.{needs}
 use borrow.Author.Tests.{eq-eqb, ne-eqb, lt-ltb, le-ltb}
 use Rattle.limits.specs.Limits.{pageWidth}
 use Rattle.diff.specs.Format.{Run, difference, ended, runsFrom, runs, setWords, pairBytes, wordBytes, wordsBytes, bytesOf, written}
-use Rattle.writer.specs.Answers.{writeRefusal, writeAnswer, outAfter}
+use Rattle.writer.specs.Answers.{writeRefusal, writeAnswer, Says, outAfter}
 use Rattle.writer.specs.Masks.{maskOf, keptFirst, setFirst, withoutFirst, picked}
 use Rattle.writer.specs.Needed.{PagesWhole, RoomForWritten, RoomForDiff, RoomForWords, MaskFits, RoomForPair}
 use Rattle.writer.specs.declared.Written.the-variants.{Length, Refused}
+use Rattle.writer.proofs.Saying.{length-said, refusal-said}
 use Rattle.diff.proofs.Words.{length-pair-bytes}
 use Rattle.diff.proofs.Legal.{length-bytes}
 use Rattle.diff.proofs.Theorems.{length-difference}
@@ -366,18 +367,18 @@ module _ (old new out : List ℕ) (bytes : ℕ) (p : RoomForWritten old new out 
 -- ---- the refusals of `write`
 
 module _ (old new out : List ℕ) where
-  pub old-length-refused : (length old ≡ pageWidth → ⊥) → Refused 14 ≡ writeAnswer pageWidth old new out
+  pub old-length-refused : (length old ≡ pageWidth → ⊥) → Says (Refused 14) (writeAnswer pageWidth old new out)
   unfolding writeAnswer writeRefusal
-  old-length-refused h = rw (ne-eqb _ _ h)
+  old-length-refused h = rw (ne-eqb _ _ h) (refusal-said 14 (λ e. omega (arith, e)))
 
   pub old-length-untouched : (length old ≡ pageWidth → ⊥) → out ≡ outAfter pageWidth old new out
   unfolding outAfter writeRefusal
   old-length-untouched h = rw (ne-eqb _ _ h)
 
   module _ (old-whole : length old ≡ pageWidth) where
-    pub new-length-refused : (length new ≡ pageWidth → ⊥) → Refused 14 ≡ writeAnswer pageWidth old new out
+    pub new-length-refused : (length new ≡ pageWidth → ⊥) → Says (Refused 14) (writeAnswer pageWidth old new out)
     unfolding writeAnswer writeRefusal
-    new-length-refused h = rw (eq-eqb _ _ old-whole, ne-eqb _ _ h)
+    new-length-refused h = rw (eq-eqb _ _ old-whole, ne-eqb _ _ h) (refusal-said 14 (λ e. omega (arith, e)))
 
     pub new-length-untouched : (length new ≡ pageWidth → ⊥) → out ≡ outAfter pageWidth old new out
     unfolding outAfter writeRefusal
@@ -391,9 +392,9 @@ module _ (old new out : List ℕ) where
       unfolding written
       long = length-bytes (difference old new) ∙ rw (counted, worded)
 
-      pub out-too-short : length out < 1 + 2 * count + 4 * words → Refused 13 ≡ writeAnswer pageWidth old new out
+      pub out-too-short : length out < 1 + 2 * count + 4 * words → Says (Refused 13) (writeAnswer pageWidth old new out)
       unfolding writeAnswer writeRefusal
-      out-too-short h = rw (eq-eqb _ _ old-whole, eq-eqb _ _ new-whole, long, lt-ltb _ _ h)
+      out-too-short h = rw (eq-eqb _ _ old-whole, eq-eqb _ _ new-whole, long, lt-ltb _ _ h) (refusal-said 13 (λ e. omega (arith, e)))
 
       pub out-untouched : length out < 1 + 2 * count + 4 * words → out ≡ outAfter pageWidth old new out
       unfolding outAfter writeRefusal
@@ -402,9 +403,9 @@ module _ (old new out : List ℕ) where
       pub room-for-written : 1 + 2 * count + 4 * words ≤ length out → RoomForWritten old new out (1 + 2 * count + 4 * words)
       room-for-written h = record { whole = pages-whole new-whole; is = sym long; room = h }
 
-      pub length-answered : 1 + 2 * count + 4 * words ≤ length out → Length (1 + 2 * count + 4 * words) ≡ writeAnswer pageWidth old new out
+      pub length-answered : 1 + 2 * count + 4 * words ≤ length out → Says (Length (1 + 2 * count + 4 * words)) (writeAnswer pageWidth old new out)
       unfolding writeAnswer writeRefusal
-      length-answered h = rw (eq-eqb _ _ old-whole, eq-eqb _ _ new-whole, long, le-ltb _ _ h)
+      length-answered h = rw (eq-eqb _ _ old-whole, eq-eqb _ _ new-whole, long, le-ltb _ _ h) (length-said (1 + 2 * count + 4 * words))
 
       pub diff-left : (out′ : List ℕ) → 1 + 2 * count + 4 * words ≤ length out → out′ ≡ sets out 0 (written old new) → out′ ≡ outAfter pageWidth old new out
       unfolding outAfter writeRefusal

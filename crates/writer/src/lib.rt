@@ -10,7 +10,7 @@ ghost use lib.Count.{trailingZeros};
 ghost use Rattle.limits.specs.Limits.{pageWidth};
 ghost use Rattle.limits.specs.Sizes.{runLimit};
 ghost use Rattle.diff.specs.Format.{difference, ended, runs, setWords, pairBytes, wordBytes, wordsBytes, written};
-ghost use Rattle.writer.specs.Answers.{writeAnswer, outAfter};
+ghost use Rattle.writer.specs.Answers.{writeAnswer, Says, outAfter};
 ghost use Rattle.writer.specs.Needed.{PagesWhole, RoomForWritten, RoomForDiff, RoomForWords, MaskFits, RoomForPair};
 ghost use Rattle.writer.specs.Masks.{maskOf};
 use limits::PAGE_WIDTH;
@@ -23,7 +23,7 @@ pub enum Written {
 
 // Writes what turns the page `old` into the page `new` as a diff at the start of `out`.
 pub fn write(old: &[u32], new: &[u32], out: &mut [u8]) -> Written
-    ensures answer { λ r. ⌜ r ≡ writeAnswer pageWidth (now (old .entry)) (now (new .entry)) (now (out .entry)) ⌝ }
+    ensures answer { λ r. ⌜ Says r (writeAnswer pageWidth (now (old .entry)) (now (new .entry)) (now (out .entry))) ⌝ }
     ensures memory { λ r. ⌜ now (out .exit) ≡ outAfter pageWidth (now (old .entry)) (now (new .entry)) (now (out .entry)) ⌝ }
 {
     if old.len() != PAGE_WIDTH {
