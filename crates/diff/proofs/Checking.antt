@@ -9,10 +9,10 @@ use lib.Dec.{leb, eqb}
 use borrow.Author.Needs.{needs}
 use borrow.Author.Tests.{leb-true, lt-leb, le-leb, lt-ltb, le-ltb, eq-eqb, ne-eqb, not-true, not-false}
 use Rattle.limits.specs.Limits.{pageWidth}
-use Rattle.limits.specs.Sizes.{runLimit}
+use Rattle.limits.specs.inner.Sizes.{runLimit}
 use Rattle.diff.specs.Format.{Run}
 use Rattle.diff.specs.Reading.{runCount, mostRuns, runsAt, runsIn, wordsPlace, wordCount, pairHolds, orderly, pairsRefusal, readRefusal}
-use Rattle.diff.specs.Needed.{PairsThere}
+use Rattle.diff.specs.inner.Needed.{PairsThere}
 
 -- ---- one pair
 

@@ -8,24 +8,24 @@ use mathlib.Core.List.{List}
 use lib.ListN.{length}
 use borrow.Author.Tests.{not-false}
 use borrow.Author.Needs.{needs}
-use Rattle.limits.specs.Sizes.{markArea}
+use Rattle.limits.specs.inner.Sizes.{markArea}
 use Rattle.rules.specs.InOrder.{inOrder}
 use Rattle.rules.specs.Refusals.{Step, refusedAs, answerInOrder, nextInOrder, answer, next}
 use Rattle.rules.specs.State.{mainframe, State}
-use Rattle.rules.proofs.InOrderSays.{in-order-says}
-use Rattle.memory.specs.Areas.{stateIn, sizesRight, areas, heldBy, holding, rightSizes}
-use Rattle.memory.specs.Needed.{Ready}
-use Rattle.memory.proofs.Encoding.{right-lent, held-again, holding-is}
-use Rattle.checking.specs.Areas.{areasInOrder, OrderIs}
-use Rattle.index.specs.Index.{unranked}
-use Rattle.index.proofs.Kept.{new-kept}
-use Rattle.collecting.specs.Needed.{ReadyKept}
-use Rattle.acting.specs.declared.Outcome.{Outcome}
-use Rattle.acting.specs.declared.Outcome.the-variants.{Refused}
-use Rattle.acting.specs.Telling.{Tells}
-use Rattle.acting.proofs.Telling.{refused-tells}
+use Rattle.rules.proofs.inorder.InOrderSays.{in-order-says}
+use Rattle.layout.specs.Areas.{stateIn, sizesRight, areas, heldBy, holding, rightSizes}
+use Rattle.layout.specs.inner.Needed.{Ready}
+use Rattle.layout.proofs.Encoding.{right-lent, held-again, holding-is}
+use Rattle.inorder.specs.Areas.{areasInOrder, OrderIs}
+use Rattle.fetch_index.specs.inner.Index.{unranked}
+use Rattle.fetch_index.proofs.Kept.{new-kept}
+use Rattle.step_collect.specs.inner.Needed.{ReadyKept}
+use Rattle.step_act.specs.declared.Outcome.{Outcome}
+use Rattle.step_act.specs.declared.Outcome.the-variants.{Refused}
+use Rattle.step_act.specs.Telling.{Tells}
+use Rattle.step_act.proofs.Telling.{refused-tells}
 use Rattle.engine.specs.Promises.{answerOf, areasAfter}
-use Rattle.engine.specs.Needed.{SteppedAs, SteppedKept}
+use Rattle.engine.specs.inner.Needed.{SteppedAs, SteppedKept}
 
 -- ---- in order or not
 

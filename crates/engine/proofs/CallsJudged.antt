@@ -21,7 +21,7 @@ use Rattle.rules.specs.Refusals.{Step, Answer, answer, next}
 use Rattle.rules.specs.Runs.{answers, stateAfter}
 use Rattle.rules.specs.State.{mainframe, State}
 use Rattle.rules.proofs.DemandThree.{demand-three}
-use Rattle.memory.specs.Areas.{Areas, holding}
+use Rattle.layout.specs.Areas.{Areas, holding}
 use Rattle.opening.specs.Promises.{openingOf, openRefusal, areasOpened}
 use Rattle.opening.proofs.Following.{accepted-opening}
 use Rattle.engine.specs.Promises.{answerOf, areasAfter}

@@ -6,14 +6,14 @@ use lib.ListN.{getD}
 use Rattle.rules.specs.Opening.{Opening, openingRefusal, opened}
 use Rattle.rules.specs.Refusals.{Step, answer, next, refusedAs}
 use Rattle.rules.specs.State.{mainframe, State}
-use Rattle.rules.proofs.Facts.{InOrder}
-use Rattle.rules.proofs.InOrderWhen.{in-order-when}
-use Rattle.rules.proofs.Kept.{next-keeps-order}
-use Rattle.rules.proofs.NobodyArrived.{next-nobody-arrived, opened-nobody-arrived}
-use Rattle.rules.proofs.OpenedInOrder.{opened-in-order, opening-counts}
-use Rattle.memory.specs.Areas.{clockBytes, pageWords, recordBytes, markBytes, areas, heldBy, holding, rightSizes}
-use Rattle.memory.proofs.Encoding.{lent-right}
-use Rattle.memory.proofs.Decoding.{encoded-lent, decoded}
+use Rattle.rules.proofs.inorder.Facts.{InOrder}
+use Rattle.rules.proofs.inorder.InOrderWhen.{in-order-when}
+use Rattle.rules.proofs.inorder.Kept.{next-keeps-order}
+use Rattle.rules.proofs.order.NobodyArrived.{next-nobody-arrived, opened-nobody-arrived}
+use Rattle.rules.proofs.inorder.OpenedInOrder.{opened-in-order, opening-counts}
+use Rattle.layout.specs.Areas.{clockBytes, pageWords, recordBytes, markBytes, areas, heldBy, holding, rightSizes}
+use Rattle.layout.proofs.Encoding.{lent-right}
+use Rattle.layout.proofs.Decoding.{encoded-lent, decoded}
 use Rattle.engine.specs.Promises.{answerOf, areasAfter}
 
 -- a state in order in which nobody's arrived mark, which is laid out nowhere, is 0

@@ -7,24 +7,24 @@ use mathlib.Core.List.{List}
 use lib.ListN.{length, take, drop}
 use borrow.Author.Tests.{not-true, not-false, eq-eqb, ne-eqb}
 use borrow.Author.Needs.{needs}
-use Rattle.limits.specs.Sizes.{boundArea, firstBound, indexArea}
+use Rattle.limits.specs.inner.Sizes.{boundArea, firstBound, indexArea}
 use Rattle.rules.specs.Refusals.{Step, stepOf, refusedAs, actionOf, effect, refusalInOrder, answerInOrder, nextInOrder}
 use Rattle.rules.specs.State.{mainframe, State, own}
-use Rattle.rules.proofs.Kept.{next-keeps-order}
-use Rattle.memory.specs.Areas.{stateIn, areas, holding}
-use Rattle.memory.specs.Needed.{Ready, OwnEntry, ClocksOf}
-use Rattle.memory.proofs.Encoding.{held-again, holding-is}
-use Rattle.refusals.specs.Bounds.{boundsOf}
-use Rattle.refusals.specs.Parts.{seen, stepFits, earlyRefusal, refusalOfKind}
-use Rattle.refusals.specs.Needed.{Counted, BoundsOf, FittingStep}
+use Rattle.rules.proofs.inorder.Kept.{next-keeps-order}
+use Rattle.layout.specs.Areas.{stateIn, areas, holding}
+use Rattle.layout.specs.inner.Needed.{Ready, OwnEntry, ClocksOf}
+use Rattle.layout.proofs.Encoding.{held-again, holding-is}
+use Rattle.refusals.specs.inner.Bounds.{boundsOf}
+use Rattle.refusals.specs.inner.Parts.{seen, stepFits, earlyRefusal, refusalOfKind}
+use Rattle.refusals.specs.inner.Needed.{Counted, BoundsOf, FittingStep}
 use Rattle.refusals.proofs.Fitting.{bounds-are}
 use Rattle.refusals.proofs.Refusing.{counted-when-ready, table-decides, refusal-in-two, fitting-step}
-use Rattle.collecting.specs.Needed.{ReadyKept}
-use Rattle.acting.specs.declared.Outcome.{Outcome}
-use Rattle.acting.specs.declared.Outcome.the-variants.{Refused}
-use Rattle.acting.specs.Needed.{DoneAs, DoneKept}
-use Rattle.acting.proofs.Telling.{refused-tells}
-use Rattle.engine.specs.Needed.{RefusalIs, Refusable, RefusalBy, SteppedAs, SteppedKept}
+use Rattle.step_collect.specs.inner.Needed.{ReadyKept}
+use Rattle.step_act.specs.declared.Outcome.{Outcome}
+use Rattle.step_act.specs.declared.Outcome.the-variants.{Refused}
+use Rattle.step_act.specs.inner.Needed.{DoneAs, DoneKept}
+use Rattle.step_act.proofs.Telling.{refused-tells}
+use Rattle.engine.specs.inner.Needed.{RefusalIs, Refusable, RefusalBy, SteppedAs, SteppedKept}
 
 -- ---- refused, or done
 

@@ -2,7 +2,7 @@
 -- meanwhile". Assumes nothing.
 use mathlib.Core.List.{List, [], _∷_}
 use Rattle.rules.specs.Refusals.{Step, Answer}
-use Rattle.memory.specs.Areas.{Areas}
+use Rattle.layout.specs.Areas.{Areas}
 use Rattle.engine.specs.Promises.{answerOf, areasAfter}
 
 -- what the calls answer, one after the other

@@ -1,3 +1,3 @@
 pub mod Promises
 pub mod Calls
-pub mod Needed
+pub mod inner

@@ -1,2 +1,2 @@
 pub mod Limits
-pub mod Sizes
+pub mod inner

@@ -11,7 +11,7 @@ use borrow.Author.Needs.{needs}
 use Rattle.limits.specs.Limits.{lineLimit}
 use Rattle.lines.specs.Decimal.{digits}
 use Rattle.lines.specs.Lines.{lineBytes}
-use Rattle.lines.specs.Needed.{Room, Put, fieldBytes, halfBytes, Counted, EightFit, ShortFits, behindNumber}
+use Rattle.lines.specs.inner.Needed.{Room, Put, fieldBytes, halfBytes, Counted, EightFit, ShortFits, behindNumber}
 use Rattle.lines.proofs.Digits.{digits-one, some-digit}
 use Rattle.lines.proofs.Lines.{length-line, sets-append, sets-over}
 use Rattle.lines.proofs.Writing.{put-keeps-length, sets-keep-length}

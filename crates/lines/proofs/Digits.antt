@@ -10,7 +10,7 @@ use lib.ListN.{length, getD, length-append}
 use lib.Dec.{ltb}
 use borrow.Author.Tests.{ltb-true, ltb-false, lt-ltb, le-ltb}
 use Rattle.lines.specs.Decimal.{digitsWithin, digits, valueAfter, valueOf}
-use Rattle.lines.specs.Needed.{pairBytes}
+use Rattle.lines.specs.inner.Needed.{pairBytes}
 
 -- ---- one digit more
 

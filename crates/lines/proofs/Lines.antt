@@ -9,7 +9,7 @@ use lib.Seq.{set-comm, set-set, sets}
 use Rattle.limits.specs.Limits.{lineLimit}
 use Rattle.lines.specs.Decimal.{digitsWithin, digits}
 use Rattle.lines.specs.Lines.{lineBytes}
-use Rattle.lines.specs.Needed.{fieldBytes, halfBytes}
+use Rattle.lines.specs.inner.Needed.{fieldBytes, halfBytes}
 use Rattle.lines.proofs.Digits.{at-most-ten-digits}
 
 -- a line is its two halves, one behind the other

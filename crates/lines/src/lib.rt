@@ -6,7 +6,7 @@ ghost use lib.Seq.{sets};
 ghost use Rattle.limits.specs.Limits.{lineLimit};
 ghost use Rattle.lines.specs.Decimal.{digits};
 ghost use Rattle.lines.specs.Lines.{lineBytes, lineFits, lineAnswer, placeSaid, lineLeft};
-ghost use Rattle.lines.specs.Needed.{Room, DigitsFit, PairFits, Put, pairBytes, fieldBytes, halfBytes, Eight, Counted, Countable, EightFit, ShortFits, behindNumber};
+ghost use Rattle.lines.specs.inner.Needed.{Room, DigitsFit, PairFits, Put, pairBytes, fieldBytes, halfBytes, Eight, Counted, Countable, EightFit, ShortFits, behindNumber};
 use limits::LINE_LIMIT;
 
 // What writing a line answers: the place behind it, or that the longest line would not fit.

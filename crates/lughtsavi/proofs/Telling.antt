@@ -8,14 +8,14 @@ use lib.ListN.{length, set}
 use borrow.Author.Tests.{eq-eqb, ne-eqb}
 use borrow.Author.Needs.{needs}
 use Rattle.rules.specs.Refusals.{Step, Answer}
-use Rattle.memory.specs.Areas.{Areas}
-use Rattle.acting.specs.Telling.{outcomeRefusal, outcomeValue, outcomeCount, told, Tells}
-use Rattle.acting.specs.declared.Outcome.{Outcome}
-use Rattle.acting.specs.declared.Outcome.the-variants.{Done, Refused}
+use Rattle.layout.specs.Areas.{Areas}
+use Rattle.step_act.specs.Telling.{outcomeRefusal, outcomeValue, outcomeCount, told, Tells}
+use Rattle.step_act.specs.declared.Outcome.{Outcome}
+use Rattle.step_act.specs.declared.Outcome.the-variants.{Done, Refused}
 use Rattle.engine.specs.Promises.{answerOf, areasAfter}
-use Rattle.records.specs.Records.{answerWords}
+use Rattle.step_record.specs.Records.{answerWords}
 use Rattle.lughtsavi.specs.Numbers.{slices, stepReturn, slicesAfter}
-use Rattle.lughtsavi.specs.Needed.{ToldAs}
+use Rattle.lughtsavi.specs.inner.Needed.{ToldAs}
 
 -- three words laid into three
 pub three-laid : (l : List ℕ) (x y z : ℕ) → length l ≡ 3 → set (set (set l 0 x) 1 y) 2 z ≡ x ∷ y ∷ z ∷ []

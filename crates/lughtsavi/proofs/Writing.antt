@@ -10,14 +10,14 @@ use lib.Dec.{eqb, ltb}
 use borrow.Author.Tests.{eqb-true, eqb-false, eq-eqb, ne-eqb}
 use borrow.Author.Needs.{needs}
 use Rattle.limits.specs.Limits.{pageWidth}
-use Rattle.limits.specs.Sizes.{diffLimit}
+use Rattle.limits.specs.inner.Sizes.{diffLimit}
 use Rattle.diff.specs.Format.{written}
-use Rattle.writer.specs.Answers.{writeRefusal, WriteAnswer, writeAnswer, saidBy, wasWritten, Says}
-use Rattle.writer.specs.declared.Written.{Written}
-use Rattle.writer.specs.declared.Written.the-variants.{Length, Refused}
 use Rattle.diff.proofs.Theorems.{at-most-131-bytes}
+use Rattle.diff_writer.specs.Answers.{writeRefusal, WriteAnswer, writeAnswer, saidBy, wasWritten, Says}
+use Rattle.diff_writer.specs.declared.Written.{Written}
+use Rattle.diff_writer.specs.declared.Written.the-variants.{Length, Refused}
 use Rattle.lughtsavi.specs.Numbers.{writeReturn}
-use Rattle.lughtsavi.specs.Needed.{writtenNumber}
+use Rattle.lughtsavi.specs.inner.Needed.{writtenNumber}
 
 -- ---- a length and a refusal are not mistaken for one another
 

@@ -5,11 +5,11 @@ use mathlib.Core.Bool.{cond}
 use mathlib.Core.List.{List, [], _∷_}
 use lib.ListN.{length}
 use lib.Dec.{eqb}
+use Rattle.diff_writer.specs.Answers.{WriteAnswer}
 use Rattle.rules.specs.Refusals.{Step}
-use Rattle.memory.specs.Areas.{Areas}
-use Rattle.writer.specs.Answers.{WriteAnswer}
+use Rattle.layout.specs.Areas.{Areas}
 use Rattle.engine.specs.Promises.{answerOf, areasAfter}
-use Rattle.records.specs.Records.{answerWords}
+use Rattle.step_record.specs.Records.{answerWords}
 
 -- ---- a step
 

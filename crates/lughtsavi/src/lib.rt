@@ -8,16 +8,16 @@ ghost use lib.ListN.{length};
 ghost use Rattle.limits.specs.Limits.{pageWidth};
 ghost use Rattle.diff.specs.Reading.{readRefusal};
 ghost use Rattle.diff.specs.Answers.{applyRefusal, pageAfter};
-ghost use Rattle.writer.specs.Answers.{writeAnswer, outAfter};
+ghost use Rattle.diff_writer.specs.Answers.{writeAnswer, outAfter};
 ghost use Rattle.rules.specs.Refusals.{stepOf};
-ghost use Rattle.memory.specs.Areas.{areas};
-ghost use Rattle.checking.specs.Areas.{areasInOrder};
+ghost use Rattle.layout.specs.Areas.{areas};
+ghost use Rattle.inorder.specs.Areas.{areasInOrder};
 ghost use Rattle.opening.specs.Promises.{openRefusal, areasOpened};
-ghost use Rattle.running.specs.Runs.{Ran};
+ghost use Rattle.run_list.specs.Runs.{Ran};
 ghost use Rattle.lughtsavi.specs.Numbers.{stepReturn, slices, slicesAfter, writeReturn};
-ghost use Rattle.lughtsavi.specs.Needed.{ToldAs, writtenNumber};
-use acting::Outcome;
-use writer::Written;
+ghost use Rattle.lughtsavi.specs.inner.Needed.{ToldAs, writtenNumber};
+use step_act::Outcome;
+use diff_writer::Written;
 
 // Opens a mainframe: 1 for areas of a wrong size, 2 for an opening that is not eight bytes or does not fit, else 0, and the areas
 // are exactly the opened state, whatever they held.
@@ -45,7 +45,7 @@ pub extern "C" fn lughtsavi_in_order(
 ) -> bool
     ensures { λ r. ⌜ r ≡ areasInOrder (now (clocks .entry)) (now (words .entry)) (now (records .entry)) (now (marks .entry)) ⌝ }
 {
-    checking::in_order(clocks, words, records, marks)
+    inorder::in_order(clocks, words, records, marks)
 }
 
 // A step: the refusal, or 0, and in the three words of `answer` refusal, value and count. An answer that has not three words gets 1,
@@ -122,7 +122,7 @@ pub extern "C" fn lughtsavi_run(
 ) -> usize
     ensures { λ r. ⌜ Ran (now (bytes .entry)) (now (answers .entry)) (areas (now (clocks .entry)) (now (words .entry)) (now (records .entry)) (now (marks .entry))) r (now (answers .exit)) (areas (now (clocks .exit)) (now (words .exit)) (now (records .exit)) (now (marks .exit))) ⌝ }
 {
-    running::run(bytes, answers, clocks, words, records, marks)
+    run_list::run(bytes, answers, clocks, words, records, marks)
 }
 
 // Writes what turns the page `old` into the page `new` as a diff at the start of `out`: its length in bytes, or 256 + the refusal.
@@ -131,7 +131,7 @@ pub extern "C" fn lughtsavi_diff_write(old: &[u32], new: &[u32], out: &mut [u8])
     ensures answer { λ r. ⌜ r ≡ writeReturn (writeAnswer pageWidth (now (old .entry)) (now (new .entry)) (now (out .entry))) ⌝ }
     ensures memory { λ r. ⌜ now (out .exit) ≡ outAfter pageWidth (now (old .entry)) (now (new .entry)) (now (out .entry)) ⌝ }
 {
-    let written = writer::write(old, new, out);
+    let written = diff_writer::write(old, new, out);
     number(written)
 }
 

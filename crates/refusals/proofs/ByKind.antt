@@ -9,15 +9,15 @@ use borrow.Author.Tests.{ltb-true, le-leb, lt-leb, lt-ltb, le-ltb, eq-eqb, ne-eq
 use mir.Syntax.{w64}
 use mir.Val.{Fits}
 use Rattle.limits.specs.Limits.{intervalLimit, lockLimit, pageWidth, recordLimit}
-use Rattle.limits.specs.Sizes.{wordLimit}
+use Rattle.limits.specs.inner.Sizes.{wordLimit}
 use Rattle.rules.specs.Refusals.{Write, Acquire, Release, knownKind, usesValue, lateRefusal}
 use Rattle.rules.specs.State.{mainframe, dirtyAt, State, holder}
 use Rattle.rules.specs.Steps.{pageOfWord}
-use Rattle.memory.specs.Areas.{stateIn}
-use Rattle.memory.specs.Marks.{pageCount, lockCount, holderMark, dirtyMark}
-use Rattle.memory.specs.Needed.{LockMark, PageMark}
-use Rattle.refusals.specs.Parts.{seen, boundOf, fieldsFit, refusalOfKind, recordsToCome, roomIfAllDirty}
-use Rattle.refusals.specs.Needed.{Counted, FittingStep, WriteOf}
+use Rattle.layout.specs.Areas.{stateIn}
+use Rattle.layout.specs.inner.Marks.{pageCount, lockCount, holderMark, dirtyMark}
+use Rattle.layout.specs.inner.Needed.{LockMark, PageMark}
+use Rattle.refusals.specs.inner.Parts.{seen, boundOf, fieldsFit, refusalOfKind, recordsToCome, roomIfAllDirty}
+use Rattle.refusals.specs.inner.Needed.{Counted, FittingStep, WriteOf}
 use Rattle.refusals.proofs.Marked.{dirty-seen, holder-seen}
 use Rattle.refusals.proofs.Counting.{few-records-to-come}
 

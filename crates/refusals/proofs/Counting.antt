@@ -11,16 +11,16 @@ use lib.Dec.{leb, ltb, eqb}
 use borrow.Author.Tests.{lt-leb, le-ltb}
 use mir.Syntax.{w64}
 use mir.Val.{Fits}
+use Rattle.lists.specs.Tables.{total}
+use Rattle.lists.proofs.Tables.{total-same, total-zero, total-in-rows, total-of-fewer}
 use Rattle.limits.specs.Limits.{pageLimit, processorLimit, recordLimit}
-use Rattle.limits.specs.Sizes.{copyLimit, firstDirty}
+use Rattle.limits.specs.inner.Sizes.{copyLimit, firstDirty}
 use Rattle.rules.specs.InOrder.{present, presentHolder, dirtyPages}
 use Rattle.rules.specs.State.{mainframe, dirtyAt, State}
-use Rattle.rules.specs.Tables.{total}
-use Rattle.rules.proofs.Tables.{total-same, total-zero, total-in-rows, total-of-fewer}
-use Rattle.memory.specs.Areas.{dirtyPlace, recordsIn, stateIn, standingCount}
-use Rattle.memory.specs.Marks.{processorCount, pageCount, dirtyMark}
-use Rattle.refusals.specs.Parts.{seen, recordsToCome, roomIfAllDirty}
-use Rattle.refusals.specs.Needed.{Counted}
+use Rattle.layout.specs.Areas.{dirtyPlace, recordsIn, stateIn, standingCount}
+use Rattle.layout.specs.inner.Marks.{processorCount, pageCount, dirtyMark}
+use Rattle.refusals.specs.inner.Parts.{seen, recordsToCome, roomIfAllDirty}
+use Rattle.refusals.specs.inner.Needed.{Counted}
 use Rattle.refusals.proofs.Marked.{dirty-seen}
 
 -- ---- the dirty marks, absent processors and pages included

@@ -12,16 +12,16 @@ use borrow.Author.Tests.{lt-ltb, le-ltb, le-leb, lt-leb, eq-eqb, ne-eqb}
 use mir.Syntax.{w8, w32, w64}
 use mir.Val.{Fits}
 use Rattle.limits.specs.Limits.{firstArrived, processorLimit}
-use Rattle.limits.specs.Sizes.{boundArea, kindBounds, kindLimit, valueLimit}
+use Rattle.limits.specs.inner.Sizes.{boundArea, kindBounds, kindLimit, valueLimit}
 use Rattle.rules.specs.InOrder.{present}
 use Rattle.rules.specs.Refusals.{knownKind, usesValue}
 use Rattle.rules.specs.State.{mainframe, hasArrived}
-use Rattle.rules.proofs.KindsOfSteps.{by-kind, known-says}
-use Rattle.memory.specs.Areas.{arrivedPlace, stateIn}
-use Rattle.memory.specs.Marks.{processorCount, arrivedMark}
-use Rattle.refusals.specs.Parts.{seen, boundOf, fieldsFit, mayAct, stepFits}
-use Rattle.refusals.specs.Bounds.{objectBoundOf, valueBoundOf, inBounds, boundsOf}
-use Rattle.refusals.specs.Needed.{Counted, BoundsOf}
+use Rattle.rules.proofs.inorder.KindsOfSteps.{by-kind, known-says}
+use Rattle.layout.specs.Areas.{arrivedPlace, stateIn}
+use Rattle.layout.specs.inner.Marks.{processorCount, arrivedMark}
+use Rattle.refusals.specs.inner.Parts.{seen, boundOf, fieldsFit, mayAct, stepFits}
+use Rattle.refusals.specs.inner.Bounds.{objectBoundOf, valueBoundOf, inBounds, boundsOf}
+use Rattle.refusals.specs.inner.Needed.{Counted, BoundsOf}
 use Rattle.refusals.proofs.Marked.{arrived-seen}
 
 -- ---- flags

@@ -10,13 +10,13 @@ use borrow.Author.Needs.{needs}
 use Rattle.rules.specs.InOrder.{present, presentHolder, dirtyPages}
 use Rattle.rules.specs.Refusals.{Step, stepOf, Action, Read, Write, Acquire, Release, Arrive, Want, Unknown, actionOf, knownKind, objectBound, usesValue, fits, lateRefusal, refusalBy, refusalInOrder}
 use Rattle.rules.specs.State.{mainframe, dirtyAt, State, own, holder, hasArrived}
-use Rattle.rules.proofs.Accepted.{present-says}
-use Rattle.rules.proofs.KindsOfSteps.{by-kind, known-says}
-use Rattle.memory.specs.Areas.{pagesIn, recordsIn, stateIn}
-use Rattle.memory.specs.Marks.{arrivedMark}
-use Rattle.memory.specs.Needed.{MarksOf, Ready}
-use Rattle.refusals.specs.Parts.{seen, boundOf, fieldsFit, mayAct, stepFits, earlyOfFields, earlyOfKnown, earlyRefusal, refusalOfKind}
-use Rattle.refusals.specs.Needed.{Counted, KnownKind, KnownStep, FittingStep}
+use Rattle.rules.proofs.inorder.Accepted.{present-says}
+use Rattle.rules.proofs.inorder.KindsOfSteps.{by-kind, known-says}
+use Rattle.layout.specs.Areas.{pagesIn, recordsIn, stateIn}
+use Rattle.layout.specs.inner.Marks.{arrivedMark}
+use Rattle.layout.specs.inner.Needed.{MarksOf, Ready}
+use Rattle.refusals.specs.inner.Parts.{seen, boundOf, fieldsFit, mayAct, stepFits, earlyOfFields, earlyOfKnown, earlyRefusal, refusalOfKind}
+use Rattle.refusals.specs.inner.Needed.{Counted, KnownKind, KnownStep, FittingStep}
 use Rattle.refusals.proofs.Marked.{nobody-absent, count-decides, arrived-seen}
 use Rattle.refusals.proofs.Counting.{counting-begins, counting-next, counting-more, counting-ends, few-counted, records-to-come-are, product-fits, sum-fits, marks-decide-room}
 use Rattle.refusals.proofs.ByKind.{zero-unknown, last-decides, words-fit, words-bound, locks-bound, no-bound, value-used, object-absent, any-value, no-value, word-there, lock-there, page-of-word, counted-of-write, dirty-takes-stores, no-interval-left, no-room-left, write-has-space, write-has-ample-space, lock-free, lock-held, holder-releases, not-the-holder, write-of-kind, lock-of-acquire, lock-of-release, write-decides, acquire-decides, release-decides, other-kinds-pass}

@@ -11,11 +11,11 @@ use Rattle.rules.specs.Refusals.{Step, Answer}
 use Rattle.rules.specs.Runs.{answers, answersInOrder}
 use Rattle.rules.specs.Order.{events, Before}
 use Rattle.rules.proofs.InOrderRuns.{answers-in-order}
-use Rattle.rules.proofs.OpenedInOrder.{opened-in-order}
-use Rattle.rules.proofs.Edges.{apart, apart-not-before}
-use Rattle.rules.proofs.Listing.{reads, writes, acquires, releases, arrives, start, answering}
-use Rattle.rules.proofs.StoredCases.{accepted}
-use Rattle.rules.proofs.JudgedRuns.{counting, openingWith, in-range-accepted, eventsFrom, allAccepted}
+use Rattle.rules.proofs.inorder.OpenedInOrder.{opened-in-order}
+use Rattle.rules.proofs.order.Edges.{apart, apart-not-before}
+use Rattle.rules.proofs.runs.Listing.{reads, writes, acquires, releases, arrives, start, answering}
+use Rattle.rules.proofs.runs.StoredCases.{accepted}
+use Rattle.rules.proofs.runs.JudgedRuns.{counting, openingWith, in-range-accepted, eventsFrom, allAccepted}
 
 -- a run from an accepted opening with its answers, in which the step at place i is not before the step at place j
 pub record NotBefore (c : Counts) (ts : List Step) (answered : List Answer) (i j : ℕ) : Type 0 where

@@ -8,7 +8,9 @@ use mathlib.Core.Bool.{Bool, true, not, _||_}
 use mathlib.Core.List.{List, [], _∷_}
 use lib.Dec.{eqb}
 use borrow.Author.Tests.{eq-eqb, not-true}
-use Rattle.rules.specs.Tables.{every}
+use Rattle.lists.specs.Tables.{every}
+use Rattle.lists.proofs.Tables.{every-at}
+use Rattle.lists.proofs.Conditions.{conjoined, conjoined-at}
 use Rattle.rules.specs.State.{mainframe, Counts}
 use Rattle.rules.specs.InOrder.{inRange, countsInRange}
 use Rattle.rules.specs.Opening.{openingRefusal, opened}
@@ -16,13 +18,11 @@ use Rattle.rules.specs.Refusals.{Step, Read, Write}
 use Rattle.rules.specs.Runs.{answers, answersInOrder}
 use Rattle.rules.specs.Order.{Event, events, eventAt, Took, Before, chain}
 use Rattle.rules.specs.Demand.{isWriteTo, lastWritten, EarlierWrite, Synchronized, Judged, valueAt}
-use Rattle.rules.proofs.Tables.{every-at}
-use Rattle.rules.proofs.Everywhere.{conjoined, conjoined-at}
-use Rattle.rules.proofs.ActionKinds.{writesTo, took-write}
-use Rattle.rules.proofs.Edges.{Edge, ByProgram, ByLock, ByRound, ByChain, just, has, joins, joins-before, closedUnder, only-by, only-chained}
-use Rattle.rules.proofs.Listing.{reads, writes, acquires, releases, arrives, start}
-use Rattle.rules.proofs.BenchFaults.{stepsC}
-use Rattle.rules.proofs.JudgedRuns.{synchronized, openingWith, in-range-accepted, eventsFrom, events-computed, read-judged, allAccepted, counting}
+use Rattle.rules.proofs.order.ActionKinds.{writesTo, took-write}
+use Rattle.rules.proofs.order.Edges.{Edge, ByProgram, ByLock, ByRound, ByChain, just, has, joins, joins-before, closedUnder, only-by, only-chained}
+use Rattle.rules.proofs.runs.Listing.{reads, writes, acquires, releases, arrives, start}
+use Rattle.rules.proofs.runs.BenchFaults.{stepsC}
+use Rattle.rules.proofs.runs.JudgedRuns.{synchronized, openingWith, in-range-accepted, eventsFrom, events-computed, read-judged, allAccepted, counting}
 use Rattle.rules.proofs.PremisesMet.{read-taken, read-is-synchronized, computed-events}
 
 -- ---- what a run shows of an edge

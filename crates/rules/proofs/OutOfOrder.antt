@@ -5,15 +5,15 @@ use mathlib.Core.Path.{_≡_, refl}
 use mathlib.Core.Bool.{true, false}
 use mathlib.Core.List.{List, [], _∷_}
 use lib.ListN.{replicate, set}
+use Rattle.lists.specs.Tables.{putCell}
 use Rattle.clock.specs.Clocks.{covered}
 use Rattle.diff.specs.Reading.{mostRuns, pairHolds, orderly, pairsRefusal, readRefusal}
-use Rattle.rules.specs.Tables.{putCell}
 use Rattle.rules.specs.State.{Limits, Holder, Processor, Applied, Interval, withClock, slotBytes, laidOver, State, withClocks, withPages, withRecords, withMarks}
 use Rattle.rules.specs.InOrder.{everyProcessor, everyPage, everyHolder, slotSize, rowsSized, sized, inRange, countsInRange, presentHolder, allZero, absentZero, laterIntervalsZero, entriesKnown, appliedKnown, recordAt, diffLegal, recordSound, sameNotice, recordsSound, roomKept, dirtyHaveInterval, holdersPresent, someoneMissing, inOrder}
 use Rattle.rules.specs.Opening.{opened}
 use Rattle.rules.specs.Refusals.{stepOf, refusedAs, answer}
-use Rattle.rules.proofs.Conditions.{orderTests}
-use Rattle.rules.proofs.Listing.{start}
+use Rattle.rules.proofs.inorder.Conditions.{orderTests}
+use Rattle.rules.proofs.runs.Listing.{start}
 
 -- limits of two of each, and pages of one word; two processors, one page and one lock are opened
 unfoldable pub twoOfEach : Limits

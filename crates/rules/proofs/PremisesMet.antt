@@ -9,10 +9,10 @@ use Rattle.rules.specs.Refusals.{Read}
 use Rattle.rules.specs.Runs.{answers, answersInOrder}
 use Rattle.rules.specs.Order.{Event, events, Took, Before, chain}
 use Rattle.rules.specs.Demand.{lastWritten, Synchronized, valueAt}
-use Rattle.rules.proofs.Edges.{ByProgram, ByLock, joins-before}
-use Rattle.rules.proofs.Listing.{start}
-use Rattle.rules.proofs.BenchFaults.{stepsC}
-use Rattle.rules.proofs.JudgedRuns.{synchronized, counting, eventsFrom, events-computed, read-judged, allAccepted}
+use Rattle.rules.proofs.order.Edges.{ByProgram, ByLock, joins-before}
+use Rattle.rules.proofs.runs.Listing.{start}
+use Rattle.rules.proofs.runs.BenchFaults.{stepsC}
+use Rattle.rules.proofs.runs.JudgedRuns.{synchronized, counting, eventsFrom, events-computed, read-judged, allAccepted}
 
 -- of the answers only the refusals are computed: every step is accepted
 pub computed-events : events stepsC (answersInOrder mainframe (start 3 1 2) stepsC) ≡ allAccepted stepsC

@@ -13,10 +13,10 @@ use Rattle.rules.specs.Runs.{answersInOrder}
 use Rattle.rules.specs.Order.{Event, events, eventAt, Before, Ordered}
 use Rattle.rules.specs.Demand.{EarlierWrite, Synchronized, Judged}
 use Rattle.rules.proofs.StrictOrder.{before-goes-forward}
-use Rattle.rules.proofs.Edges.{noEdge, closedUnder, not-before}
-use Rattle.rules.proofs.Listing.{reads, writes, arrives, start, answering}
-use Rattle.rules.proofs.JudgedRuns.{Among, value-left, allAccepted}
-use Rattle.rules.proofs.StoredCases.{accepted}
+use Rattle.rules.proofs.order.Edges.{noEdge, closedUnder, not-before}
+use Rattle.rules.proofs.runs.Listing.{reads, writes, arrives, start, answering}
+use Rattle.rules.proofs.runs.JudgedRuns.{Among, value-left, allAccepted}
+use Rattle.rules.proofs.runs.StoredCases.{accepted}
 
 -- processors 1 and 2 write word 0 with nothing that orders the two, both arrive, and both read it
 unfoldable pub race : List Step

@@ -7,11 +7,11 @@ use Rattle.rules.specs.InOrder.{inRange, countsInRange}
 use Rattle.rules.specs.Opening.{opened}
 use Rattle.rules.specs.Refusals.{Step, stepOf}
 use Rattle.rules.specs.Runs.{answers, answersInOrder}
-use Rattle.rules.proofs.OpenedInOrder.{opened-in-order}
+use Rattle.rules.proofs.inorder.OpenedInOrder.{opened-in-order}
 use Rattle.rules.proofs.InOrderRuns.{answers-in-order}
-use Rattle.rules.proofs.Listing.{reads, writes, acquires, releases, arrives, start, answering}
-use Rattle.rules.proofs.FromStart.{answers-from-start}
-use Rattle.rules.proofs.StoredCases.{accepted}
+use Rattle.rules.proofs.runs.Listing.{reads, writes, acquires, releases, arrives, start, answering}
+use Rattle.rules.proofs.runs.FromStart.{answers-from-start}
+use Rattle.rules.proofs.runs.StoredCases.{accepted}
 
 -- Two processors, one page, one lock. Kind 7 by processor 9 with object 99 (rows 3, 4, 5); processor 3 reads word 32 (4, 5), and frees lock 0 (4, 8);
 -- 2 takes lock 0; 1 arrives; it reads word 32 (5, 6), takes lock 0 (6, 7) and frees it (6, 8); 2 takes lock 1, which is absent (5, no 7)

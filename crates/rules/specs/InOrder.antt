@@ -4,10 +4,10 @@ use mathlib.Core.Bool.{Bool, true, cond, not, _&&_, _||_}
 use mathlib.Core.List.{List, [], _∷_}
 use lib.ListN.{length, getD}
 use lib.Dec.{leb, ltb, eqb}
+use Rattle.lists.specs.Tables.{every, any, total}
 use Rattle.limits.specs.Limits.{slotHead}
 use Rattle.clock.specs.Clocks.{covered, entryOf}
 use Rattle.diff.specs.Reading.{readRefusal}
-use Rattle.rules.specs.Tables.{every, any, total}
 use Rattle.rules.specs.State.{Limits, Counts, Holder, Processor, Lock, Barrier, Applied, Interval, clockOf, copyOf, twinOf, dirtyAt, Record, recordIn, State, clock, own, holder, hasArrived}
 
 -- a present processor: "Cards numbered from 1; 0 means nobody"

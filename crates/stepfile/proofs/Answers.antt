@@ -9,16 +9,16 @@ use lib.Seq.{length-take-le, sets, sets-eq}
 use borrow.Author.Tests.{not-false, not-true}
 use borrow.Author.Needs.{needs}
 use Rattle.limits.specs.Limits.{fileRecordWidth}
-use Rattle.memory.specs.Areas.{Areas}
-use Rattle.checking.specs.Areas.{OrderIs}
-use Rattle.passing.specs.Bytes.{bytesTaken}
-use Rattle.passing.proofs.Bytes.{taken-stopped}
-use Rattle.passing.proofs.Passing.{kept-all}
+use Rattle.layout.specs.Areas.{Areas}
+use Rattle.inorder.specs.Areas.{OrderIs}
+use Rattle.file_chunk.specs.Bytes.{bytesTaken}
+use Rattle.file_chunk.proofs.Bytes.{taken-stopped}
+use Rattle.file_chunk.proofs.Passing.{kept-all}
 use Rattle.stepfile.specs.Feeding.{after}
 use Rattle.stepfile.specs.Promises.{FedAs, Started, feedAnswer, feedAreas, feedLines, feedable, notTaken, progressOf, standing}
 use Rattle.stepfile.specs.declared.Progress.{Progress}
 use Rattle.stepfile.specs.declared.Taken.{Taken}
-use Rattle.stepfile.specs.Needed.{ChunkFed, Feedable, FeedableIs, Holding, takenAs}
+use Rattle.stepfile.specs.inner.Needed.{ChunkFed, Feedable, FeedableIs, Holding, takenAs}
 use Rattle.stepfile.proofs.Cutting.{cut-lines, cut-reached, started}
 use Rattle.stepfile.proofs.Sound.{few-held, few-records, holding-there, room-there}
 

@@ -9,19 +9,19 @@ use lib.ListN.{drop, drop-of-length-le, length, length-append, take, take-append
 use lib.Seq.{length-take-le, take-at}
 use borrow.Author.Needs.{needs}
 use Rattle.limits.specs.Limits.{fileRecordWidth}
-use Rattle.memory.specs.Areas.{Areas, areas}
-use Rattle.taking.specs.Records.{Feed, openingTaken, recordTaken, stepTaken, tooManyTaken}
-use Rattle.taking.specs.Needed.{Took, standsAt}
-use Rattle.taking.specs.declared.Stand.{Stand}
-use Rattle.passing.specs.Bytes.{bytesTaken, heldOn}
-use Rattle.passing.specs.Needed.{Passable, Passes}
-use Rattle.passing.proofs.Bytes.{eight-first, taken-held, taken-record, taken-stopped, taken-together}
-use Rattle.passing.proofs.Passing.{kept-again, kept-all}
+use Rattle.layout.specs.Areas.{Areas, areas}
+use Rattle.file_record.specs.Records.{Feed, openingTaken, recordTaken, stepTaken, tooManyTaken}
+use Rattle.file_record.specs.declared.Stand.{Stand}
+use Rattle.file_record.specs.inner.Needed.{Took, standsAt}
+use Rattle.file_chunk.specs.Bytes.{bytesTaken, heldOn}
+use Rattle.file_chunk.specs.inner.Needed.{Passable, Passes}
+use Rattle.file_chunk.proofs.Bytes.{eight-first, taken-held, taken-record, taken-stopped, taken-together}
+use Rattle.file_chunk.proofs.Passing.{kept-again, kept-all}
 use Rattle.stepfile.specs.Promises.{standing}
 use Rattle.stepfile.specs.declared.Progress.{Progress}
 use Rattle.stepfile.specs.declared.Taken.{Taken}
 use Rattle.stepfile.specs.declared.Held.{Held}
-use Rattle.stepfile.specs.Needed.{BegunPassable, ChunkFed, Completes, Feedable, HeldAll, Holdable, takenAs}
+use Rattle.stepfile.specs.inner.Needed.{BegunPassable, ChunkFed, Completes, Feedable, HeldAll, Holdable, takenAs}
 use Rattle.stepfile.proofs.Rest.{held-progress}
 
 module _ (p : Progress) (s : Stand) (chunk out c w r m : List ℕ) (h : Feedable p s chunk out c w r m) where

@@ -9,10 +9,10 @@ use lib.Seq.{take-append-seam, drop-append-seam}
 use lib.Dec.{leb, eqb}
 use borrow.Author.Tests.{le-leb, lt-ltb, leb-true, eqb-false}
 use Rattle.limits.specs.Limits.{fileRecordWidth, stepLimit}
-use Rattle.memory.specs.Areas.{Areas}
-use Rattle.taking.specs.Records.{Feed, openingTaken, stepTaken, tooManyTaken, recordTaken}
-use Rattle.passing.specs.Bytes.{heldOn, byteTaken, bytesTaken}
-use Rattle.passing.proofs.Bytes.{taken-together}
+use Rattle.layout.specs.Areas.{Areas}
+use Rattle.file_record.specs.Records.{Feed, openingTaken, stepTaken, tooManyTaken, recordTaken}
+use Rattle.file_chunk.specs.Bytes.{heldOn, byteTaken, bytesTaken}
+use Rattle.file_chunk.proofs.Bytes.{taken-together}
 use Rattle.stepfile.specs.Feeding.{begun, after}
 use Rattle.stepfile.specs.Promises.{allZero, sound, progressOf, standing, Reached}
 use Rattle.stepfile.specs.declared.Progress.{Progress}

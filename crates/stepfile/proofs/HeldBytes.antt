@@ -12,7 +12,7 @@ use borrow.Author.Tests.{eq-eqb, eqb-true, le-ltb, lt-ltb, ne-eqb}
 use borrow.Author.Needs.{needs}
 use Rattle.limits.specs.Limits.{fileRecordWidth}
 use Rattle.stepfile.specs.Promises.{allZero}
-use Rattle.stepfile.specs.Needed.{HeldAll, Holdable, Holding, Holds, ZerosBehind}
+use Rattle.stepfile.specs.inner.Needed.{HeldAll, Holdable, Holding, Holds, ZerosBehind}
 
 -- ---- bytes taken behind those held
 

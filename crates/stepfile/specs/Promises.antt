@@ -8,9 +8,9 @@ use lib.ListN.{length, take, drop, replicate}
 use lib.Seq.{sets}
 use lib.Dec.{ltb, leb, eqb}
 use Rattle.limits.specs.Limits.{fileRecordWidth, lineLimit, stepLimit}
-use Rattle.memory.specs.Areas.{Areas, rightSizes}
-use Rattle.taking.specs.Records.{Feed}
-use Rattle.passing.specs.Bytes.{bytesTaken}
+use Rattle.layout.specs.Areas.{Areas, rightSizes}
+use Rattle.file_record.specs.Records.{Feed}
+use Rattle.file_chunk.specs.Bytes.{bytesTaken}
 use Rattle.stepfile.specs.Files.{fileLines}
 use Rattle.stepfile.specs.Feeding.{after, lastLine}
 use Rattle.stepfile.specs.declared.Progress.{Progress}

@@ -1,7 +1,7 @@
 -- `hold` meets its contract: the bytes held and those left in the chunk are together always the same. Assumes nothing.
 use Prim.Native.Nat.{_-_}
 use lib.ListN.{length}
-use Rattle.stepfile.specs.Needed.{Holds}
+use Rattle.stepfile.specs.inner.Needed.{Holds}
 use Rattle.stepfile.proofs.HeldBytes.{holding-laws}
 use Rattle.stepfile.proofs.hold.Statement.{statement}
 use Rattle.stepfile.proofs.hold.Tie as tie

@@ -1,0 +1,5 @@
+pub mod Conditions
+pub mod Tables
+pub mod Selected
+pub mod Sorting
+pub mod Passing
