@@ -266,8 +266,8 @@ module _ (old new out₀ out : List ℕ) (left from to : ℕ) (p : PuttingWords 
     place-is : trailingZeros 32 left ≡ keptFirst (p .d)
     place-is = rw (p .is) (zeros-of-mask 32 (p .d) (omega (arith, p .long)) some-set)
 
-    pub word-on-page : trailingZeros 32 left < length new
-    word-on-page = omega (arith, place-is, kept-below (p .d) some-set, p .long, p .whole .new-whole)
+    pub picked-on-page : trailingZeros 32 left < length new
+    picked-on-page = omega (arith, place-is, kept-below (p .d) some-set, p .long, p .whole .new-whole)
 
     pub word-has-room : to + 4 ≤ length out
     word-has-room = omega (arith, p .counted, p .room, ap length first-is)
@@ -299,12 +299,12 @@ module _ (old new out₀ out : List ℕ) (left from to : ℕ) (p : PuttingWords 
     nothing-left : picked (p .d) new ≡ []
     nothing-left = none-picked (p .d) new (sym (p .is) ∙ done)
 
-    pub words-counted : to ≡ from + 4 * length (setWords (difference old new))
-    words-counted = omega (arith, p .counted, ap length nothing-left)
+    pub picked-counted : to ≡ from + 4 * length (setWords (difference old new))
+    picked-counted = omega (arith, p .counted, ap length nothing-left)
 
-    pub words-end : out ≡ sets out₀ from (wordsBytes (setWords (difference old new)))
+    pub picked-end : out ≡ sets out₀ from (wordsBytes (setWords (difference old new)))
     unfolding wordsBytes
-    words-end = sym (p .same ∙ ap (λ (l : List ℕ). sets out to (wordsBytes l)) nothing-left)
+    picked-end = sym (p .same ∙ ap (λ (l : List ℕ). sets out to (wordsBytes l)) nothing-left)
 
 -- ---- the whole diff
 
@@ -411,4 +411,4 @@ module _ (old new out : List ℕ) where
       unfolding outAfter writeRefusal
       diff-left out′ h e = e ∙ rw (eq-eqb _ _ old-whole, eq-eqb _ _ new-whole, long, le-ltb _ _ h)
 
-pub ruleset write-laws = (words-alike, words-unlike, measuring-begins, measuring-more, runs-measured, words-measured, runs-few, words-few, no-pair, room-for-length, pair-stored, room-for-byte-1, room-for-byte-2, room-for-byte-3, word-stored, masking-begins, mask-has-room, masking-more, masking-ends, digit-shifted, zeros-fit, zeros-in-place, kept-fewer, next-fits, set-fewer, shifted-fits, pairs-begin, left-fits, start-fits, end-fits, pair-has-room, pairs-nearer, pairs-more, pairs-counted, pairs-end, fewer-left, words-begin, word-on-page, word-has-room, words-more, words-counted, words-end, twice-fits, behind-fits, room-for-count, room-for-words, diff-long, diff-written, diff-keeps-length, written-whole, room-for-diff, room-for-written, length-answered, diff-left, old-length-refused, old-length-untouched, new-length-refused, new-length-untouched, pages-whole, out-too-short, out-untouched, needs)
+pub ruleset write-laws = (words-alike, words-unlike, measuring-begins, measuring-more, runs-measured, words-measured, runs-few, words-few, no-pair, room-for-length, pair-stored, room-for-byte-1, room-for-byte-2, room-for-byte-3, word-stored, masking-begins, mask-has-room, masking-more, masking-ends, digit-shifted, zeros-fit, zeros-in-place, kept-fewer, next-fits, set-fewer, shifted-fits, pairs-begin, left-fits, start-fits, end-fits, pair-has-room, pairs-nearer, pairs-more, pairs-counted, pairs-end, fewer-left, words-begin, picked-on-page, word-has-room, words-more, picked-counted, picked-end, twice-fits, behind-fits, room-for-count, room-for-words, diff-long, diff-written, diff-keeps-length, written-whole, room-for-diff, room-for-written, length-answered, diff-left, old-length-refused, old-length-untouched, new-length-refused, new-length-untouched, pages-whole, out-too-short, out-untouched, needs)

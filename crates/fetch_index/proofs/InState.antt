@@ -19,7 +19,7 @@ use Rattle.layout.specs.Areas.{clocksIn, recordsIn, stateIn, standingCount}
 use Rattle.layout.specs.inner.Needed.{Ready}
 use Rattle.layout.specs.inner.Marks.{recordOf, slotInterval, slotLength, slotPage, slotProcessor}
 use Rattle.layout.proofs.SlotLaws.{slot-read, slot-byte, record-read}
-use Rattle.fetch_index.specs.inner.Needed.{SlotSound, SlotsSound}
+use Rattle.fetch_index.specs.inner.Needed.{SlotHolds, SlotsSound}
 
 sum-bounded : (l : List ℕ) → ((j : ℕ) → getD l j 0 ≤ intervalLimit) → sumOf l ≤ intervalLimit * length l
 unfolding sumOf
@@ -80,7 +80,7 @@ module _ (c w r m : List ℕ) (h : Ready c w r m) where
       small-clock (clockOf (clocksIn mainframe c) (Interval q i)) (h .in-order .sized .clocks (Interval q i) (a, b, d, e))
       (λ k. omega (arith, h .in-order .known (Interval q i) k, h .in-order .own-fits k))
 
-  slot-sound : (i : ℕ) → i < standingCount m → SlotSound c r i
+  slot-sound : (i : ℕ) → i < standingCount m → SlotHolds c r i
   unfolding recordOf mainframe sumAt
   slot-sound i l =
       let s : RecordSound mainframe state i = sound-at i l in

@@ -13,21 +13,21 @@ use Rattle.layout.specs.Areas.{areas}
 use Rattle.lines.specs.inner.Needed.{Room}
 use Rattle.file_record.specs.Records.{Feed, openingTaken, recordTaken}
 use Rattle.file_record.specs.declared.Stand.{Stand}
-use Rattle.file_record.specs.inner.Needed.{Kept, StoppedAt, Takeable, Took, standsAt}
+use Rattle.file_record.specs.inner.Needed.{RestKept, StoppedAt, Takeable, RecordTaken, standsAt}
 use Rattle.file_chunk.specs.Bytes.{bytesTaken}
-use Rattle.file_chunk.specs.inner.Needed.{FirstTaken, LastPassable, LastTaken, Passable, Passes, Passing, StepsTaken}
+use Rattle.file_chunk.specs.inner.Needed.{FirstTaken, LastPassable, LastTaken, Passable, AllPassed, Passing, StepsTaken}
 use Rattle.file_chunk.proofs.Bytes.{eight-taken}
 use Rattle.file_chunk.proofs.Records.{opening-record, too-many-record}
 
 -- ---- what is written stays
 
 -- nothing is written yet
-pub kept-all : (out : List ℕ) (at : ℕ) → at ≤ length out → Kept out at out at
-kept-all out at h = record { on = omega arith; within = h; long = refl; rest = refl }
+pub rest-kept-all : (out : List ℕ) (at : ℕ) → at ≤ length out → RestKept out at out at
+rest-kept-all out at h = record { on = omega arith; within = h; long = refl; rest = refl }
 
 -- written twice
-pub kept-again : (out : List ℕ) (at : ℕ) (out₁ : List ℕ) (at₁ : ℕ) (out₂ : List ℕ) (at₂ : ℕ) → Kept out at out₁ at₁ → Kept out₁ at₁ out₂ at₂ → Kept out at out₂ at₂
-kept-again out at out₁ at₁ out₂ at₂ h k =
+pub rest-kept-again : (out : List ℕ) (at : ℕ) (out₁ : List ℕ) (at₁ : ℕ) (out₂ : List ℕ) (at₂ : ℕ) → RestKept out at out₁ at₁ → RestKept out₁ at₁ out₂ at₂ → RestKept out at out₂ at₂
+rest-kept-again out at out₁ at₁ out₂ at₂ h k =
     record {
       on = omega (arith, h .on, k .on);
       within = omega (arith, k .within, h .long);
@@ -53,7 +53,7 @@ passing-begins s chunk from out c w r m h =
       is = refl;
       whole = refl;
       near = omega arith;
-      kept = kept-all out (s .at) (omega (arith, h .room));
+      kept = rest-kept-all out (s .at) (omega (arith, h .room));
       clocks = refl;
       words = refl;
       records = refl;
@@ -71,7 +71,7 @@ module _ (s₀ : Stand) (chunk : List ℕ) (from : ℕ) (out₀ c₀ w₀ r₀ m
         is = k .is ∙ h .is;
         whole = k .whole ∙ h .whole;
         near = omega (arith, k .near, h .near);
-        kept = kept-again out₀ (s₀ .at) out (s .at) out′ (s′ .at) (h .kept) (k .kept);
+        kept = rest-kept-again out₀ (s₀ .at) out (s .at) out′ (s′ .at) (h .kept) (k .kept);
         clocks = k .clocks ∙ h .clocks;
         words = k .words ∙ h .words;
         records = k .records ∙ h .records;
@@ -85,7 +85,7 @@ module _ (s : Stand) (chunk : List ℕ) (i : ℕ) (out c w r m : List ℕ) (h : 
 
   -- it is taken
   pub passing-one : (s′ : Stand) (out′ c′ w′ r′ m′ : List ℕ) → s .stopped ≡ false
-      → Took (recordTaken (standsAt s out (areas c w r m)) (take fileRecordWidth (drop i chunk))) s out s′ out′ c′ w′ r′ m′
+      → RecordTaken (recordTaken (standsAt s out (areas c w r m)) (take fileRecordWidth (drop i chunk))) s out s′ out′ c′ w′ r′ m′
       → length c′ ≡ length c → length w′ ≡ length w → length r′ ≡ length r → length m′ ≡ length m
       → Passing s chunk i out c w r m s′ (i + fileRecordWidth) out′ c′ w′ r′ m′
   unfolding standsAt
@@ -126,7 +126,7 @@ module _ (s : Stand) (chunk : List ℕ) (from : ℕ) (out c w r m : List ℕ) (h
   first-short l = record { passing = passing-begins s chunk from out c w r m h; able = record { passable = h; opened = λ z e. omega (arith, l) } }
 
   pub first-taken : (s′ : Stand) (out′ c′ w′ r′ m′ : List ℕ) → s .number ≡ 0 → s .stopped ≡ false → fileRecordWidth ≤ length chunk - from
-      → Took (openingTaken (standsAt s out (areas c w r m)) (take fileRecordWidth (drop from chunk))) s out s′ out′ c′ w′ r′ m′
+      → RecordTaken (openingTaken (standsAt s out (areas c w r m)) (take fileRecordWidth (drop from chunk))) s out s′ out′ c′ w′ r′ m′
       → length c′ ≡ length c → length w′ ≡ length w → length r′ ≡ length r → length m′ ≡ length m
       → FirstTaken s chunk from out c w r m s′ (from + fileRecordWidth) out′ c′ w′ r′ m′
   unfolding standsAt openingTaken
@@ -153,8 +153,8 @@ module _ (s : Stand) (chunk : List ℕ) (from : ℕ) (out : List ℕ) where
   last-short l = record { is = λ c w r m h. record { passing = passing-begins s chunk from out c w r m h; few-left = λ z. omega (arith, l) } }
 
   module _ (k : LastPassable s chunk from out) (l : fileRecordWidth ≤ length chunk - from) where
-    pub room-for-last : Room out (s .at) lineLimit
-    room-for-last = record { room = omega (arith, l, k .room) }
+    pub room-for-stop : Room out (s .at) lineLimit
+    room-for-stop = record { room = omega (arith, l, k .room) }
 
     pub last-taken : (s′ : Stand) (out′ : List ℕ) → s .stopped ≡ false → StoppedAt s out s′ out′
         → LastTaken s chunk from out s′ (from + fileRecordWidth) out′
@@ -174,7 +174,7 @@ module _ (s : Stand) (chunk : List ℕ) (from : ℕ) (out : List ℕ) where
 
 module _ (s : Stand) (chunk : List ℕ) (from : ℕ) (out c w r m : List ℕ) (s₁ : Stand) (i₁ : ℕ) (out₁ c₁ w₁ r₁ m₁ : List ℕ) (s₂ : Stand) (i₂ : ℕ) (out₂ : List ℕ) where
   -- the steps, then one too many
-  pub behind-taken : StepsTaken s chunk from out c w r m s₁ i₁ out₁ c₁ w₁ r₁ m₁ → LastTaken s₁ chunk i₁ out₁ s₂ i₂ out₂ → Passes s chunk from out c w r m s₂ i₂ out₂ c₁ w₁ r₁ m₁
+  pub behind-taken : StepsTaken s chunk from out c w r m s₁ i₁ out₁ c₁ w₁ r₁ m₁ → LastTaken s₁ chunk i₁ out₁ s₂ i₂ out₂ → AllPassed s chunk from out c w r m s₂ i₂ out₂ c₁ w₁ r₁ m₁
   behind-taken h d =
       let last = d .is c₁ w₁ r₁ m₁ (h .passing .able) in
       record {
@@ -183,14 +183,14 @@ module _ (s : Stand) (chunk : List ℕ) (from : ℕ) (out c w r m : List ℕ) (s
       }
 
   -- the opening, then those behind it
-  pub whole-taken : (c₂ w₂ r₂ m₂ : List ℕ) → FirstTaken s chunk from out c w r m s₁ i₁ out₁ c₁ w₁ r₁ m₁ → Passes s₁ chunk i₁ out₁ c₁ w₁ r₁ m₁ s₂ i₂ out₂ c₂ w₂ r₂ m₂
-      → Passes s chunk from out c w r m s₂ i₂ out₂ c₂ w₂ r₂ m₂
+  pub whole-taken : (c₂ w₂ r₂ m₂ : List ℕ) → FirstTaken s chunk from out c w r m s₁ i₁ out₁ c₁ w₁ r₁ m₁ → AllPassed s₁ chunk i₁ out₁ c₁ w₁ r₁ m₁ s₂ i₂ out₂ c₂ w₂ r₂ m₂
+      → AllPassed s chunk from out c w r m s₂ i₂ out₂ c₂ w₂ r₂ m₂
   whole-taken c₂ w₂ r₂ m₂ h d =
       record {
         passing = passing-on s chunk from out c w r m s₁ i₁ out₁ c₁ w₁ r₁ m₁ (h .passing) s₂ i₂ out₂ c₂ w₂ r₂ m₂ (d .passing);
         few-left = d .few-left;
       }
 
-pub ruleset passing-laws = (record-takeable, first-before, first-stopped, first-short, first-taken, last-stopped, last-short, room-for-last, last-taken, needs)
+pub ruleset passing-laws = (record-takeable, first-before, first-stopped, first-short, first-taken, last-stopped, last-short, room-for-stop, last-taken, needs)
 
 pub ruleset whole-laws = (behind-taken, whole-taken, needs)

@@ -24,7 +24,7 @@ use Rattle.step_record.specs.Records.{stepFrom}
 use Rattle.lines.specs.Lines.{lineBytes}
 use Rattle.file_record.specs.Records.{openingTaken, recordTaken, refusalLine, stepTaken, tooManyTaken}
 use Rattle.file_record.specs.declared.Stand.{Stand}
-use Rattle.file_record.specs.inner.Needed.{LinePut, StoppedAt, Takeable, Took, outcomeLine, standsAt}
+use Rattle.file_record.specs.inner.Needed.{LinePut, StoppedAt, Takeable, RecordTaken, outcomeLine, standsAt}
 use Rattle.file_record.proofs.Taking.{ready-order, stands}
 
 -- ---- the answer of a step
@@ -65,8 +65,8 @@ step-of-eight bytes =
 module _ (s : Stand) (bytes : List ℕ) (from : ℕ) (out c w r m : List ℕ) where
   -- the first is the opening
   pub opening-record : (s′ : Stand) (out′ c′ w′ r′ m′ : List ℕ) → s .number ≡ 0
-      → Took (openingTaken (standsAt s out (areas c w r m)) (take fileRecordWidth (drop from bytes))) s out s′ out′ c′ w′ r′ m′
-      → Took (recordTaken (standsAt s out (areas c w r m)) (take fileRecordWidth (drop from bytes))) s out s′ out′ c′ w′ r′ m′
+      → RecordTaken (openingTaken (standsAt s out (areas c w r m)) (take fileRecordWidth (drop from bytes))) s out s′ out′ c′ w′ r′ m′
+      → RecordTaken (recordTaken (standsAt s out (areas c w r m)) (take fileRecordWidth (drop from bytes))) s out s′ out′ c′ w′ r′ m′
   unfolding recordTaken standsAt
   opening-record s′ out′ c′ w′ r′ m′ z h = rw (eq-eqb (s .number) 0 z) h
 
@@ -74,7 +74,7 @@ module _ (s : Stand) (bytes : List ℕ) (from : ℕ) (out c w r m : List ℕ) wh
   pub step-record : (o : Outcome) (c′ w′ r′ m′ out′ : List ℕ) (end : ℕ) → 1 ≤ s .number → s .number ≤ stepLimit
       → Answered (stepFrom (drop from bytes)) c w r m o (s .ready) c′ w′ r′ m′
       → LinePut out (s .at) (outcomeLine (s .number) o) out′ end
-      → Took (recordTaken (standsAt s out (areas c w r m)) (take fileRecordWidth (drop from bytes))) s out (record { number = s .number + 1; stopped = false; ready = s .ready; at = end }) out′ c′ w′ r′ m′
+      → RecordTaken (recordTaken (standsAt s out (areas c w r m)) (take fileRecordWidth (drop from bytes))) s out (record { number = s .number + 1; stopped = false; ready = s .ready; at = end }) out′ c′ w′ r′ m′
   unfolding recordTaken stepTaken standsAt outcomeLine
   step-record o c′ w′ r′ m′ out′ end z l a p =
       let t : stepFrom (drop from bytes) ≡ stepFrom (take fileRecordWidth (drop from bytes)) = sym (step-of-eight (drop from bytes)) in
@@ -93,7 +93,7 @@ module _ (s : Stand) (bytes : List ℕ) (from : ℕ) (out c w r m : List ℕ) wh
 
   -- one more is too many
   pub too-many-record : (s′ : Stand) (out′ : List ℕ) → Takeable s bytes from out c w r m → stepLimit < s .number → StoppedAt s out s′ out′
-      → Took (recordTaken (standsAt s out (areas c w r m)) (take fileRecordWidth (drop from bytes))) s out s′ out′ c w r m
+      → RecordTaken (recordTaken (standsAt s out (areas c w r m)) (take fileRecordWidth (drop from bytes))) s out s′ out′ c w r m
   unfolding recordTaken standsAt tooManyTaken refusalLine
   too-many-record s′ out′ h l d =
       record {

@@ -28,7 +28,7 @@ use Rattle.lines.specs.inner.Needed.{Countable, Counted, Room}
 use Rattle.file_record.specs.declared.Stand.{Stand}
 use Rattle.file_record.specs.inner.Needed.{LinePut, outcomeLine, standsAt}
 use Rattle.file_chunk.specs.Bytes.{bytesTaken}
-use Rattle.file_chunk.specs.inner.Needed.{Ahead, AllAhead, Passing, Refusable, Runnable, StepsPassable, StepsRefused, StepsTaken}
+use Rattle.file_chunk.specs.inner.Needed.{Ahead, AllAhead, Passing, RoomForSteps, Runnable, StepsPassable, StepsRefused, StepsTaken}
 use Rattle.file_chunk.proofs.Passing.{passing-begins, passing-on, passing-one}
 use Rattle.file_chunk.proofs.Records.{Answered, answered-in-order, answered-out-of-order, step-record}
 
@@ -217,7 +217,7 @@ pub record Refusing (number₀ at₀ from end : ℕ) (out₀ : List ℕ) (number
       → Going false number₀ at₀ chunk from end out₀ c w r m number at i out c w r m
 
 module _ (s : Stand) (from end : ℕ) (out : List ℕ) where
-  pub refusing-begins : Refusable s from end out → Refusing (s .number) (s .at) from end out (s .number) (s .at) from out
+  pub refusing-begins : RoomForSteps s from end out → Refusing (s .number) (s .at) from end out (s .number) (s .at) from out
   refusing-begins h = record { ahead = h .ahead; room = h .room; long = refl; is = λ chunk c w r m k. k }
 
   pub refusing-ends : (number at i : ℕ) (out′ : List ℕ) → Refusing (s .number) (s .at) from end out number at i out′ → end ≤ i
@@ -281,7 +281,7 @@ module _ (s : Stand) (chunk : List ℕ) (from : ℕ) (out c w r m : List ℕ) (h
   run-unopened n = none-taken (λ z l. absurd (omega (arith, l, h .opened z n)))
 
   module _ (end : ℕ) (a : AllAhead (s .number) from end (length chunk)) where
-    pub refusable : Refusable s from end out
+    pub refusable : RoomForSteps s from end out
     refusable = record { ahead = a .ahead; room = omega (arith, a .ahead .on, a .within, h .passable .room) }
 
     module _ (z : s .stopped ≡ false) (n : s .number ≡ 0 → ⊥) where

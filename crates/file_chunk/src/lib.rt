@@ -2,7 +2,7 @@
 ghost use mathlib.Core.Bool.{true};
 ghost use Prim.Native.Nat.{_≤_};
 ghost use Rattle.limits.specs.inner.Sizes.{fileRecordLimit};
-ghost use Rattle.file_chunk.specs.inner.Needed.{Passable, Passes, FirstTaken, StepsPassable, StepsTaken, AllAhead, Runnable, Refusable, StepsRefused, LastPassable, LastTaken};
+ghost use Rattle.file_chunk.specs.inner.Needed.{Passable, AllPassed, FirstTaken, StepsPassable, StepsTaken, AllAhead, Runnable, RoomForSteps, StepsRefused, LastPassable, LastTaken};
 use limits::FILE_RECORD_LIMIT;
 use limits::FILE_RECORD_WIDTH;
 use file_record::Stand;
@@ -25,7 +25,7 @@ pub fn take_whole(
     marks: &mut [u8],
 ) -> Passed
     requires { ⌜ Passable stand (now chunk) from (now lines) (now clocks) (now words) (now records) (now marks) ⌝ }
-    ensures { λ r. ⌜ Passes stand (now (chunk .entry)) from (now (lines .entry)) (now (clocks .entry)) (now (words .entry)) (now (records .entry)) (now (marks .entry)) (r .stand) (r .next) (now (lines .exit)) (now (clocks .exit)) (now (words .exit)) (now (records .exit)) (now (marks .exit)) ⌝ }
+    ensures { λ r. ⌜ AllPassed stand (now (chunk .entry)) from (now (lines .entry)) (now (clocks .entry)) (now (words .entry)) (now (records .entry)) (now (marks .entry)) (r .stand) (r .next) (now (lines .exit)) (now (clocks .exit)) (now (words .exit)) (now (records .exit)) (now (marks .exit)) ⌝ }
 {
     let first = take_first(stand, chunk, from, lines, clocks, words, records, marks);
     let opened = first.stand;
@@ -83,7 +83,7 @@ fn take_behind(
     marks: &mut [u8],
 ) -> Passed
     requires { ⌜ StepsPassable stand (now chunk) from (now lines) (now clocks) (now words) (now records) (now marks) ⌝ }
-    ensures { λ r. ⌜ Passes stand (now (chunk .entry)) from (now (lines .entry)) (now (clocks .entry)) (now (words .entry)) (now (records .entry)) (now (marks .entry)) (r .stand) (r .next) (now (lines .exit)) (now (clocks .exit)) (now (words .exit)) (now (records .exit)) (now (marks .exit)) ⌝ }
+    ensures { λ r. ⌜ AllPassed stand (now (chunk .entry)) from (now (lines .entry)) (now (clocks .entry)) (now (words .entry)) (now (records .entry)) (now (marks .entry)) (r .stand) (r .next) (now (lines .exit)) (now (clocks .exit)) (now (words .exit)) (now (records .exit)) (now (marks .exit)) ⌝ }
 {
     let run = take_run(stand, chunk, from, lines, clocks, words, records, marks);
     let behind = run.stand;
@@ -182,7 +182,7 @@ fn take_steps(
 
 // Refuses the steps from a place on to another, on areas that are not in order: a line with refusal 1 for each.
 fn refuse_steps(stand: Stand, from: usize, end: usize, lines: &mut [u8]) -> Passed
-    requires { ⌜ Refusable stand from end (now lines) ⌝ }
+    requires { ⌜ RoomForSteps stand from end (now lines) ⌝ }
     ensures { λ r. ⌜ StepsRefused stand from end (now (lines .entry)) (r .stand) (r .next) (now (lines .exit)) ⌝ }
 {
     let mut number = stand.number;

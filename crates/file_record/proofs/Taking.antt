@@ -30,7 +30,7 @@ use Rattle.lines.specs.inner.Needed.{Room}
 use Rattle.lines.proofs.Lines.{at-most-44-bytes}
 use Rattle.file_record.specs.Records.{openingTaken, refusalLine}
 use Rattle.file_record.specs.declared.Stand.{Stand}
-use Rattle.file_record.specs.inner.Needed.{Kept, LinePut, OpenedAs, Takeable, Took, outcomeLine, standsAt}
+use Rattle.file_record.specs.inner.Needed.{RestKept, LinePut, OpenedAs, Takeable, RecordTaken, outcomeLine, standsAt}
 
 -- ---- a line behind those before it
 
@@ -38,7 +38,7 @@ module _ (out : List ℕ) (at : ℕ) (line : List ℕ) (h : at + length line ≤
   front-long : length (take at out ++ line) ≡ at + length line
   front-long = length-append (take at out) line ∙ omega (arith, length-take-le at out (omega (arith, h)))
 
-  line-kept : Kept out at (sets out at line) (at + length line)
+  line-kept : RestKept out at (sets out at line) (at + length line)
   line-kept =
       record {
         on = omega arith;
@@ -120,7 +120,7 @@ module _ (s : Stand) (bytes : List ℕ) (from : ℕ) (out c w r m : List ℕ) wh
     opening-line = p .lines ∙ ap (λ (j : ℕ). take (s .at) out ++ lineBytes 0 j 0 0) (e .0 ∙ o .refusal)
 
     pub refused-opening-taken : (n ≡ 0 → ⊥)
-        → Took (openingTaken (standsAt s out (areas c w r m)) (take fileRecordWidth (drop from bytes))) s out (record { number = 1; stopped = true; ready = s .ready; at = end }) out′ c′ w′ r′ m′
+        → RecordTaken (openingTaken (standsAt s out (areas c w r m)) (take fileRecordWidth (drop from bytes))) s out (record { number = 1; stopped = true; ready = s .ready; at = end }) out′ c′ w′ r′ m′
     unfolding openingTaken standsAt areasOpened
     refused-opening-taken z =
         let no : eqb (openRefusal (take fileRecordWidth (drop from bytes)) (areas c w r m)) 0 ≡ false = ne-eqb _ 0 (λ q. z (o .refusal ∙ q)) in
@@ -136,7 +136,7 @@ module _ (s : Stand) (bytes : List ℕ) (from : ℕ) (out c w r m : List ℕ) wh
         }
 
     pub accepted-opening-taken : n ≡ 0
-        → Took (openingTaken (standsAt s out (areas c w r m)) (take fileRecordWidth (drop from bytes))) s out (record { number = 1; stopped = false; ready = true; at = end }) out′ c′ w′ r′ m′
+        → RecordTaken (openingTaken (standsAt s out (areas c w r m)) (take fileRecordWidth (drop from bytes))) s out (record { number = 1; stopped = false; ready = true; at = end }) out′ c′ w′ r′ m′
     unfolding openingTaken standsAt
     accepted-opening-taken z =
         let yes : eqb (openRefusal (take fileRecordWidth (drop from bytes)) (areas c w r m)) 0 ≡ true = eq-eqb _ 0 (sym (o .refusal) ∙ z) in

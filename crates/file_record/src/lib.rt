@@ -7,7 +7,7 @@ ghost use Rattle.layout.specs.Areas.{areas};
 ghost use Rattle.lines.specs.Lines.{lineBytes};
 ghost use Rattle.lines.specs.inner.Needed.{Room, Counted};
 ghost use Rattle.file_record.specs.Records.{openingTaken};
-ghost use Rattle.file_record.specs.inner.Needed.{LinePut, outcomeLine, standsAt, Takeable, StoppedAt, Took, OpenedAs};
+ghost use Rattle.file_record.specs.inner.Needed.{LinePut, outcomeLine, standsAt, Takeable, StoppedAt, RecordTaken, OpenedAs};
 use step_act::Outcome;
 use limits::FILE_RECORD_WIDTH;
 
@@ -32,7 +32,7 @@ pub fn take_opening(
     marks: &mut [u8],
 ) -> Stand
     requires { ⌜ Takeable stand (now bytes) from (now lines) (now clocks) (now words) (now records) (now marks) ⌝ }
-    ensures { λ r. ⌜ Took (openingTaken (standsAt stand (now (lines .entry)) (areas (now (clocks .entry)) (now (words .entry)) (now (records .entry)) (now (marks .entry)))) (take fileRecordWidth (drop from (now (bytes .entry))))) stand (now (lines .entry)) r (now (lines .exit)) (now (clocks .exit)) (now (words .exit)) (now (records .exit)) (now (marks .exit)) ⌝ }
+    ensures { λ r. ⌜ RecordTaken (openingTaken (standsAt stand (now (lines .entry)) (areas (now (clocks .entry)) (now (words .entry)) (now (records .entry)) (now (marks .entry)))) (take fileRecordWidth (drop from (now (bytes .entry))))) stand (now (lines .entry)) r (now (lines .exit)) (now (clocks .exit)) (now (words .exit)) (now (records .exit)) (now (marks .exit)) ⌝ }
 {
     let refusal = open_at(bytes, from, clocks, words, records, marks);
     let at = put_line(lines, stand.at, 0, wide(refusal), 0, 0);

@@ -21,7 +21,7 @@ use Rattle.rules.proofs.inorder.Facts.{RecordSound, InOrder}
 use Rattle.layout.specs.Areas.{recordsIn, stateIn, standingCount}
 use Rattle.layout.specs.inner.Marks.{lockCount, pageCount, processorCount, slotInterval, slotLength, slotPage, slotProcessor}
 use Rattle.inorder_marks.specs.inner.Tests.{zeroAt, pagesOf, mayBeDirty, dirtyHold, holderWithin, holdersHold, arrivedHold, dirtyOf, roomHolds, marksHoldWith}
-use Rattle.inorder_records.specs.inner.Tests.{noticeHolds, diffHolds, recordHolds, differ, unlike, recordsHoldWith}
+use Rattle.inorder_records.specs.inner.Tests.{noticeHolds, diffHolds, recordHolds, noticesDiffer, unlike, recordsHoldWith}
 use Rattle.inorder.specs.inner.Tests.{ownEntries, countsHold, areasHoldWith, areasHold}
 use Rattle.inorder.proofs.PlaceFacts.{marks-zero-when}
 use Rattle.inorder.proofs.StateReads.{own-read, dirty-mark-read, arrived-mark-read, holder-mark-read, dirty-pages-read, record-processor, record-interval, record-page, record-length, record-diff, same-notice-read, present-read, page-present-read, lock-present-read, own-of-read}
@@ -119,7 +119,7 @@ module _ (c w r m : List ℕ) (o : InOrder mainframe (stateIn mainframe c w r m)
       (every-holds (standingCount m) (recordHolds (ownEntries c) r (processorCount m) (pageCount m))
       (λ i h. let b : i < recordLimit = omega (arith, few) in and-both _ _ (notice-say i b (o .record-sound i h)) (diff-say i b (o .record-sound i h))))
       (every-holds (standingCount m) (unlike r)
-      (λ i h. every-holds i (differ r i)
+      (λ i h. every-holds i (noticesDiffer r i)
       (λ j l. sym (same-notice-read c w r m i j (omega (arith, few)) (omega (arith, few))) ∙ ap not (o .distinct i j h l))))
 
   -- ---- all

@@ -19,7 +19,7 @@ use Rattle.rules.specs.State.{mainframe, own}
 use Rattle.rules.proofs.inorder.Conditions.{recordTests, record-tests}
 use Rattle.layout.specs.Areas.{recordsIn, stateIn, standingCount}
 use Rattle.layout.specs.inner.Marks.{pageCount, processorCount, slotInterval, slotLength, slotPage, slotProcessor}
-use Rattle.inorder_records.specs.inner.Tests.{noticeHolds, diffHolds, recordHolds, differ, unlike, recordsHoldWith}
+use Rattle.inorder_records.specs.inner.Tests.{noticeHolds, diffHolds, recordHolds, noticesDiffer, unlike, recordsHoldWith}
 use Rattle.inorder_records.proofs.RecordTests.{Notice, notice-says}
 use Rattle.inorder.specs.inner.Tests.{ownEntries}
 use Rattle.inorder.proofs.StateReads.{record-processor, record-interval, record-page, record-length, record-diff, same-notice-read, own-of-read}
@@ -72,4 +72,4 @@ module _ (c w r m : List ℕ) (fit : processorCount m ≤ processorLimit) (few :
       unlike-at : (i j : ℕ) → i < standingCount m → j < i → not (sameNotice (recordAt (held c w r m) i) (recordAt (held c w r m) j)) ≡ true
       unlike-at i j h k =
           same-notice-read c w r m i j (omega arith) (omega arith)
-          ∙ every-at i (differ r i) j (every-at (standingCount m) (unlike r) i (and-right (every (standingCount m) (recordHolds (ownEntries c) r (processorCount m) (pageCount m))) _ e) h) k
+          ∙ every-at i (noticesDiffer r i) j (every-at (standingCount m) (unlike r) i (and-right (every (standingCount m) (recordHolds (ownEntries c) r (processorCount m) (pageCount m))) _ e) h) k

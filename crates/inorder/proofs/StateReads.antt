@@ -24,7 +24,7 @@ use Rattle.layout.proofs.PageLaws.{copy-read, twin-read, dirty-read}
 use Rattle.layout.proofs.RowLaws.{get-row}
 use Rattle.layout.proofs.SlotLaws.{slot-read, slot-byte, record-read}
 use Rattle.inorder_marks.specs.inner.Tests.{zeroAt, pagesOf, dirtyCount, dirtyOf}
-use Rattle.inorder_records.specs.inner.Tests.{differ}
+use Rattle.inorder_records.specs.inner.Tests.{noticesDiffer}
 use Rattle.inorder.specs.inner.Tests.{ownEntries}
 use Rattle.inorder.proofs.PlaceFacts.{own-entry}
 
@@ -112,8 +112,8 @@ record-diff c w r m i b n = ap (λ (x : Record). x .diff) (record-read c w r m i
 
 -- two records are of one processor, interval and page
 pub same-notice-read : (c w r m : List ℕ) (i j : ℕ) → i < recordLimit → j < recordLimit
-    → not (sameNotice (recordAt (stateIn mainframe c w r m) i) (recordAt (stateIn mainframe c w r m) j)) ≡ differ r i j
-unfolding sameNotice differ
+    → not (sameNotice (recordAt (stateIn mainframe c w r m) i) (recordAt (stateIn mainframe c w r m) j)) ≡ noticesDiffer r i j
+unfolding sameNotice noticesDiffer
 same-notice-read c w r m i j a b =
     rw (record-processor c w r m i a, record-processor c w r m j b, record-interval c w r m i a, record-interval c w r m j b, record-page c w r m i a, record-page c w r m j b)
 

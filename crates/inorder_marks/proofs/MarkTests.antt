@@ -129,30 +129,30 @@ arrived-is m processors r e = e
 -- ---- dirty pages counted
 
 -- the first g pages have n dirty ones
-pub record Counted (m : List ℕ) (at pages g n : ℕ) : Type 0 where
+pub record DirtyCounted (m : List ℕ) (at pages g n : ℕ) : Type 0 where
   pub upto : g ≤ pages
   pub few : n ≤ g
   pub counted : n ≡ total g (dirtyCount m at)
 
 -- no page was counted
-pub count-none : (m : List ℕ) (at pages : ℕ) → Counted m at pages 0 0
+pub count-none : (m : List ℕ) (at pages : ℕ) → DirtyCounted m at pages 0 0
 unfolding total
 count-none m at pages = record { upto = omega arith; few = omega arith; counted = refl }
 
 -- one more is clean
-pub count-clean : (m : List ℕ) (at pages g n : ℕ) → Counted m at pages g n → g < pages → getD m (at + g) 0 ≡ 0 → Counted m at pages (g + 1) n
+pub count-clean : (m : List ℕ) (at pages g n : ℕ) → DirtyCounted m at pages g n → g < pages → getD m (at + g) 0 ≡ 0 → DirtyCounted m at pages (g + 1) n
 unfolding total dirtyCount zeroAt
 count-clean m at pages g n p h e =
     record { upto = omega arith; few = omega (arith, p .few); counted = rw (add-one, eq-eqb _ _ e) (omega (arith, p .counted)) }
 
 -- one more is dirty
-pub count-dirty : (m : List ℕ) (at pages g n : ℕ) → Counted m at pages g n → g < pages → (getD m (at + g) 0 ≡ 0 → ⊥) → Counted m at pages (g + 1) (n + 1)
+pub count-dirty : (m : List ℕ) (at pages g n : ℕ) → DirtyCounted m at pages g n → g < pages → (getD m (at + g) 0 ≡ 0 → ⊥) → DirtyCounted m at pages (g + 1) (n + 1)
 unfolding total dirtyCount zeroAt
 count-dirty m at pages g n p h e =
     record { upto = omega arith; few = omega (arith, p .few); counted = rw (add-one g, ne-eqb _ _ e) (omega (arith, p .counted)) }
 
 -- all were counted
-pub count-all : (m : List ℕ) (pages k g n : ℕ) → Counted m (firstDirty + pageLimit * k) pages g n → pages ≤ g → n ≡ dirtyOf m pages k
+pub count-all : (m : List ℕ) (pages k g n : ℕ) → DirtyCounted m (firstDirty + pageLimit * k) pages g n → pages ≤ g → n ≡ dirtyOf m pages k
 unfolding dirtyOf
 count-all m pages k g n p h = let e : g ≡ pages = omega (arith, p .upto) in p .counted ∙ rw e
 

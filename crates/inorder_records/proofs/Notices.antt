@@ -19,7 +19,7 @@ use Rattle.lists.proofs.Passing.{fail-one, and-fails, and-goes-on}
 use Rattle.limits.specs.Limits.{intervalLimit, pageLimit, processorLimit}
 use Rattle.limits.specs.inner.Sizes.{noticeRow, noticeTable}
 use Rattle.layout.specs.inner.Marks.{slotInterval, slotPage, slotProcessor}
-use Rattle.inorder_records.specs.inner.Tests.{ownFits, noticeHolds, diffHolds, recordHolds, differ, unlike, noticePlace}
+use Rattle.inorder_records.specs.inner.Tests.{ownFits, noticeHolds, diffHolds, recordHolds, noticesDiffer, unlike, noticePlace}
 use Rattle.inorder_records.specs.inner.Needed.{OwnFit, NoticeFits, NoticesFit, Blank}
 use Rattle.inorder_records.proofs.RecordTests.{Notice, notice-says, slot-places, slot-one, records-is}
 
@@ -55,13 +55,13 @@ notice-place-is r i p n g a b d = rw (← a .0, ← b .0, ← d .0)
 
 -- ---- records at one place, and at two
 
-same-place : (r : List ℕ) (i j : ℕ) → NoticeFits r i → NoticeFits r j → noticePlace r j ≡ noticePlace r i → differ r i j ≡ false
-unfolding differ noticePlace
+same-place : (r : List ℕ) (i j : ℕ) → NoticeFits r i → NoticeFits r j → noticePlace r j ≡ noticePlace r i → noticesDiffer r i j ≡ false
+unfolding noticesDiffer noticePlace
 same-place r i j a b e =
     rw (eq-eqb (slotProcessor r i) (slotProcessor r j) (omega (arith, e, a .interval, a .page, b .interval, b .page)), eq-eqb (slotInterval r i) (slotInterval r j) (omega (arith, e, a .interval, a .page, b .interval, b .page)), eq-eqb (slotPage r i) (slotPage r j) (omega (arith, e, a .interval, a .page, b .interval, b .page)))
 
-other-place : (r : List ℕ) (i j : ℕ) → (noticePlace r j ≡ noticePlace r i → ⊥) → differ r i j ≡ true
-unfolding differ noticePlace
+other-place : (r : List ℕ) (i j : ℕ) → (noticePlace r j ≡ noticePlace r i → ⊥) → noticesDiffer r i j ≡ true
+unfolding noticesDiffer noticePlace
 other-place r i j h = go (ℕ-discrete (slotProcessor r i) (slotProcessor r j)) (ℕ-discrete (slotInterval r i) (slotInterval r j)) (ℕ-discrete (slotPage r i) (slotPage r j))
   where
     go : Dec (slotProcessor r i ≡ slotProcessor r j) → Dec (slotInterval r i ≡ slotInterval r j) → Dec (slotPage r i ≡ slotPage r j)
@@ -87,7 +87,7 @@ pub record Marked (r : List ℕ) (i x : ℕ) : Type 0 where
   pub below : at < i
   pub is : noticePlace r at ≡ x
 
--- the first i records differ and are marked, and nothing else is
+-- the first i records noticesDiffer and are marked, and nothing else is
 pub record Seen (r : List ℕ) (n : ℕ) (seen : List ℕ) (i : ℕ) : Type 0 where
   pub upto : i ≤ n
   pub long : length seen ≡ noticeTable
@@ -110,7 +110,7 @@ seen-twice r n seen i place p f h e k = go (p .only place k)
     go : Marked r i place → false ≡ every n (unlike r)
     go z =
         fail-one n (unlike r) i h
-        (sym (fail-one i (differ r i) (z .at) (z .below) (same-place r i (z .at) (f .at i h) (f .at (z .at) (omega (arith, z .below))) (z .is ∙ e))))
+        (sym (fail-one i (noticesDiffer r i) (z .at) (z .below) (same-place r i (z .at) (f .at i h) (f .at (z .at) (omega (arith, z .below))) (z .is ∙ e))))
 
 -- a record whose place is not is unlike them, and is marked
 pub seen-new : (r : List ℕ) (n : ℕ) (seen : List ℕ) (i place : ℕ) → Seen r n seen i → i < n → place ≡ noticePlace r i → place < noticeTable → getD seen place 0 ≡ 0
@@ -120,7 +120,7 @@ seen-new r n seen i place p h e b k =
     record {
       upto = omega arith;
       long = length-set seen place 1 ∙ p .long;
-      passed = rw (add-one i) (and-both (every i (unlike r)) (unlike r i) (p .passed) (every-holds i (differ r i) (λ j l. other-place r i j (apart j l))));
+      passed = rw (add-one i) (and-both (every i (unlike r)) (unlike r i) (p .passed) (every-holds i (noticesDiffer r i) (λ j l. other-place r i j (apart j l))));
       marked = λ j l. mark j l (ℕ-discrete (noticePlace r j) place);
       only = λ x l. one x l (ℕ-discrete x place);
     }
@@ -148,7 +148,7 @@ seen-new r n seen i place p h e b k =
         go : Marked r i x → Marked r (i + 1) x
         go z = record { at = z .at; below = omega (arith, z .below); is = z .is }
 
--- all records differ
+-- all records noticesDiffer
 pub seen-all : (r : List ℕ) (n : ℕ) (seen : List ℕ) (i : ℕ) → Seen r n seen i → n ≤ i → true ≡ every n (unlike r)
 seen-all r n seen i p h = let e : i ≡ n = omega (arith, p .upto) in rw (← e) (sym (p .passed))
 

@@ -21,13 +21,13 @@ use Rattle.layout.proofs.Stores.{eqb-iff, eqb-pair}
 use Rattle.layout.proofs.RowLaws.{row-of-sets-same, row-of-sets-other, row-of-sets, get-tabulate, tabulate-same, put-tabulate, map-tabulate, get-per-processor, per-processor-same, put-per-processor, map-per-processor, get-page, page-table-same, put-page, get-interval, interval-table-same, put-interval, row-map, map-replicate}
 
 -- the row of a holder lies within the area
-pub clock-row-there : (h : Holder) → Within mainframe h → clockWidth * clockRow mainframe h + clockWidth ≤ clockArea
+pub holder-row-there : (h : Holder) → Within mainframe h → clockWidth * clockRow mainframe h + clockWidth ≤ clockArea
 unfolding Within clockRow lockRow appliedRow intervalRow mainframe
-clock-row-there (Processor p) b = omega arith
-clock-row-there (Lock l) b = omega arith
-clock-row-there Barrier b = omega arith
-clock-row-there (Applied p g) b = omega arith
-clock-row-there (Interval p i) b = omega arith
+holder-row-there (Processor p) b = omega arith
+holder-row-there (Lock l) b = omega arith
+holder-row-there Barrier b = omega arith
+holder-row-there (Applied p g) b = omega arith
+holder-row-there (Interval p i) b = omega arith
 
 -- a holder's clock is its row
 pub clock-read : (c : List ℕ) (h : Holder) → Within mainframe h → clockOf (clocksIn mainframe c) h ≡ rowOf clockWidth c (clockRow mainframe h)

@@ -20,7 +20,7 @@ use Rattle.layout.specs.Areas.{lockRow, appliedRow, intervalRow, clockRo
 use Rattle.layout.specs.inner.Needed.{Lent, Holds}
 use Rattle.layout.specs.inner.Marks.{lockCount, pageCount, processorCount, wishMark}
 use Rattle.layout.proofs.RowLaws.{length-row, length-tabulate, length-per-processor, get-nobody, get-per-processor}
-use Rattle.layout.proofs.ClockLaws.{clock-row-there, clock-read}
+use Rattle.layout.proofs.ClockLaws.{holder-row-there, clock-read}
 use Rattle.layout.proofs.PageLaws.{copy-row-there, twin-row-there, copy-read, twin-read}
 use Rattle.layout.proofs.SlotLaws.{slot-there, slot-read}
 use Rattle.layout.proofs.Joins.{join-rows, join-per-processor, join-tables, tabulate-part}
@@ -198,7 +198,7 @@ lent-sized c w r m lent few =
           ap (λ (t : List (List ℕ)). length (getD t 0 [])) (get-per-processor processorLimit interval-clocks p [] h k)
           ∙ ap length (get-nobody intervalLimit (λ i. rowOf clockWidth c (clockRow mainframe (Interval p i))) []);
       clocks =
-          λ h b. ap length (clock-read c h b) ∙ length-row clockWidth c (clockRow mainframe h) (omega (arith, clock-row-there h b, lent .clocks));
+          λ h b. ap length (clock-read c h b) ∙ length-row clockWidth c (clockRow mainframe h) (omega (arith, holder-row-there h b, lent .clocks));
       copies = length-per-processor processorLimit copies;
       nobody-copy = ap length (get-nobody processorLimit copies []);
       copies-row = λ p h k. ap length (get-per-processor processorLimit copies p [] h k) ∙ length-tabulate pageLimit (λ g. rowOf pageWidth w (copyRow mainframe p g));

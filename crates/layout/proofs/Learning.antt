@@ -14,9 +14,9 @@ use Rattle.rules.specs.Steps.{learned}
 use Rattle.rules.proofs.inorder.Facts.{Within}
 use Rattle.layout.specs.Areas.{clockRow, clocksIn}
 use Rattle.layout.specs.Layout.{rowOf}
-use Rattle.layout.proofs.ClockLaws.{clock-row-there, clock-read, clock-written}
+use Rattle.layout.proofs.ClockLaws.{holder-row-there, clock-read, clock-written}
 use Rattle.layout.proofs.RowLaws.{length-row}
-use Rattle.layout.proofs.Rows.{clock-row-there as row-there}
+use Rattle.layout.proofs.Rows.{holder-row-there as row-there}
 
 -- what is laid into the learner's row
 pub learned-row : (c c′ : List ℕ) (to from : ℕ) (own news both : List ℕ) → own ≡ rowOf clockWidth c to → news ≡ rowOf clockWidth c from → both ≡ joined own news
@@ -33,8 +33,8 @@ module _ (c : List ℕ) (to from : Holder) (long : length c ≡ clockArea) (t : 
       omega (
         arith,
         length-joined (rowOf clockWidth c (clockRow mainframe to)) (rowOf clockWidth c (clockRow mainframe from)),
-        length-row clockWidth c (clockRow mainframe to) (omega (arith, clock-row-there to t)),
-        length-row clockWidth c (clockRow mainframe from) (omega (arith, clock-row-there from f)),
+        length-row clockWidth c (clockRow mainframe to) (omega (arith, holder-row-there to t)),
+        length-row clockWidth c (clockRow mainframe from) (omega (arith, holder-row-there from f)),
       )
 
   pub learned-clock : clocksIn mainframe (sets c (clockWidth * clockRow mainframe to) both) ≡ learned (clocksIn mainframe c) to from

@@ -16,7 +16,7 @@ use Rattle.limits.specs.Limits.{lineLimit}
 use Rattle.lines.specs.Decimal.{digits}
 use Rattle.lines.specs.Lines.{lineBytes, lineFits, lineAnswer, placeSaid, lineLeft}
 use Rattle.lines.specs.declared.Placed.the-variants.{End, NoRoom}
-use Rattle.lines.specs.inner.Needed.{Room, DigitsFit, PairFits, Put, pairBytes, fieldBytes, halfBytes}
+use Rattle.lines.specs.inner.Needed.{Room, DigitsFit, PairFits, Put, digitPair, fieldBytes, halfBytes}
 use Rattle.lines.proofs.Digits.{digits-one, digits-two, digits-pair-more, length-two, length-pair-more, length-four-more, at-most-ten-digits}
 use Rattle.lines.proofs.Lines.{line-is-halves, sets-append, sets-last-first}
 
@@ -60,8 +60,8 @@ module _ (out : List ℕ) (at pair : ℕ) where
   pub second-place : PairFits out at pair → (v : ℕ) → at + 1 < length (set out at v)
   second-place p v = simp length-set (omega (arith, p .room))
 
-  pub pair-stored : set (set out at (48 + pair / 10)) (at + 1) (48 + pair % 10) ≡ sets out at (pairBytes pair)
-  unfolding pairBytes
+  pub pair-stored : set (set out at (48 + pair / 10)) (at + 1) (48 + pair % 10) ≡ sets out at (digitPair pair)
+  unfolding digitPair
   pair-stored = ap (λ (k : ℕ). set (set out at (48 + pair / 10)) k (48 + pair % 10)) (add-one at)
 
 -- the last digits of n are stored; those of rest, which end before i, are left
@@ -83,11 +83,11 @@ module _ (out₀ out : List ℕ) (at n i rest : ℕ) (p : Storing out₀ out at 
   pub room-for-pair : 100 ≤ rest → PairFits out (i - 2) (rest % 100)
   room-for-pair h = record { two = omega arith; room = omega (arith, p .room, pair-before h) }
 
-  pub storing-more : (out′ : List ℕ) → 100 ≤ rest → out′ ≡ sets out (i - 2) (pairBytes (rest % 100)) → Storing out₀ out′ at n (i - 2) (rest / 100)
+  pub storing-more : (out′ : List ℕ) → 100 ≤ rest → out′ ≡ sets out (i - 2) (digitPair (rest % 100)) → Storing out₀ out′ at n (i - 2) (rest / 100)
   storing-more out′ h e =
       let more = length-pair-more rest h in
       let here : at + length (digits (rest / 100)) ≡ i - 2 = omega (arith, p .place) in
-      let long = sets-keep-length out out′ (i - 2) (pairBytes (rest % 100)) e in
+      let long = sets-keep-length out out′ (i - 2) (digitPair (rest % 100)) e in
       record {
         place = sym here;
         room = omega (arith, p .room);
@@ -95,8 +95,8 @@ module _ (out₀ out : List ℕ) (at n i rest : ℕ) (p : Storing out₀ out at 
         same =
             p .same
             ∙ ap (λ (l : List ℕ). sets out at l) (digits-pair-more rest h)
-            ∙ sets-last-first out at (digits (rest / 100)) (pairBytes (rest % 100))
-            ∙ ap (λ (k : ℕ). sets (sets out k (pairBytes (rest % 100))) at (digits (rest / 100))) here
+            ∙ sets-last-first out at (digits (rest / 100)) (digitPair (rest % 100))
+            ∙ ap (λ (k : ℕ). sets (sets out k (digitPair (rest % 100))) at (digits (rest / 100))) here
             ∙ ap (λ (l : List ℕ). sets l at (digits (rest / 100))) (sym e);
       }
 
@@ -109,7 +109,7 @@ module _ (out₀ out : List ℕ) (at n i rest : ℕ) (p : Storing out₀ out at 
   pub room-for-first-pair : 10 ≤ rest → rest < 100 → PairFits out at rest
   room-for-first-pair h k = record { two = k; room = omega (arith, p .place, p .room, length-two rest h k) }
 
-  pub first-pair-stored : (out′ : List ℕ) → 10 ≤ rest → rest < 100 → out′ ≡ sets out at (pairBytes rest) → out′ ≡ sets out₀ at (digits n)
+  pub first-pair-stored : (out′ : List ℕ) → 10 ≤ rest → rest < 100 → out′ ≡ sets out at (digitPair rest) → out′ ≡ sets out₀ at (digits n)
   first-pair-stored out′ h k e = e ∙ sym (p .same ∙ ap (λ (l : List ℕ). sets out at l) (digits-two rest h k))
 
 -- ---- one number

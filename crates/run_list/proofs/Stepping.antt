@@ -21,11 +21,11 @@ use Rattle.step_act.specs.Telling.{told}
 use Rattle.engine.specs.inner.Needed.{SteppedKept}
 use Rattle.step_record.specs.Records.{stepFrom, stepsIn, answerWords}
 use Rattle.step_record.specs.inner.Needed.{StepThere}
-use Rattle.run_list.specs.inner.Needed.{OutcomeLaid, RecordThere, StepLaid, StepsThere, StepsLaid}
+use Rattle.run_list.specs.inner.Needed.{OutcomeLaid, RecordReady, StepLaid, StepsThere, StepsLaid}
 
 -- ---- one record
 
-pub step-there : (bs : List ℕ) (i : ℕ) (out c w r m x : List ℕ) → RecordThere bs i out c w r m x → StepThere bs (fileRecordWidth * i) c w r m x
+pub step-there : (bs : List ℕ) (i : ℕ) (out c w r m x : List ℕ) → RecordReady bs i out c w r m x → StepThere bs (fileRecordWidth * i) c w r m x
 step-there bs i out c w r m x h = record { ready = h .ready; there = h .there }
 
 -- the outcome of a step tells the rules' answer
@@ -79,7 +79,7 @@ steps-from bs n i l =
     f = omega arith
 
 module _ (bs : List ℕ) (n : ℕ) (s₀ : State) (out₀ out c w r m x : List ℕ) (i : ℕ) (h : StepsLeft bs n s₀ out₀ out c w r m x i) where
-  pub record-there : i < n → RecordThere bs i out c w r m x
+  pub record-there : i < n → RecordReady bs i out c w r m x
   record-there l = record { ready = h .ready; there = omega (arith, h .there, l); room = omega (arith, h .room, l) }
 
   module _ (out′ c′ w′ r′ m′ x′ : List ℕ) (l : i < n) (d : StepLaid bs i (stateIn mainframe c w r m) out out′ c′ w′ r′ m′ x′) where

@@ -7,7 +7,7 @@ ghost use lib.Seq.{sets};
 ghost use Rattle.rules.specs.State.{mainframe};
 ghost use Rattle.layout.specs.Areas.{stateIn, areas};
 ghost use Rattle.run_list.specs.Runs.{Ran};
-ghost use Rattle.run_list.specs.inner.Needed.{OutcomeLaid, RecordThere, StepLaid, CountIs, RecordsThere, OpeningThere, OpeningLaid, StepsThere, StepsLaid};
+ghost use Rattle.run_list.specs.inner.Needed.{OutcomeLaid, RecordReady, StepLaid, CountIs, RecordsThere, OpeningThere, OpeningLaid, StepsThere, StepsLaid};
 use step_act::Outcome;
 use limits::FILE_RECORD_WIDTH;
 
@@ -113,7 +113,7 @@ fn run_step(
     marks: &mut [u8],
     index: &mut [u32],
 )
-    requires { ⌜ RecordThere (now bytes) i (now answers) (now clocks) (now words) (now records) (now marks) (now index) ⌝ }
+    requires { ⌜ RecordReady (now bytes) i (now answers) (now clocks) (now words) (now records) (now marks) (now index) ⌝ }
     ensures { λ _. ⌜ StepLaid (now (bytes .entry)) i (stateIn mainframe (now (clocks .entry)) (now (words .entry)) (now (records .entry)) (now (marks .entry))) (now (answers .entry)) (now (answers .exit)) (now (clocks .exit)) (now (words .exit)) (now (records .exit)) (now (marks .exit)) (now (index .exit)) ⌝ }
 {
     let at = FILE_RECORD_WIDTH * i;

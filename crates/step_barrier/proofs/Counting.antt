@@ -34,24 +34,24 @@ abbrev marked : List ℕ → ℕ → Bool
 marked m k = not (eqb (arrivedMark m (suc k)) 0)
 
 -- the first k marks are counted
-pub record MarksCounted (m : List ℕ) (sum k : ℕ) : Type 0 where
+pub record ArrivedCounted (m : List ℕ) (sum k : ℕ) : Type 0 where
   pub there : AbsentAway m
   pub upto : k ≤ processorLimit
   pub few : sum ≤ k
   pub same : sum ≡ passing k (marked m)
 
 -- none is counted yet
-pub counting-begins : (m : List ℕ) → AbsentAway m → MarksCounted m 0 0
+pub arrived-counting-begins : (m : List ℕ) → AbsentAway m → ArrivedCounted m 0 0
 unfolding total
-counting-begins m h = record { there = h; upto = omega arith; few = omega arith; same = refl }
+arrived-counting-begins m h = record { there = h; upto = omega arith; few = omega arith; same = refl }
 
 -- the next has its place
-pub counting-next : (m : List ℕ) (sum k : ℕ) → MarksCounted m sum k → k < processorLimit → MarksOf m (k + 1)
+pub counting-next : (m : List ℕ) (sum k : ℕ) → ArrivedCounted m sum k → k < processorLimit → MarksOf m (k + 1)
 counting-next m sum k h l = record { marks = h .there .marks; from = omega arith; to = omega arith }
 
 -- and counts 1 or 0
-pub counting-more : (m : List ℕ) (sum k r : ℕ) (b : Bool) → MarksCounted m sum k → k < processorLimit → b ≡ not (eqb (arrivedMark m (k + 1)) 0) → r ≡ cond b 1 0 → r ≤ 1
-    → MarksCounted m (sum + r) (k + 1)
+pub counting-more : (m : List ℕ) (sum k r : ℕ) (b : Bool) → ArrivedCounted m sum k → k < processorLimit → b ≡ not (eqb (arrivedMark m (k + 1)) 0) → r ≡ cond b 1 0 → r ≤ 1
+    → ArrivedCounted m (sum + r) (k + 1)
 unfolding total
 counting-more m sum k r b h l e f g =
     record { there = h .there; upto = omega arith; few = omega (arith, h .few); same = rw (add-one k, ← h .same, f, rw (add-one k) at e) }
@@ -67,9 +67,9 @@ module _ (m : List ℕ) (h : AbsentAway m) (c w r : List ℕ) where
       (λ k l. ap (λ (x : ℕ). cond (not (eqb x 0)) 1 0) (sym (arrived-read c w r m (suc k) (omega arith) (omega (arith, h .few)))))
 
 -- all are counted
-pub counting-ends : (m : List ℕ) (sum k x n : ℕ) → MarksCounted m sum k → processorLimit ≤ k → (x ≡ sum) × (x < 256) → (n ≡ processorCount m) × (n < 256)
+pub arrived-counting-ends : (m : List ℕ) (sum k x n : ℕ) → ArrivedCounted m sum k → processorLimit ≤ k → (x ≡ sum) × (x < 256) → (n ≡ processorCount m) × (n < 256)
     → OneMissing m (eqb (x + 1) n)
-counting-ends m sum k x n h l e d =
+arrived-counting-ends m sum k x n h l e d =
     let all : k ≡ processorLimit = omega (arith, h .upto) in
     record {
       is =
@@ -78,7 +78,7 @@ counting-ends m sum k x n h l e d =
           rw (is, d .0);
     }
 
-pub ruleset count-laws = (counting-begins, counting-next, counting-more, counting-ends, needs)
+pub ruleset count-laws = (arrived-counting-begins, counting-next, counting-more, arrived-counting-ends, needs)
 
 -- ---- the last arrival
 

@@ -23,8 +23,8 @@ use Rattle.layout.proofs.MarkLaws.{standing-written, standing-length}
 use Rattle.layout.proofs.PageLaws.{copy-row-there, twin-row-there, copy-read, twin-read}
 use Rattle.layout.proofs.RowLaws.{length-row}
 use Rattle.layout.proofs.SlotLaws.{slot-written}
-use Rattle.step_close.specs.inner.Parts.{oneMore, recordOf, pageRecord}
-use Rattle.step_close.specs.inner.Needed.{Appendable, SlotThere, RecordFits}
+use Rattle.step_close.specs.inner.Parts.{oneMore, recordMade, pageRecord}
+use Rattle.step_close.specs.inner.Needed.{ChangeAppendable, PageSlotThere, RecordFits}
 use Rattle.step_close.proofs.SlotBytes.{part-stored}
 
 -- ---- in a slot of the area
@@ -33,7 +33,7 @@ use Rattle.step_close.proofs.SlotBytes.{part-stored}
 pub words-row : (w : List ℕ) (row : ℕ) → length w ≡ wordArea → row < wordRowLimit → RowThere pageWidth w row
 words-row w row e h = record { within = omega arith }
 
-module _ (w r : List ℕ) (p i g mask slot : ℕ) (there : SlotThere w r p i g mask slot) where
+module _ (w r : List ℕ) (p i g mask slot : ℕ) (there : PageSlotThere w r p i g mask slot) where
   -- the page has its rows
   pub record-on-page : OnPage p g
   record-on-page = record { from = there .from; to = there .to; page = there .page }
@@ -56,19 +56,19 @@ module _ (w r : List ℕ) (p i g mask slot : ℕ) (there : SlotThere w r p i g m
 
   -- the slot put back has the bytes of the record
   pub record-laid : (part old new : List ℕ) (twin copy : ℕ)
-      → part ≡ sets (take (slotWidth * slot + slotWidth - slotWidth * slot) (drop (slotWidth * slot) r)) 0 (slotBytes (recordOf p i g old new))
+      → part ≡ sets (take (slotWidth * slot + slotWidth - slotWidth * slot) (drop (slotWidth * slot) r)) 0 (slotBytes (recordMade p i g old new))
       → old ≡ rowOf pageWidth w twin → new ≡ rowOf pageWidth w copy → twin ≡ twinRow mainframe p g → copy ≡ copyRow mainframe p g → twin < wordRowLimit → copy < wordRowLimit
       → take (slotWidth * slot) r ++ (part ++ drop (slotWidth * slot + slotWidth - slotWidth * slot) (drop (slotWidth * slot) r)) ≡ sets r (slotWidth * slot) (slotBytes (pageRecord p i g w))
-  unfolding pageRecord recordOf slotBytes
+  unfolding pageRecord recordMade slotBytes
   record-laid part old new twin copy e eo en et ec ht hc =
       let fits = record-fits old new twin copy eo en et ec ht hc in
       let few : length (written old new) ≤ diffLimit = at-most-131-bytes old new (fits .old-whole) (fits .new-whole) in
-      part-stored r part (slotBytes (recordOf p i g old new)) (slotWidth * slot) (slotWidth * slot + slotWidth - slotWidth * slot) (omega (arith, there .records, there .place)) (omega (arith, few)) e
+      part-stored r part (slotBytes (recordMade p i g old new)) (slotWidth * slot) (slotWidth * slot + slotWidth - slotWidth * slot) (omega (arith, there .records, there .place)) (omega (arith, few)) e
       ∙ rw (eo, en, et, ec)
 
 -- ---- one record more
 
-module _ (c w r m : List ℕ) (p g mask : ℕ) (ready : Appendable c w r m p g mask) where
+module _ (c w r m : List ℕ) (p g mask : ℕ) (ready : ChangeAppendable c w r m p g mask) where
   -- its clock is there
   pub append-clocks : ClocksOf c p
   append-clocks = record { clocks = ready .lent .clocks; from = ready .from; to = ready .to }
@@ -84,7 +84,7 @@ module _ (c w r m : List ℕ) (p g mask : ℕ) (ready : Appendable c w r m p g m
 
   module _ (e : ℕ) (entry : OwnEntry c p e) where
     -- the first free slot is there, and numbers a little above the own entry fit a byte
-    pub append-slot : (slot x k : ℕ) → (slot ≡ standingCount m) × (slot < 65536) → x ≡ e → k ≤ 100 → SlotThere w r p (x + k) g mask slot
+    pub append-slot : (slot x k : ℕ) → (slot ≡ standingCount m) × (slot < 65536) → x ≡ e → k ≤ 100 → PageSlotThere w r p (x + k) g mask slot
     append-slot slot x k at is h =
         record {
           words = ready .lent .words;
@@ -98,7 +98,7 @@ module _ (c w r m : List ℕ) (p g mask : ℕ) (ready : Appendable c w r m p g m
         }
 
     record-is : pageRecord p (e + 1) g w ≡ newRecord (stateIn mainframe c w r m) p g
-    unfolding pageRecord recordOf newRecord
+    unfolding pageRecord recordMade newRecord
     record-is =
         λ i. record {
           processor = p;
@@ -114,7 +114,7 @@ module _ (c w r m : List ℕ) (p g mask : ℕ) (ready : Appendable c w r m p g m
         copy = sym (unfold stateIn in copy-read w m p g (ready .from) (ready .to) (ready .page))
 
     record-length : length (slotBytes (pageRecord p (e + 1) g w)) ≤ slotWidth
-    unfolding slotBytes pageRecord recordOf
+    unfolding slotBytes pageRecord recordMade
     record-length =
         let twin = length-row pageWidth w (twinRow mainframe p g) (omega (arith, twin-row-there p g (ready .from) (ready .to) (ready .page), ready .lent .words)) in
         let copy = length-row pageWidth w (copyRow mainframe p g) (omega (arith, copy-row-there p g (ready .from) (ready .to) (ready .page), ready .lent .words)) in

@@ -22,7 +22,7 @@ use Rattle.layout.specs.inner.Needed.{OnPage, PageMark, Holds}
 use Rattle.layout.proofs.PageLaws.{copy-read, twin-read, dirty-read}
 use Rattle.layout.proofs.RowLaws.{length-row}
 use Rattle.step_close.specs.inner.Parts.{oneMore, pageRecorded, PageChanged}
-use Rattle.step_close.specs.inner.Needed.{Recordable, Appendable, PageThere, ChangedWords}
+use Rattle.step_close.specs.inner.Needed.{Recordable, ChangeAppendable, PageThere, ChangedWords}
 use Rattle.step_close.proofs.PageWords.{mask-tells}
 use Rattle.step_close.proofs.PageRecords.{words-row}
 
@@ -79,7 +79,7 @@ module _ (c w r m : List ℕ) (p g : ℕ) (ready : Recordable c w r m p g) where
 
   module _ (mask : ℕ) (said : ChangedWords w m p g mask) where
     -- a page that changed can be appended
-    pub append-ready : (mask ≡ 0 → ⊥) → Appendable c w r m p g mask
+    pub append-ready : (mask ≡ 0 → ⊥) → ChangeAppendable c w r m p g mask
     append-ready h =
         record {
           lent = ready .lent;

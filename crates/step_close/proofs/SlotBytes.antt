@@ -13,7 +13,7 @@ use Rattle.diff.specs.Format.{written}
 use Rattle.diff.proofs.Theorems.{at-most-131-bytes}
 use Rattle.diff_writer.specs.inner.Needed.{RoomForDiff}
 use Rattle.rules.specs.State.{slotBytes}
-use Rattle.step_close.specs.inner.Parts.{recordOf}
+use Rattle.step_close.specs.inner.Parts.{recordMade}
 use Rattle.step_close.specs.inner.Needed.{RecordFits, SlotFits, DiffFits}
 
 -- a list stored into a part of another, and the part put back
@@ -98,8 +98,8 @@ module _ (p i g : ℕ) (old new : List ℕ) (mask : ℕ) (slot : List ℕ) (fits
 
   -- numbers and diff together are the bytes of the record
   pub slot-filled : (n : ℕ) (out : List ℕ) → n ≡ length (written old new) → out ≡ sets slot slotHead (written old new)
-      → set (set (set (set out 0 (p % 256)) 1 (i % 256)) 2 (g % 256)) 3 n ≡ sets slot 0 (slotBytes (recordOf p i g old new))
-  unfolding slotBytes recordOf
+      → set (set (set (set out 0 (p % 256)) 1 (i % 256)) 2 (g % 256)) 3 n ≡ sets slot 0 (slotBytes (recordMade p i g old new))
+  unfolding slotBytes recordMade
   slot-filled n out l e =
       let d : List ℕ = written old new in
       let processor : p % 256 ≡ p = omega (arith, fits .processor) in

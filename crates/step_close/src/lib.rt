@@ -14,8 +14,8 @@ ghost use Rattle.rules.specs.Close.{raised, closed};
 ghost use Rattle.layout.specs.Layout.{rowOf};
 ghost use Rattle.layout.specs.Areas.{stateIn};
 ghost use Rattle.layout.specs.inner.Needed.{Acts, RowThere, MarksOf, Holds};
-ghost use Rattle.step_close.specs.inner.Parts.{recordOf, pageRecord, oneMore, pageRecorded, allRecorded, PageChanged, AnyChanged, AnyDirty, Ticked};
-ghost use Rattle.step_close.specs.inner.Needed.{Recordable, Appendable, PageThere, SlotThere, RecordFits, SlotFits, DiffFits, ChangedWords, Raisable, Tickable};
+ghost use Rattle.step_close.specs.inner.Parts.{recordMade, pageRecord, oneMore, pageRecorded, allRecorded, PageChanged, AnyChanged, AnyDirty, Ticked};
+ghost use Rattle.step_close.specs.inner.Needed.{Recordable, ChangeAppendable, PageThere, PageSlotThere, RecordFits, SlotFits, DiffFits, ChangedWords, Raisable, Tickable};
 use clock::Clock;
 use clock::IntervalId;
 use clock::PageId;
@@ -159,7 +159,7 @@ fn append(
     records: &mut [u8],
     marks: &mut [u8],
 )
-    requires { ⌜ Appendable (now clocks) (now words) (now records) (now marks) (p .0) (g .0) mask ⌝ }
+    requires { ⌜ ChangeAppendable (now clocks) (now words) (now records) (now marks) (p .0) (g .0) mask ⌝ }
     ensures { λ _. ⌜ Holds (now (clocks .entry)) (now (words .entry)) (now (records .exit)) (now (marks .exit)) (oneMore (stateIn mainframe (now (clocks .entry)) (now (words .entry)) (now (records .entry)) (now (marks .entry))) (p .0) (g .0)) ⌝ }
 {
     let interval = IntervalId(wide(own_entry(clocks, p)) + 1);
@@ -178,7 +178,7 @@ fn lay_record(
     records: &mut [u8],
     slot: usize,
 )
-    requires { ⌜ SlotThere (now words) (now records) (p .0) (interval .0) (g .0) mask slot ⌝ }
+    requires { ⌜ PageSlotThere (now words) (now records) (p .0) (interval .0) (g .0) mask slot ⌝ }
     ensures { λ _. ⌜ now (records .exit) ≡ sets (now (records .entry)) (slotWidth * slot) (slotBytes (pageRecord (p .0) (interval .0) (g .0) (now (words .entry)))) ⌝ }
 {
     let old = page(words, twin_row(p, g));
@@ -199,7 +199,7 @@ fn fill_slot(
     slot: &mut [u8],
 )
     requires { ⌜ RecordFits (p .0) (interval .0) (g .0) (now old) (now new) mask (now slot) ⌝ }
-    ensures { λ _. ⌜ now (slot .exit) ≡ sets (now (slot .entry)) 0 (slotBytes (recordOf (p .0) (interval .0) (g .0) (now (old .entry)) (now (new .entry)))) ⌝ }
+    ensures { λ _. ⌜ now (slot .exit) ≡ sets (now (slot .entry)) 0 (slotBytes (recordMade (p .0) (interval .0) (g .0) (now (old .entry)) (now (new .entry)))) ⌝ }
 {
     let n = lay_diff_behind(old, new, mask, slot);
     slot[0] = (p.0 % 256) as u8;

@@ -14,7 +14,7 @@ use Rattle.file_record.specs.Records.{Feed}
 use Rattle.file_record.specs.declared.Stand.{Stand}
 use Rattle.file_record.specs.inner.Needed.{standsAt}
 use Rattle.file_chunk.specs.Bytes.{bytesTaken, heldOn}
-use Rattle.file_chunk.specs.inner.Needed.{Passes}
+use Rattle.file_chunk.specs.inner.Needed.{AllPassed}
 use Rattle.file_chunk.proofs.Bytes.{taken-held, taken-stopped}
 use Rattle.stepfile.specs.Promises.{progressOf}
 use Rattle.stepfile.specs.declared.Progress.{Progress}
@@ -84,7 +84,7 @@ module _ (s : Stand) (chunk : List ℕ) (from : ℕ) (h : Endable s chunk from) 
       }
 
 module _ (s : Stand) (chunk : List ℕ) (from : ℕ) (out c w r m : List ℕ) (s′ : Stand) (i : ℕ) (out′ c′ w′ r′ m′ : List ℕ)
-    (h : Passes s chunk from out c w r m s′ i out′ c′ w′ r′ m′) where
+    (h : AllPassed s chunk from out c w r m s′ i out′ c′ w′ r′ m′) where
   -- what the end asks of the last stand
   pub endable : Endable s′ chunk i
   endable = record { within = h .passing .able .within; few-left = h .few-left }

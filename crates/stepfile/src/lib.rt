@@ -4,10 +4,10 @@ ghost use lib.ListN.{length, take, drop};
 ghost use Rattle.limits.specs.Limits.{fileRecordWidth};
 ghost use Rattle.layout.specs.Areas.{areas};
 ghost use Rattle.file_record.specs.Records.{recordTaken};
-ghost use Rattle.file_record.specs.inner.Needed.{standsAt, Took};
+ghost use Rattle.file_record.specs.inner.Needed.{standsAt, RecordTaken};
 ghost use Rattle.file_chunk.specs.Bytes.{bytesTaken};
 ghost use Rattle.file_chunk.specs.inner.Needed.{Passable};
-ghost use Rattle.stepfile.specs.Promises.{standing, Started, FedAs, FinishedAs};
+ghost use Rattle.stepfile.specs.Promises.{feedAt, Started, FedAs, FinishedAs};
 ghost use Rattle.stepfile.specs.inner.Needed.{ZerosBehind, FeedableIs, EndsShort, Holdable, HeldAll, Feedable, Completes, BegunPassable, Endable, Ended, ChunkFed};
 use limits::FILE_RECORD_LIMIT;
 use limits::FILE_RECORD_WIDTH;
@@ -155,7 +155,7 @@ fn feed_sound(
     marks: &mut [u8],
 ) -> Taken
     requires { ⌜ FeedableIs true progress (length (now chunk)) (length (now lines)) ⌝ }
-    ensures { λ r. ⌜ ChunkFed (bytesTaken (standing progress (areas (now (clocks .entry)) (now (words .entry)) (now (records .entry)) (now (marks .entry)))) (now (chunk .entry))) 0 (now (lines .entry)) r (now (lines .exit)) (areas (now (clocks .exit)) (now (words .exit)) (now (records .exit)) (now (marks .exit))) ⌝ }
+    ensures { λ r. ⌜ ChunkFed (bytesTaken (feedAt progress (areas (now (clocks .entry)) (now (words .entry)) (now (records .entry)) (now (marks .entry)))) (now (chunk .entry))) 0 (now (lines .entry)) r (now (lines .exit)) (areas (now (clocks .exit)) (now (words .exit)) (now (records .exit)) (now (marks .exit))) ⌝ }
 {
     if progress.stopped {
         return Taken {
@@ -186,7 +186,7 @@ fn feed_on(
     marks: &mut [u8],
 ) -> Taken
     requires { ⌜ Feedable progress stand (now chunk) (now lines) (now clocks) (now words) (now records) (now marks) ⌝ }
-    ensures { λ r. ⌜ ChunkFed (bytesTaken (standing progress (areas (now (clocks .entry)) (now (words .entry)) (now (records .entry)) (now (marks .entry)))) (now (chunk .entry))) 0 (now (lines .entry)) r (now (lines .exit)) (areas (now (clocks .exit)) (now (words .exit)) (now (records .exit)) (now (marks .exit))) ⌝ }
+    ensures { λ r. ⌜ ChunkFed (bytesTaken (feedAt progress (areas (now (clocks .entry)) (now (words .entry)) (now (records .entry)) (now (marks .entry)))) (now (chunk .entry))) 0 (now (lines .entry)) r (now (lines .exit)) (areas (now (clocks .exit)) (now (words .exit)) (now (records .exit)) (now (marks .exit))) ⌝ }
 {
     if progress.held == 0 {
         return take_rest(stand, chunk, 0, lines, clocks, words, records, marks);
@@ -260,7 +260,7 @@ fn feed_begun(
     marks: &mut [u8],
 ) -> Taken
     requires { ⌜ Completes progress stand first (now chunk) (now lines) (now clocks) (now words) (now records) (now marks) ⌝ }
-    ensures { λ r. ⌜ ChunkFed (bytesTaken (standing progress (areas (now (clocks .entry)) (now (words .entry)) (now (records .entry)) (now (marks .entry)))) (now (chunk .entry))) 0 (now (lines .entry)) r (now (lines .exit)) (areas (now (clocks .exit)) (now (words .exit)) (now (records .exit)) (now (marks .exit))) ⌝ }
+    ensures { λ r. ⌜ ChunkFed (bytesTaken (feedAt progress (areas (now (clocks .entry)) (now (words .entry)) (now (records .entry)) (now (marks .entry)))) (now (chunk .entry))) 0 (now (lines .entry)) r (now (lines .exit)) (areas (now (clocks .exit)) (now (words .exit)) (now (records .exit)) (now (marks .exit))) ⌝ }
 {
     let bytes = first.bytes;
     let behind = take_begun(stand, bytes, lines, clocks, words, records, marks);
@@ -287,7 +287,7 @@ fn take_begun(
     marks: &mut [u8],
 ) -> Stand
     requires { ⌜ BegunPassable stand bytes (now lines) (now clocks) (now words) (now records) (now marks) ⌝ }
-    ensures { λ r. ⌜ Took (recordTaken (standsAt stand (now (lines .entry)) (areas (now (clocks .entry)) (now (words .entry)) (now (records .entry)) (now (marks .entry)))) (take fileRecordWidth bytes)) stand (now (lines .entry)) r (now (lines .exit)) (now (clocks .exit)) (now (words .exit)) (now (records .exit)) (now (marks .exit)) ⌝ }
+    ensures { λ r. ⌜ RecordTaken (recordTaken (standsAt stand (now (lines .entry)) (areas (now (clocks .entry)) (now (words .entry)) (now (records .entry)) (now (marks .entry)))) (take fileRecordWidth bytes)) stand (now (lines .entry)) r (now (lines .exit)) (now (clocks .exit)) (now (words .exit)) (now (records .exit)) (now (marks .exit)) ⌝ }
 {
     let one = file_chunk::take_whole(stand, &bytes, 0, lines, clocks, words, records, marks);
     one.stand

@@ -9,7 +9,7 @@ use Rattle.limits.specs.inner.Sizes.{fileRecordLimit}
 use Rattle.layout.specs.Areas.{areas}
 use Rattle.inorder.specs.Areas.{OrderIs}
 use Rattle.file_record.specs.declared.Stand.{Stand}
-use Rattle.file_record.specs.inner.Needed.{Kept, standsAt}
+use Rattle.file_record.specs.inner.Needed.{RestKept, standsAt}
 use Rattle.file_chunk.specs.Bytes.{bytesTaken}
 
 -- there is room for the lines of the records that lie in the chunk from a place on
@@ -26,14 +26,14 @@ pub record Passing (s₀ : Stand) (chunk : List ℕ) (from : ℕ) (out₀ c₀ w
   pub is : bytesTaken (standsAt s out (areas c w r m)) (drop i chunk) ≡ bytesTaken (standsAt s₀ out₀ (areas c₀ w₀ r₀ m₀)) (drop from chunk)
   pub whole : i % fileRecordWidth ≡ from % fileRecordWidth
   pub near : s .at + lineLimit * ((length chunk - i) / fileRecordWidth) ≤ s₀ .at + lineLimit * ((length chunk - from) / fileRecordWidth)
-  pub kept : Kept out₀ (s₀ .at) out (s .at)
+  pub kept : RestKept out₀ (s₀ .at) out (s .at)
   pub clocks : length c ≡ length c₀
   pub words : length w ≡ length w₀
   pub records : length r ≡ length r₀
   pub marks : length m ≡ length m₀
 
 -- all whole records from a place on are taken, or the run has stopped
-pub record Passes (s : Stand) (chunk : List ℕ) (from : ℕ) (out c w r m : List ℕ) (s′ : Stand) (i : ℕ) (out′ c′ w′ r′ m′ : List ℕ) : Type 0 where
+pub record AllPassed (s : Stand) (chunk : List ℕ) (from : ℕ) (out c w r m : List ℕ) (s′ : Stand) (i : ℕ) (out′ c′ w′ r′ m′ : List ℕ) : Type 0 where
   pub passing : Passing s chunk from out c w r m s′ i out′ c′ w′ r′ m′
   pub few-left : s′ .stopped ≡ false → length chunk < i + fileRecordWidth
 
@@ -84,7 +84,7 @@ pub record Runnable (ready : Bool) (s : Stand) (chunk : List ℕ) (from end : �
   pub opened : 1 ≤ s .number
 
 -- there is room for the lines of the steps from a place on to another
-pub record Refusable (s : Stand) (from end : ℕ) (out : List ℕ) : Type 0 where
+pub record RoomForSteps (s : Stand) (from end : ℕ) (out : List ℕ) : Type 0 where
   pub ahead : Ahead (s .number) from end
   pub room : s .at + lineLimit * ((end - from) / fileRecordWidth) ≤ length out
 
@@ -96,4 +96,4 @@ pub record StepsRefused (s : Stand) (from end : ℕ) (out : List ℕ) (s′ : St
 
 -- no whole record is left, or the run has stopped, whatever the areas, which stay as they are
 pub record LastTaken (s : Stand) (chunk : List ℕ) (from : ℕ) (out : List ℕ) (s′ : Stand) (i : ℕ) (out′ : List ℕ) : Type 0 where
-  pub is : (c w r m : List ℕ) → Passable s chunk from out c w r m → Passes s chunk from out c w r m s′ i out′ c w r m
+  pub is : (c w r m : List ℕ) → Passable s chunk from out c w r m → AllPassed s chunk from out c w r m s′ i out′ c w r m

@@ -18,7 +18,7 @@ use Rattle.file_record.specs.declared.Stand.{Stand}
 -- ---- the bytes lent for lines
 
 -- what was written from a place on ends at another: behind that one all is as it was
-pub record Kept (out : List ℕ) (at : ℕ) (out′ : List ℕ) (at′ : ℕ) : Type 0 where
+pub record RestKept (out : List ℕ) (at : ℕ) (out′ : List ℕ) (at′ : ℕ) : Type 0 where
   pub on : at ≤ at′
   pub within : at′ ≤ length out
   pub long : length out′ ≡ length out
@@ -26,7 +26,7 @@ pub record Kept (out : List ℕ) (at : ℕ) (out′ : List ℕ) (at′ : ℕ) : 
 
 -- a line, at most 44 bytes, stands from a place on behind what stood before it
 pub record LinePut (out : List ℕ) (at : ℕ) (line : List ℕ) (out′ : List ℕ) (end : ℕ) : Type 0 where
-  pub kept : Kept out at out′ end
+  pub kept : RestKept out at out′ end
   pub near : end ≤ at + lineLimit
   pub lines : take end out′ ≡ take at out ++ line
 
@@ -53,10 +53,10 @@ pub record StoppedAt (s : Stand) (out : List ℕ) (s′ : Stand) (out′ : List 
   pub put : LinePut out (s .at) (lineBytes (s .number) 16 0 0) out′ (s′ .at)
 
 -- a record has led to f, of which s′ and the areas tell; the line of the record stands behind those before it
-pub record Took (f : Feed) (s : Stand) (out : List ℕ) (s′ : Stand) (out′ c′ w′ r′ m′ : List ℕ) : Type 0 where
+pub record RecordTaken (f : Feed) (s : Stand) (out : List ℕ) (s′ : Stand) (out′ c′ w′ r′ m′ : List ℕ) : Type 0 where
   pub is : standsAt s′ out′ (areas c′ w′ r′ m′) ≡ f
   pub few : s′ .number ≤ fileRecordLimit
-  pub kept : Kept out (s .at) out′ (s′ .at)
+  pub kept : RestKept out (s .at) out′ (s′ .at)
   pub near : s′ .at ≤ s .at + lineLimit
   pub order : OrderIs (s′ .ready) c′ w′ r′ m′
 

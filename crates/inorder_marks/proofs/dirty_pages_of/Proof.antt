@@ -4,12 +4,12 @@ use mathlib.Core.Path.{_≡_}
 use Rattle.limits.specs.Limits.{pageLimit}
 use Rattle.limits.specs.inner.Sizes.{firstDirty}
 use Rattle.inorder_marks.specs.inner.Needed.{MarksOne}
-use Rattle.inorder_marks.proofs.MarkTests.{Counted, marks-checked}
+use Rattle.inorder_marks.proofs.MarkTests.{DirtyCounted, marks-checked}
 use Rattle.inorder_marks.proofs.dirty_pages_of.Statement.{statement}
 use Rattle.inorder_marks.proofs.dirty_pages_of.Tie as tie
 
 abbrev Inv-loop : tie.InvT-loop
-Inv-loop marks pages k at n₀ g₀ n g = (Counted marks at pages g n) × (MarksOne marks pages k) × (at ≡ firstDirty + pageLimit * k)
+Inv-loop marks pages k at n₀ g₀ n g = (DirtyCounted marks at pages g n) × (MarksOne marks pages k) × (at ≡ firstDirty + pageLimit * k)
 
 abbrev μ-loop : tie.MeasureT-loop
 μ-loop marks pages k at n₀ g₀ n g = pages - g

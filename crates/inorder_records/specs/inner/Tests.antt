@@ -27,16 +27,16 @@ unfoldable pub recordHolds : List ℕ → List ℕ → ℕ → ℕ → ℕ → B
 recordHolds own r processors pages i =
     noticeHolds own processors pages (slotProcessor r i) (slotInterval r i) (slotPage r i) && diffHolds r i
 
--- records i and j differ in processor, interval or page
-unfoldable pub differ : List ℕ → ℕ → ℕ → Bool
-differ r i j =
+-- records i and j noticesDiffer in processor, interval or page
+unfoldable pub noticesDiffer : List ℕ → ℕ → ℕ → Bool
+noticesDiffer r i j =
     not (eqb (slotProcessor r i) (slotProcessor r j)
     && eqb (slotInterval r i) (slotInterval r j)
     && eqb (slotPage r i) (slotPage r j))
 
 -- record i differs from every earlier one
 unfoldable pub unlike : List ℕ → ℕ → Bool
-unlike r i = every i (differ r i)
+unlike r i = every i (noticesDiffer r i)
 
 -- the place of record i's processor, interval and page in a table that has one for each
 unfoldable pub noticePlace : List ℕ → ℕ → ℕ

@@ -21,8 +21,8 @@ pub record PairFits (out : List ℕ) (at pair : ℕ) : Type 0 where
   pub room : at + 2 ≤ length out
 
 -- the two digits of a number below 100, of which the first may be a zero
-unfoldable pub pairBytes : ℕ → List ℕ
-pairBytes pair = (48 + pair / 10) ∷ (48 + pair % 10) ∷ []
+unfoldable pub digitPair : ℕ → List ℕ
+digitPair pair = (48 + pair / 10) ∷ (48 + pair % 10) ∷ []
 
 -- a number with a byte behind
 unfoldable pub fieldBytes : ℕ → ℕ → List ℕ

@@ -32,7 +32,7 @@ use Rattle.rules.proofs.order.Allowed.{Allowed, took-allowed}
 use Rattle.rules.proofs.order.Numbers.{knowing, known-at-most-writes}
 use Rattle.rules.proofs.order.NumbersFollow.{knows-all-writes}
 use Rattle.rules.proofs.word.FetchedWord.{fetched-length, fetched-current}
-use Rattle.rules.proofs.word.WordsFit.{words-fit}
+use Rattle.rules.proofs.word.WordsFit.{copy-words-fit}
 use Rattle.rules.proofs.invariant.Invariant.{Inv}
 use Rattle.rules.proofs.invariant.InvEmpty.{inv-without-records}
 use Rattle.rules.proofs.invariant.InvFetch.{fetch-keeps}
@@ -135,7 +135,7 @@ module _ (lim : Limits) (c : Counts) (es : List Event) (r : Timeline lim c es) (
       closing : Inv (lim .words) g o (closed s p) (closedGhost (ghost t) p)
       closing =
           close-keeps lim g o s (ghost t) p (r .ordered t) in-page l h k
-          (words-fit lim c es r t p g h (rw (counts-stay lim c es r t) at k) (rw (counts-stay lim c es r t) at l)) inv
+          (copy-words-fit lim c es r t p g h (rw (counts-stay lim c es r t) at k) (rw (counts-stay lim c es r t) at l)) inv
 
       pub acquire-kept : (x : ℕ) → x < s .counts .locks → Inv (lim .words) g o (effect lim s p (Acquire x) .after) (ghostAfter w s p (Acquire x) (ghost t))
       acquire-kept x there = acquire-keeps lim g o s (ghost t) p h k closing w (known-at-most-writes lim c es r w t) x there

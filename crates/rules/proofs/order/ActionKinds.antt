@@ -12,14 +12,14 @@ use Rattle.rules.specs.Order.{Event, eventAt, Took, isArrival}
 use Rattle.rules.specs.Demand.{isWriteTo}
 
 -- whether an action is an arrival, and whether it is a write to the word w
-unfoldable pub arrives : Action → Bool
-arrives (Read x) = false
-arrives (Write x v) = false
-arrives (Acquire l) = false
-arrives (Release l) = false
-arrives Arrive = true
-arrives Want = false
-arrives Unknown = false
+unfoldable pub arrivesBy : Action → Bool
+arrivesBy (Read x) = false
+arrivesBy (Write x v) = false
+arrivesBy (Acquire l) = false
+arrivesBy (Release l) = false
+arrivesBy Arrive = true
+arrivesBy Want = false
+arrivesBy Unknown = false
 
 unfoldable pub writesTo : ℕ → Action → Bool
 writesTo w (Read x) = false
@@ -31,18 +31,18 @@ writesTo w Want = false
 writesTo w Unknown = false
 
 -- the value that an action stores
-unfoldable pub valueOf : Action → ℕ
-valueOf (Read x) = 0
-valueOf (Write x v) = v
-valueOf (Acquire l) = 0
-valueOf (Release l) = 0
-valueOf Arrive = 0
-valueOf Want = 0
-valueOf Unknown = 0
+unfoldable pub storedBy : Action → ℕ
+storedBy (Read x) = 0
+storedBy (Write x v) = v
+storedBy (Acquire l) = 0
+storedBy (Release l) = 0
+storedBy Arrive = 0
+storedBy Want = 0
+storedBy Unknown = 0
 
--- an action that arrives is an arrival
-pub arrives-is : (a : Action) → arrives a ≡ true → a ≡ Arrive
-unfolding arrives
+-- an action that arrivesBy is an arrival
+pub arrives-is : (a : Action) → arrivesBy a ≡ true → a ≡ Arrive
+unfolding arrivesBy
 arrives-is (Read x) e = absurd (false≢true e)
 arrives-is (Write x v) e = absurd (false≢true e)
 arrives-is (Acquire l) e = absurd (false≢true e)
@@ -52,8 +52,8 @@ arrives-is Want e = absurd (false≢true e)
 arrives-is Unknown e = absurd (false≢true e)
 
 -- an action that writes to w is a write to w of the value that it stores
-pub writes-to-is : (w : ℕ) (a : Action) → writesTo w a ≡ true → a ≡ Write w (valueOf a)
-unfolding writesTo valueOf
+pub writes-to-is : (w : ℕ) (a : Action) → writesTo w a ≡ true → a ≡ Write w (storedBy a)
+unfolding writesTo storedBy
 writes-to-is w (Read x) e = absurd (false≢true e)
 writes-to-is w (Write x v) e = ap (λ (y : ℕ). Write y v) (eqb-true x w e)
 writes-to-is w (Acquire l) e = absurd (false≢true e)
@@ -73,12 +73,12 @@ chosen k x v =
     (cond (eqb k 6) Want
     Unknown)))))
 
-kind-arrives : (k x v : ℕ) → eqb k 5 ≡ arrives (chosen k x v)
-unfolding arrives
+kind-arrives : (k x v : ℕ) → eqb k 5 ≡ arrivesBy (chosen k x v)
+unfolding arrivesBy
 kind-arrives k x v = go (ℕ-discrete k 5)
   where
     other : (b₁ b₂ b₃ b₄ b₆ : Bool)
-        → false ≡ arrives (cond b₁ (Read x) (cond b₂ (Write x v) (cond b₃ (Acquire x) (cond b₄ (Release x) (cond b₆ Want Unknown)))))
+        → false ≡ arrivesBy (cond b₁ (Read x) (cond b₂ (Write x v) (cond b₃ (Acquire x) (cond b₄ (Release x) (cond b₆ Want Unknown)))))
     other true b₂ b₃ b₄ b₆ = refl
     other false true b₃ b₄ b₆ = refl
     other false false true b₄ b₆ = refl
@@ -86,7 +86,7 @@ kind-arrives k x v = go (ℕ-discrete k 5)
     other false false false false true = refl
     other false false false false false = refl
 
-    go : Dec (k ≡ 5) → eqb k 5 ≡ arrives (chosen k x v)
+    go : Dec (k ≡ 5) → eqb k 5 ≡ arrivesBy (chosen k x v)
     go (yes e) = rw e
     go (no e) = rw (ne-eqb k 5 e) (other (eqb k 1) (eqb k 2) (eqb k 3) (eqb k 4) (eqb k 6))
 
@@ -107,11 +107,11 @@ kind-writes w k x v = go (ℕ-discrete k 2)
     go (yes e) = rw e
     go (no e) = rw (ne-eqb k 2 e) (other (eqb k 1) (eqb k 3) (eqb k 4) (eqb k 5) (eqb k 6))
 
-kind-value : (w k x v : ℕ) → writesTo w (chosen k x v) ≡ true → v ≡ valueOf (chosen k x v)
-unfolding valueOf
+kind-value : (w k x v : ℕ) → writesTo w (chosen k x v) ≡ true → v ≡ storedBy (chosen k x v)
+unfolding storedBy
 kind-value w k x v h = go (ℕ-discrete k 2)
   where
-    go : Dec (k ≡ 2) → v ≡ valueOf (chosen k x v)
+    go : Dec (k ≡ 2) → v ≡ storedBy (chosen k x v)
     go (yes e) = rw e
     go (no e) =
         let z : (eqb k 2 && eqb x w) ≡ true = kind-writes w k x v ∙ h in
@@ -140,7 +140,7 @@ read-no-acquire x l e = false≢true (ap isAcquire e)
 
 module _ (es : List Event) (t : ℕ) where
   -- an accepted step is counted as an arrival when it is one
-  pub took-arrival : (p : ℕ) (a : Action) → Took es t p a → isArrival (eventAt es t) ≡ arrives a
+  pub took-arrival : (p : ℕ) (a : Action) → Took es t p a → isArrival (eventAt es t) ≡ arrivesBy a
   unfolding isArrival actionOf
   took-arrival p a k =
       rw (k .accepted, ← k .action) (kind-arrives (eventAt es t .step .kind) (eventAt es t .step .object) (eventAt es t .step .value))
@@ -162,7 +162,7 @@ module _ (es : List Event) (t : ℕ) where
   refused-write w e = rw e
 
   -- the value that an accepted write stores is its value field
-  pub took-value : (w p : ℕ) (a : Action) → Took es t p a → writesTo w a ≡ true → eventAt es t .step .value ≡ valueOf a
+  pub took-value : (w p : ℕ) (a : Action) → Took es t p a → writesTo w a ≡ true → eventAt es t .step .value ≡ storedBy a
   unfolding actionOf
   took-value w p a k =
       rw (← k .action) (kind-value w (eventAt es t .step .kind) (eventAt es t .step .object) (eventAt es t .step .value))

@@ -14,7 +14,7 @@ use Rattle.lists.proofs.Tables.{every-at}
 use Rattle.lists.proofs.Conditions.{conjoined, conjoined-at}
 use Rattle.rules.specs.Refusals.{Action, Read, Write, Acquire, Release, Arrive, Want, Unknown, actionOf}
 use Rattle.rules.specs.Order.{Event, noEvent, eventAt, Took, isArrival, countedOff, groupsBefore, rounds, Before, program, lock, round, chain}
-use Rattle.rules.proofs.order.ActionKinds.{arrives, arrives-is, isAcquire}
+use Rattle.rules.proofs.order.ActionKinds.{arrivesBy, arrives-is, isAcquire}
 
 -- the four ways in which a step is before another
 pub data Edge : Type 0 where
@@ -95,12 +95,12 @@ tests ByProgram n es i j = eventAt es i .accepted ∷ eventAt es j .accepted ∷
 tests ByLock n es i j =
     eventAt es i .accepted ∷ eventAt es j .accepted ∷ isRelease (actionAt es i) ∷ isAcquire (actionAt es j)
     ∷ eqb (lockOf (actionAt es i)) (lockOf (actionAt es j)) ∷ ltb i j ∷ []
-tests ByRound n es i j = eventAt es i .accepted ∷ eventAt es j .accepted ∷ arrives (actionAt es i) ∷ ltb (rounds n es i) (rounds n es j) ∷ []
+tests ByRound n es i j = eventAt es i .accepted ∷ eventAt es j .accepted ∷ arrivesBy (actionAt es i) ∷ ltb (rounds n es i) (rounds n es j) ∷ []
 tests ByChain n es i j = false ∷ []
 
 -- whether there is such an edge; who unfolds it unfolds what it computes with
 unfoldable pub joins : Edge → ℕ → List Event → ℕ → ℕ → Bool
-unfolding tests isRelease lockOf isAcquire arrives actionOf eventAt noEvent rounds groupsBefore countedOff isArrival conjoined
+unfolding tests isRelease lockOf isAcquire arrivesBy actionOf eventAt noEvent rounds groupsBefore countedOff isArrival conjoined
 joins e n es i j = conjoined (tests e n es i j)
 
 module _ (n : ℕ) (es : List Event) (i j : ℕ) where

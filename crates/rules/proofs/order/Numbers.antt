@@ -14,7 +14,7 @@ use Rattle.rules.proofs.state.Holders.{sameHolder}
 use Rattle.rules.proofs.order.Timeline.{Timeline, Moment, Refused, Taken, moment, counts-stay}
 use Rattle.rules.proofs.order.Ghosts.{Ghost, withNumber, roundNumbers, completes, arrivedNumbers, ghostAfter, ghostAt, ghost-refused, ghost-taken}
 use Rattle.rules.proofs.StrictOrder.{never-falls, rounds-never-fall}
-use Rattle.rules.proofs.order.ActionKinds.{arrives, arrives-is}
+use Rattle.rules.proofs.order.ActionKinds.{arrivesBy, arrives-is}
 use Rattle.rules.proofs.order.Allowed.{allowed}
 use Rattle.rules.proofs.order.Rounds.{rounds-after-step, rounds-after-refusal}
 use Rattle.rules.proofs.order.NumbersAfter.{Knowing, processor-grows, lock-grows, knowing-after}
@@ -23,8 +23,8 @@ use Rattle.rules.proofs.order.NumbersAfter.{Knowing, processor-grows, l
 
 module _ (w : ℕ) (s : State) (p : ℕ) (γ : Ghost) where
   -- a step that completes no round leaves the barrier what it knew
-  barrier-grows : (a : Action) → arrives a && completes s p ≡ false → γ .known Barrier ≤ ghostAfter w s p a γ .known Barrier
-  unfolding ghostAfter withNumber sameHolder arrivedNumbers arrives
+  barrier-grows : (a : Action) → arrivesBy a && completes s p ≡ false → γ .known Barrier ≤ ghostAfter w s p a γ .known Barrier
+  unfolding ghostAfter withNumber sameHolder arrivedNumbers arrivesBy
   barrier-grows (Read x) e = omega arith
   barrier-grows (Write x v) e = go (eqb x w)
     where
@@ -113,7 +113,7 @@ module _ (lim : Limits) (c : Counts) (es : List Event) (r : Timeline lim c es) (
     later-round : rounds (c .processors) es i < rounds (c .processors) es t → (q : ℕ) → x ≤ ghostAt lim c es r w t .known (Processor q)
 
   handed-on-at-once : (i p : ℕ) → Took es i p Arrive → HandedOn i (suc i) (ghostAt lim c es r w (suc i) .known (Processor p))
-  unfolding arrives
+  unfolding arrivesBy
   handed-on-at-once i p took = go (completes (r .state i) p) refl (rounds-after-step lim c es r i p Arrive took)
     where
       γ : ghostAt lim c es r w (suc i) ≡ ghostAfter w (r .state i) p Arrive (ghostAt lim c es r w i)
@@ -139,12 +139,12 @@ module _ (lim : Limits) (c : Counts) (es : List Event) (r : Timeline lim c es) (
       later : rounds (c .processors) es i < rounds (c .processors) es t → (q : ℕ) → x ≤ ghostAt lim c es r w (suc t) .known (Processor q)
       later z q = omega (arith, h .later-round z q, processor-step q t)
 
-      barrier : (p : ℕ) (a : Action) → Took es t p a → arrives a && completes (r .state t) p ≡ false
+      barrier : (p : ℕ) (a : Action) → Took es t p a → arrivesBy a && completes (r .state t) p ≡ false
           → rounds (c .processors) es t ≡ rounds (c .processors) es i → x ≤ ghostAt lim c es r w (suc t) .known Barrier
       barrier p a took e z =
           rw (ghost-taken lim c es r w t p a took) (omega (arith, h .same-round z, barrier-grows w (r .state t) p (ghostAt lim c es r w t) a e))
 
-      taken : (p : ℕ) (a : Action) → Took es t p a → (b d : Bool) → arrives a ≡ b → completes (r .state t) p ≡ d
+      taken : (p : ℕ) (a : Action) → Took es t p a → (b d : Bool) → arrivesBy a ≡ b → completes (r .state t) p ≡ d
           → rounds (c .processors) es (suc t) ≡ cond b (cond d (rounds (c .processors) es t + 1) (rounds (c .processors) es t)) (rounds (c .processors) es t)
           → HandedOn i (suc t) x
       taken p a took true true arr full k =
@@ -170,7 +170,7 @@ module _ (lim : Limits) (c : Counts) (es : List Event) (r : Timeline lim c es) (
             same-round = λ z. rw (ghost-refused lim c es r w t e) (h .same-round (omega (arith, same, z)));
             later-round = λ z. later (omega (arith, same, z));
           }
-      go (Taken p a took acc k) = taken p a took (arrives a) (completes (r .state t) p) refl refl (rounds-after-step lim c es r t p a took)
+      go (Taken p a took acc k) = taken p a took (arrivesBy a) (completes (r .state t) p) refl refl (rounds-after-step lim c es r t p a took)
 
   handed-on : (i p : ℕ) → Took es i p Arrive → (t : ℕ) → i < t → HandedOn i t (ghostAt lim c es r w (suc i) .known (Processor p))
   handed-on i p took zero l = absurd (omega (arith, l))

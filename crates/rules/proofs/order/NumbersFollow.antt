@@ -13,7 +13,7 @@ use Rattle.rules.specs.Demand.{valueField, lastWritten, EarlierWrite}
 use Rattle.rules.proofs.state.Holders.{sameHolder}
 use Rattle.rules.proofs.order.Timeline.{Timeline, Moment, Refused, Taken, moment}
 use Rattle.rules.proofs.order.Ghosts.{Ghost, withNumber, ghostAfter, ghostAt, ghost-refused, ghost-taken}
-use Rattle.rules.proofs.order.ActionKinds.{writesTo, valueOf, writes-to-is, took-write, refused-write, took-value}
+use Rattle.rules.proofs.order.ActionKinds.{writesTo, storedBy, writes-to-is, took-write, refused-write, took-value}
 use Rattle.rules.proofs.order.NumbersAfter.{with-number-same, learner-knows, writes-after, writer-knows}
 use Rattle.rules.proofs.order.Numbers.{known-at-most-writes, processor-never-falls, lock-never-falls, round-tells}
 use Rattle.rules.proofs.order.Carrying.{Telling, told-at-once, carries-strictly}
@@ -30,8 +30,8 @@ module _ (w : ℕ) (s : State) (p : ℕ) (γ : Ghost) where
   acquire-takes-over l = learner-knows (γ .known) (Processor p) (Lock l)
 
   -- the last value after a step
-  last-after : (a : Action) → ghostAfter w s p a γ .last ≡ cond (writesTo w a) (valueField (valueOf a)) (γ .last)
-  unfolding ghostAfter writesTo valueOf
+  last-after : (a : Action) → ghostAfter w s p a γ .last ≡ cond (writesTo w a) (valueField (storedBy a)) (γ .last)
+  unfolding ghostAfter writesTo storedBy
   last-after (Read x) = refl
   last-after (Write x v) = refl
   last-after (Acquire l) = refl
@@ -107,7 +107,7 @@ module _ (lim : Limits) (c : Counts) (es : List Event) (r : Timeline lim c es) (
           (record {
             place = t;
             processor = p;
-            value = valueOf a;
+            value = storedBy a;
             write =
                 record {
                   wrote = record { accepted = took .accepted; processor = took .processor; action = took .action ∙ writes-to-is w a e };
@@ -148,7 +148,7 @@ module _ (lim : Limits) (c : Counts) (es : List Event) (r : Timeline lim c es) (
   last-is-last-written (suc t) = go (moment lim c es r t) (last-is-last-written t)
     where
       taken : (p : ℕ) (a : Action) → Took es t p a → ghostAt lim c es r w t .last ≡ lastWritten es w t → (b : Bool) → writesTo w a ≡ b
-          → cond b (valueField (valueOf a)) (ghostAt lim c es r w t .last) ≡ cond b (valueField (eventAt es t .step .value)) (lastWritten es w t)
+          → cond b (valueField (storedBy a)) (ghostAt lim c es r w t .last) ≡ cond b (valueField (eventAt es t .step .value)) (lastWritten es w t)
       taken p a took ih true e = ap valueField (sym (took-value es t w p a took e))
       taken p a took ih false e = ih
 

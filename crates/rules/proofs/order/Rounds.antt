@@ -17,7 +17,7 @@ use Rattle.rules.specs.Order.{Event, eventAt, Took, isArrival, Groups, c
 use Rattle.rules.proofs.inorder.OpenedInOrder.{opened-not-arrived}
 use Rattle.rules.proofs.order.Timeline.{Timeline, Moment, Refused, Taken, moment, counts-stay}
 use Rattle.rules.proofs.order.Ghosts.{completes}
-use Rattle.rules.proofs.order.ActionKinds.{arrives, took-arrival, refused-arrival}
+use Rattle.rules.proofs.order.ActionKinds.{arrivesBy, took-arrival, refused-arrival}
 use Rattle.rules.proofs.order.MarksAfter.{arrived-at-barrier, awake-not-arrived, arrivedAfter, arrived-after}
 use Rattle.rules.proofs.order.Allowed.{Allowed, allowed, took-allowed}
 
@@ -98,8 +98,8 @@ arrivals-arrive n lim s p al = go (completes s p) (arrived-after lim s p Arrive)
         ∙ arrivals-at-barrier n s p (al .from) (al .to) (awake-not-arrived s p (al .not-resting))
 
 arrivals-after : (n : ℕ) (lim : Limits) (s : State) (p : ℕ) (a : Action) → Allowed n s p a
-    → arrivals n (effect lim s p a .after) ≡ cond (arrives a) (cond (completes s p) 0 (arrivals n s + 1)) (arrivals n s)
-unfolding arrives arrivedAfter
+    → arrivals n (effect lim s p a .after) ≡ cond (arrivesBy a) (cond (completes s p) 0 (arrivals n s + 1)) (arrivals n s)
+unfolding arrivesBy arrivedAfter
 arrivals-after n lim s p (Read x) al = arrivals-same n s (effect lim s p (Read x) .after) (arrived-after lim s p (Read x))
 arrivals-after n lim s p (Write x v) al = arrivals-same n s (effect lim s p (Write x v) .after) (arrived-after lim s p (Write x v))
 arrivals-after n lim s p (Acquire l) al = arrivals-same n s (effect lim s p (Acquire l) .after) (arrived-after lim s p (Acquire l))
@@ -169,7 +169,7 @@ module _ (lim : Limits) (c : Counts) (es : List Event) (r : Timeline lim c es) w
   -- so the rounds rise by one exactly then
   pub rounds-after-step : (t p : ℕ) (a : Action) → Took es t p a
       → rounds (c .processors) es (suc t)
-      ≡ cond (arrives a) (cond (completes (r .state t) p) (rounds (c .processors) es t + 1) (rounds (c .processors) es t)) (rounds (c .processors) es t)
+      ≡ cond (arrivesBy a) (cond (completes (r .state t) p) (rounds (c .processors) es t + 1) (rounds (c .processors) es t)) (rounds (c .processors) es t)
   rounds-after-step t p a took = rw (completes-when-full t p a took, ← took-arrival es t p a took) (rounds-after (c .processors) es t)
 
   -- nor does a refused step

@@ -17,7 +17,7 @@ use Rattle.rules.specs.Order.{Event, events, eventAt, Took, Before, chai
 use Rattle.rules.specs.Demand.{valueField, isWriteTo, lastWritten, EarlierWrite, Synchronized, FromWrite, Judged, valueAt, DemandThree}
 use Rattle.rules.proofs.inorder.OpenedInOrder.{opened-in-order}
 use Rattle.rules.proofs.InOrderRuns.{answers-in-order}
-use Rattle.rules.proofs.order.ActionKinds.{writesTo, valueOf, took-write, took-value}
+use Rattle.rules.proofs.order.ActionKinds.{writesTo, storedBy, took-write, took-value}
 use Rattle.rules.proofs.order.Edges.{joins}
 use Rattle.rules.proofs.DemandThree.{demand-three}
 
@@ -82,7 +82,7 @@ module _ (es : List Event) (w : ℕ) where
 
 -- demand 3 leaves 0 and the value fields of the earlier writes, and no other value
 pub value-left : (n : ℕ) (es : List Event) (w j x : ℕ) → Judged n es w j x → (x ≡ 0) ⊎ Among x (valuesBefore es w j)
-unfolding valuesBefore writesTo valueOf
+unfolding valuesBefore writesTo storedBy
 value-left n es w j x judged = go (judged .some-write)
   where
     go : (x ≡ 0) ⊎ FromWrite es w j x → (x ≡ 0) ⊎ Among x (ofWrites (λ t. valueField (eventAt es t .step .value)) es w j)

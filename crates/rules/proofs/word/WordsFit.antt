@@ -19,9 +19,9 @@ values-fit lim c es r =
     (λ t p x v took. mod-lt v {m = 4294967296} (lit< tt))
 
 -- the words of a copy
-pub words-fit : (lim : Limits) (c : Counts) (es : List Event) (r : Timeline lim c es) (t p g : ℕ) → 1 ≤ p → p ≤ c .processors → g < c .pages
+pub copy-words-fit : (lim : Limits) (c : Counts) (es : List Event) (r : Timeline lim c es) (t p g : ℕ) → 1 ≤ p → p ≤ c .processors → g < c .pages
     → Below 4294967296 (copyOf (r .state t .pages) p g)
-words-fit lim c es r t p g a b l =
+copy-words-fit lim c es r t p g a b l =
     let same : r .state t .counts ≡ c = counts-stay lim c es r t in
     let b′ : p ≤ r .state t .counts .processors = rw same b in
     let l′ : g < r .state t .counts .pages = rw same l in

@@ -25,7 +25,7 @@ pub record OutcomeLaid (out : List ℕ) (at : ℕ) (o : Outcome) (out′ : List 
   pub is : out′ ≡ sets out at (answerWords (told o ∷ []))
 
 -- record i stands in the bytes, the words have room for its answer, the areas hold a state in order, and the index is kept
-pub record RecordThere (bytes : List ℕ) (i : ℕ) (out c w r m x : List ℕ) : Type 0 where
+pub record RecordReady (bytes : List ℕ) (i : ℕ) (out c w r m x : List ℕ) : Type 0 where
   pub ready : ReadyKept c w r m x
   pub there : fileRecordWidth * i + fileRecordWidth ≤ length bytes
   pub room : 3 * i + 3 ≤ length out

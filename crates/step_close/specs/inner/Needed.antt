@@ -26,7 +26,7 @@ pub record Recordable (c w r m : List ℕ) (p g : ℕ) : Type 0 where
   pub room : changed (stateIn mainframe c w r m) p g ≡ true → standingCount m < recordLimit
 
 -- the same where it did change, with the mask of the words that did
-pub record Appendable (c w r m : List ℕ) (p g mask : ℕ) : Type 0 where
+pub record ChangeAppendable (c w r m : List ℕ) (p g mask : ℕ) : Type 0 where
   pub lent : Lent c w r m
   pub from : 1 ≤ p
   pub to : p ≤ processorLimit
@@ -44,7 +44,7 @@ pub record PageThere (w m : List ℕ) (p g : ℕ) : Type 0 where
   pub page : g < pageLimit
 
 -- page g of p, an interval number of one byte and a slot, in areas of words and records of the right sizes
-pub record SlotThere (w r : List ℕ) (p i g mask slot : ℕ) : Type 0 where
+pub record PageSlotThere (w r : List ℕ) (p i g mask slot : ℕ) : Type 0 where
   pub words : length w ≡ wordArea
   pub records : length r ≡ recordArea
   pub from : 1 ≤ p

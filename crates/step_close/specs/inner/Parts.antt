@@ -30,12 +30,12 @@ allRecorded s p = withRecords s (recorded s p (s .counts .pages))
 -- ---- the record of a page
 
 -- of processor p, interval i and page g, where the page `old` became the page `new`
-unfoldable pub recordOf : ℕ → ℕ → ℕ → List ℕ → List ℕ → Record
-recordOf p i g old new = record { processor = p; interval = i; page = g; diff = written old new }
+unfoldable pub recordMade : ℕ → ℕ → ℕ → List ℕ → List ℕ → Record
+recordMade p i g old new = record { processor = p; interval = i; page = g; diff = written old new }
 
 -- the same for the twin and the copy in the area of the words
 unfoldable pub pageRecord : ℕ → ℕ → ℕ → List ℕ → Record
-pageRecord p i g w = recordOf p i g (rowOf pageWidth w (twinRow mainframe p g)) (rowOf pageWidth w (copyRow mainframe p g))
+pageRecord p i g w = recordMade p i g (rowOf pageWidth w (twinRow mainframe p g)) (rowOf pageWidth w (copyRow mainframe p g))
 
 -- ---- answers
 

@@ -11,7 +11,7 @@ use Rattle.layout.specs.Areas.{Areas}
 use Rattle.inorder.specs.Areas.{OrderIs}
 use Rattle.file_record.specs.Records.{Feed}
 use Rattle.file_record.specs.declared.Stand.{Stand}
-use Rattle.file_record.specs.inner.Needed.{Kept, standsAt}
+use Rattle.file_record.specs.inner.Needed.{RestKept, standsAt}
 use Rattle.file_chunk.specs.Bytes.{bytesTaken}
 use Rattle.file_chunk.specs.inner.Needed.{Passable}
 use Rattle.stepfile.specs.Promises.{allZero, feedable, progressOf}
@@ -47,7 +47,7 @@ pub record Holdable (held : ℕ) (bytes chunk : List ℕ) (from : ℕ) : Type 0 
   pub within : from ≤ length chunk
 
 -- bytes of the chunk have been taken among those held: all together are the same
-pub record Holds (held : ℕ) (bytes chunk : List ℕ) (from : ℕ) (count : ℕ) (kept : List ℕ) (next : ℕ) : Type 0 where
+pub record HeldTogether (held : ℕ) (bytes chunk : List ℕ) (from : ℕ) (count : ℕ) (kept : List ℕ) (next : ℕ) : Type 0 where
   pub holding : Holding count kept
   pub within : next ≤ length chunk
   pub counted : next + held ≡ count + from
@@ -55,7 +55,7 @@ pub record Holds (held : ℕ) (bytes chunk : List ℕ) (from : ℕ) (count : ℕ
 
 -- until there are eight or the chunk ends
 pub record HeldAll (held : ℕ) (bytes chunk : List ℕ) (from : ℕ) (h : Held) : Type 0 where
-  pub holds : Holds held bytes chunk from (h .count) (h .bytes) (h .next)
+  pub holds : HeldTogether held bytes chunk from (h .count) (h .bytes) (h .next)
   pub short : h .count < fileRecordWidth → h .next ≡ length chunk
 
 -- ---- a chunk
@@ -101,4 +101,4 @@ pub record ChunkFed (f : Feed) (at : ℕ) (out : List ℕ) (t : Taken) (out′ :
   pub answer : t ≡ takenAs f
   pub areas : a′ ≡ f .areas
   pub lines : take (length (f .lines)) out′ ≡ f .lines
-  pub kept : Kept out at out′ (length (f .lines))
+  pub kept : RestKept out at out′ (length (f .lines))
