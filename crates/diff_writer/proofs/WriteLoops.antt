@@ -16,6 +16,7 @@ use mir.Syntax.{w64}
 use mir.Val.{Fits}
 use borrow.Author.Needs.{needs}
 use borrow.Author.Tests.{eq-eqb, ne-eqb, lt-ltb, le-ltb}
+use Rattle.lists.proofs.Stores.{sets-append, sets-apart}
 use Rattle.limits.specs.Limits.{pageWidth}
 use Rattle.diff.specs.Format.{Run, difference, ended, runsFrom, runs, setWords, pairBytes, wordBytes, wordsBytes, bytesOf, written}
 use Rattle.diff.proofs.Words.{length-pair-bytes}
@@ -27,7 +28,7 @@ use Rattle.diff_writer.specs.inner.Masks.{maskOf, keptFirst, setFirst, w
 use Rattle.diff_writer.specs.inner.Needed.{PagesWhole, RoomForWritten, RoomForDiff, RoomForWords, MaskFits, RoomForPair}
 use Rattle.diff_writer.proofs.Saying.{length-said, refusal-said}
 use Rattle.diff_writer.proofs.Masks.{mask-fits, zeros-below, zeros-of-mask, zeros-of-next, mask-shifted, lowest-cleared, runs-after-kept, runs-after-set, words-picked, first-picked, length-without, none-picked, no-runs, kept-then-set, kept-few, kept-below, set-few, mask-of-more}
-use Rattle.diff_writer.proofs.Writing.{no-pair, room-for-length, pair-stored, room-for-byte-1, room-for-byte-2, room-for-byte-3, word-stored, sets-append, sets-apart, pair-bytes-append, length-ended, runs-fit}
+use Rattle.diff_writer.proofs.Writing.{no-pair, room-for-length, pair-stored, room-for-byte-1, room-for-byte-2, room-for-byte-3, word-stored, pair-bytes-append, length-ended, runs-fit}
 use Rattle.diff_writer.proofs.Measuring.{words-alike, words-unlike, measuring-begins, measuring-more, runs-measured, words-measured, runs-few, words-few}
 
 -- ---- the mask of two pages

@@ -54,22 +54,6 @@ word-stored out at v =
 
 -- ---- stores and pairs, one part after the other
 
-pub sets-append : (l : List ℕ) (i : ℕ) (vs ws : List ℕ) → sets l i (vs ++ ws) ≡ sets (sets l i vs) (i + length vs) ws
-sets-append l i [] ws = ap (λ (n : ℕ). sets l n ws) (sym (add-zero i))
-sets-append l i (v ∷ vs) ws =
-    sets-append (set l i v) (suc i) vs ws ∙ ap (λ (n : ℕ). sets (sets (set l i v) (suc i) vs) n ws) (omega arith)
-
--- stores at places that are apart may change places
-set-apart : (l : List ℕ) (i a j : ℕ) (ws : List ℕ) → i < j → sets (set l i a) j ws ≡ set (sets l j ws) i a
-set-apart l i a j [] h = refl
-set-apart l i a j (w ∷ ws) h =
-    ap (λ (m : List ℕ). sets m (suc j) ws) (set-comm l i j a w (λ e. omega (arith, e))) ∙ set-apart (set l j w) i a (suc j) ws (omega arith)
-
-pub sets-apart : (l : List ℕ) (i : ℕ) (vs : List ℕ) (j : ℕ) (ws : List ℕ) → i + length vs ≤ j → sets (sets l i vs) j ws ≡ sets (sets l j ws) i vs
-sets-apart l i [] j ws h = refl
-sets-apart l i (v ∷ vs) j ws h =
-    sets-apart (set l i v) (suc i) vs j ws (omega arith) ∙ ap (λ (m : List ℕ). sets m (suc i) vs) (set-apart l i v j ws (omega arith))
-
 pub pair-bytes-append : (rs ss : List Run) → pairBytes (rs ++ ss) ≡ pairBytes rs ++ pairBytes ss
 unfolding pairBytes
 pair-bytes-append [] ss = refl

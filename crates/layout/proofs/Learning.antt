@@ -16,7 +16,7 @@ use Rattle.layout.specs.Areas.{clockRow, clocksIn}
 use Rattle.layout.specs.Layout.{rowOf}
 use Rattle.layout.proofs.ClockLaws.{holder-row-there, clock-read, clock-written}
 use Rattle.layout.proofs.RowLaws.{length-row}
-use Rattle.layout.proofs.Rows.{holder-row-there as row-there}
+use Rattle.layout.proofs.Rows.{clock-row-there as row-there}
 
 -- what is laid into the learner's row
 pub learned-row : (c c′ : List ℕ) (to from : ℕ) (own news both : List ℕ) → own ≡ rowOf clockWidth c to → news ≡ rowOf clockWidth c from → both ≡ joined own news

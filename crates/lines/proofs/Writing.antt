@@ -12,13 +12,14 @@ use mir.Syntax.{w32}
 use mir.Val.{Fits}
 use borrow.Author.Tests.{leb-true, leb-false, not-true, not-false, le-leb, lt-leb}
 use borrow.Author.Needs.{needs}
+use Rattle.lists.proofs.Stores.{sets-append, sets-last-first}
 use Rattle.limits.specs.Limits.{lineLimit}
 use Rattle.lines.specs.Decimal.{digits}
 use Rattle.lines.specs.Lines.{lineBytes, lineFits, lineAnswer, placeSaid, lineLeft}
 use Rattle.lines.specs.declared.Placed.the-variants.{End, NoRoom}
 use Rattle.lines.specs.inner.Needed.{Room, DigitsFit, PairFits, Put, digitPair, fieldBytes, halfBytes}
 use Rattle.lines.proofs.Digits.{digits-one, digits-two, digits-pair-more, length-two, length-pair-more, length-four-more, at-most-ten-digits}
-use Rattle.lines.proofs.Lines.{line-is-halves, sets-append, sets-last-first}
+use Rattle.lines.proofs.Lines.{line-is-halves}
 
 -- ---- how many digits
 

@@ -3,3 +3,4 @@ pub mod Tables
 pub mod Selected
 pub mod Sorting
 pub mod Passing
+pub mod Stores

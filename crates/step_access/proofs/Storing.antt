@@ -17,12 +17,12 @@ use Rattle.rules.specs.Steps.{pageOfWord, offsetOfWord, newTwin, twinTaken, sto
 use Rattle.layout.specs.Areas.{copyRow, twinRow, dirtyPlace, pagesIn, stateIn}
 use Rattle.layout.specs.Layout.{rowOf}
 use Rattle.layout.specs.inner.Marks.{dirtyMark}
-use Rattle.layout.specs.inner.Needed.{RowThere, OnPage, PageMark}
+use Rattle.layout.specs.inner.Needed.{RowThere, OnPage, PageMark, PageThere}
 use Rattle.layout.proofs.MarkLaws.{dirty-mark-written}
 use Rattle.layout.proofs.PageLaws.{copy-row-there, copy-read, dirty-read, copy-written, twin-written}
 use Rattle.layout.proofs.RowLaws.{length-row, get-row}
 use Rattle.layout.proofs.Stores.{get-sets-before, get-sets-behind, get-sets-same, get-set, eqb-iff}
-use Rattle.step_access.specs.inner.Needed.{OnWord, WordIn, WordThere, PageThere}
+use Rattle.step_access.specs.inner.Needed.{OnWord, WordIn, WordThere}
 use Rattle.step_access.specs.inner.Effects.{twinned, wordStored, wordPlace, TwinTaken, Stored}
 
 -- ---- the place of a word

@@ -18,11 +18,11 @@ use Rattle.rules.specs.State.{mainframe, dirtyAt}
 use Rattle.layout.specs.Areas.{copyRow, twinRow, stateIn}
 use Rattle.layout.specs.Layout.{rowOf}
 use Rattle.layout.specs.inner.Marks.{dirtyMark}
-use Rattle.layout.specs.inner.Needed.{OnPage, PageMark, Holds}
+use Rattle.layout.specs.inner.Needed.{OnPage, PageMark, Holds, PageThere}
 use Rattle.layout.proofs.PageLaws.{copy-read, twin-read, dirty-read}
 use Rattle.layout.proofs.RowLaws.{length-row}
 use Rattle.step_close.specs.inner.Parts.{oneMore, pageRecorded, PageChanged}
-use Rattle.step_close.specs.inner.Needed.{Recordable, ChangeAppendable, PageThere, ChangedWords}
+use Rattle.step_close.specs.inner.Needed.{Recordable, ChangeAppendable, ChangedWords}
 use Rattle.step_close.proofs.PageWords.{mask-tells}
 use Rattle.step_close.proofs.PageRecords.{words-row}
 

@@ -9,12 +9,13 @@ use lib.Seq.{take-append-seam, drop-append-seam}
 use lib.Dec.{leb, eqb}
 use borrow.Author.Tests.{le-leb, lt-ltb, leb-true, eqb-false}
 use Rattle.limits.specs.Limits.{fileRecordWidth, stepLimit}
+use Rattle.rules.specs.InOrder.{allZero}
 use Rattle.layout.specs.Areas.{Areas}
 use Rattle.file_record.specs.Records.{Feed, openingTaken, stepTaken, tooManyTaken, recordTaken}
 use Rattle.file_chunk.specs.Bytes.{heldOn, byteTaken, bytesTaken}
 use Rattle.file_chunk.proofs.Bytes.{taken-together}
 use Rattle.stepfile.specs.Feeding.{begun, after}
-use Rattle.stepfile.specs.Promises.{allZero, sound, progressOf, feedAt, Reached}
+use Rattle.stepfile.specs.Promises.{sound, progressOf, feedAt, Reached}
 use Rattle.stepfile.specs.declared.Progress.{Progress}
 
 -- ---- lines are only appended

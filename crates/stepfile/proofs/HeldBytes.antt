@@ -11,7 +11,7 @@ use lib.Dec.{eqb}
 use borrow.Author.Tests.{eq-eqb, eqb-true, le-ltb, lt-ltb, ne-eqb}
 use borrow.Author.Needs.{needs}
 use Rattle.limits.specs.Limits.{fileRecordWidth}
-use Rattle.stepfile.specs.Promises.{allZero}
+use Rattle.rules.specs.InOrder.{allZero}
 use Rattle.stepfile.specs.inner.Needed.{HeldAll, Holdable, Holding, HeldTogether, ZerosBehind}
 
 -- ---- bytes taken behind those held

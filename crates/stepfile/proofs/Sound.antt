@@ -9,7 +9,8 @@ use borrow.Author.Tests.{le-leb, le-ltb, leb-true, lt-leb, lt-ltb, ltb-true}
 use borrow.Author.Needs.{needs}
 use Rattle.limits.specs.Limits.{fileRecordWidth, lineLimit, stepLimit}
 use Rattle.limits.specs.inner.Sizes.{fileRecordLimit}
-use Rattle.stepfile.specs.Promises.{allZero, feedable, sound}
+use Rattle.rules.specs.InOrder.{allZero}
+use Rattle.stepfile.specs.Promises.{feedable, sound}
 use Rattle.stepfile.specs.declared.Progress.{Progress}
 use Rattle.stepfile.specs.inner.Needed.{FeedableIs, Holding, ZerosBehind}
 use Rattle.stepfile.proofs.HeldBytes.{holding-of}

@@ -8,6 +8,7 @@ use lib.ListN.{length, take, drop, replicate}
 use lib.Seq.{sets}
 use lib.Dec.{ltb, leb, eqb}
 use Rattle.limits.specs.Limits.{fileRecordWidth, lineLimit, stepLimit}
+use Rattle.rules.specs.InOrder.{allZero}
 use Rattle.layout.specs.Areas.{Areas, rightSizes}
 use Rattle.file_record.specs.Records.{Feed}
 use Rattle.file_chunk.specs.Bytes.{bytesTaken}
@@ -15,11 +16,6 @@ use Rattle.stepfile.specs.Files.{fileLines}
 use Rattle.stepfile.specs.Feeding.{after, lastLine}
 use Rattle.stepfile.specs.declared.Progress.{Progress}
 use Rattle.stepfile.specs.declared.Taken.{Taken}
-
--- whether all numbers of a list are 0
-unfoldable pub allZero : List ℕ → Bool
-allZero [] = true
-allZero (b ∷ rest) = eqb b 0 && allZero rest
 
 -- a progress that feeding makes: at most 1,000,001 as the next number, fewer than eight bytes held, and zeros behind them
 unfoldable pub sound : Progress → Bool

@@ -89,3 +89,11 @@ pub record LockMark (m : List ℕ) (l : ℕ) : Type 0 where
 pub record DiffIn (r : List ℕ) (slot : ℕ) : Type 0 where
   pub there : RowThere slotWidth r slot
   pub length-fits : slotLength r slot ≤ diffLimit
+
+-- page g of p, in areas of words and marks of the right sizes
+pub record PageThere (w m : List ℕ) (p g : ℕ) : Type 0 where
+  pub words : length w ≡ wordArea
+  pub marks : length m ≡ markArea
+  pub from : 1 ≤ p
+  pub to : p ≤ processorLimit
+  pub page : g < pageLimit

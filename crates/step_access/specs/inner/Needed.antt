@@ -36,11 +36,3 @@ pub record WordThere (w m : List ℕ) (p a : ℕ) : Type 0 where
   pub words : length w ≡ wordArea
   pub marks : length m ≡ markArea
   pub on-word : OnWord p a
-
--- page g of p, in areas of words and marks of the right sizes
-pub record PageThere (w m : List ℕ) (p g : ℕ) : Type 0 where
-  pub words : length w ≡ wordArea
-  pub marks : length m ≡ markArea
-  pub from : 1 ≤ p
-  pub to : p ≤ processorLimit
-  pub page : g < pageLimit

@@ -35,14 +35,6 @@ pub record ChangeAppendable (c w r m : List ℕ) (p g mask : ℕ) : Type 0 where
   pub room : standingCount m < recordLimit
   pub masked : mask ≡ maskOf (difference (rowOf pageWidth w (twinRow mainframe p g)) (rowOf pageWidth w (copyRow mainframe p g)))
 
--- page g of p, in areas of words and marks of the right sizes
-pub record PageThere (w m : List ℕ) (p g : ℕ) : Type 0 where
-  pub words : length w ≡ wordArea
-  pub marks : length m ≡ markArea
-  pub from : 1 ≤ p
-  pub to : p ≤ processorLimit
-  pub page : g < pageLimit
-
 -- page g of p, an interval number of one byte and a slot, in areas of words and records of the right sizes
 pub record PageSlotThere (w r : List ℕ) (p i g mask slot : ℕ) : Type 0 where
   pub words : length w ≡ wordArea

@@ -7,6 +7,7 @@ use lib.ListN.{drop, length, replicate, take}
 use lib.Dec.{eqb, ltb}
 use Rattle.limits.specs.Limits.{fileRecordWidth, lineLimit}
 use Rattle.limits.specs.inner.Sizes.{fileRecordLimit}
+use Rattle.rules.specs.InOrder.{allZero}
 use Rattle.layout.specs.Areas.{Areas}
 use Rattle.inorder.specs.Areas.{OrderIs}
 use Rattle.file_record.specs.Records.{Feed}
@@ -14,7 +15,7 @@ use Rattle.file_record.specs.declared.Stand.{Stand}
 use Rattle.file_record.specs.inner.Needed.{RestKept, standsAt}
 use Rattle.file_chunk.specs.Bytes.{bytesTaken}
 use Rattle.file_chunk.specs.inner.Needed.{Passable}
-use Rattle.stepfile.specs.Promises.{allZero, feedable, progressOf}
+use Rattle.stepfile.specs.Promises.{feedable, progressOf}
 use Rattle.stepfile.specs.declared.Progress.{Progress}
 use Rattle.stepfile.specs.declared.Taken.{Taken}
 use Rattle.stepfile.specs.declared.Held.{Held}
