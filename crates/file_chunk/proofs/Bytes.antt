@@ -8,7 +8,7 @@ use lib.ListN.{length, take, drop, length-append, take-append-drop}
 use lib.Seq.{drop-drop, length-take-le}
 use lib.Dec.{eqb}
 use borrow.Author.Tests.{ne-eqb, eq-eqb}
-use Rattle.limits.specs.Limits.{fileRecordWidth}
+use Rattle.limits.specs.Files.{fileRecordWidth}
 use Rattle.file_record.specs.Records.{Feed, openingTaken, stepTaken, tooManyTaken, recordTaken}
 use Rattle.file_chunk.specs.Bytes.{heldOn, byteTaken, bytesTaken}
 

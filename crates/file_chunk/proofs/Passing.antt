@@ -8,7 +8,7 @@ use mathlib.Core.List.{List}
 use lib.ListN.{drop, length, length-drop, take}
 use lib.Seq.{drop-drop}
 use borrow.Author.Needs.{needs}
-use Rattle.limits.specs.Limits.{fileRecordWidth, lineLimit}
+use Rattle.limits.specs.Files.{fileRecordWidth, lineLimit}
 use Rattle.layout.specs.Areas.{areas}
 use Rattle.lines.specs.inner.Needed.{Room}
 use Rattle.file_record.specs.Records.{Feed, openingTaken, recordTaken}

@@ -8,7 +8,7 @@ use mathlib.Core.List.{List, _++_}
 use lib.ListN.{drop, take}
 use lib.Seq.{getD-take}
 use borrow.Author.Tests.{eq-eqb, le-leb, lt-leb, ne-eqb}
-use Rattle.limits.specs.Limits.{fileRecordWidth, stepLimit}
+use Rattle.limits.specs.Files.{fileRecordWidth, stepLimit}
 use Rattle.rules.specs.Refusals.{Answer, Step}
 use Rattle.rules.specs.State.{mainframe}
 use Rattle.layout.specs.Areas.{stateIn, areas}

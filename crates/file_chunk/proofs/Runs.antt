@@ -10,7 +10,7 @@ use borrow.Author.Tests.{not-false, not-true}
 use mir.Syntax.{w32, w64}
 use mir.Val.{Fits}
 use borrow.Author.Needs.{needs}
-use Rattle.limits.specs.Limits.{fileRecordWidth, lineLimit, stepLimit}
+use Rattle.limits.specs.Files.{fileRecordWidth, lineLimit, stepLimit}
 use Rattle.limits.specs.inner.Sizes.{fileRecordLimit, markArea}
 use Rattle.rules.specs.State.{mainframe}
 use Rattle.layout.specs.Areas.{stateIn, areas}

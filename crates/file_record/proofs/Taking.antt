@@ -11,7 +11,7 @@ use mir.Syntax.{w32}
 use mir.Val.{Fits}
 use borrow.Author.Tests.{eq-eqb, ne-eqb}
 use borrow.Author.Needs.{needs}
-use Rattle.limits.specs.Limits.{fileRecordWidth, lineLimit}
+use Rattle.limits.specs.Files.{fileRecordWidth, lineLimit}
 use Rattle.rules.specs.InOrder.{inOrder}
 use Rattle.rules.specs.State.{mainframe}
 use Rattle.rules.proofs.inorder.InOrderWhen.{in-order-when}

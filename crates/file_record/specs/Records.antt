@@ -3,7 +3,7 @@ use Prim.Native.Nat.{ℕ, suc}
 use mathlib.Core.Bool.{Bool, true, false, cond, not}
 use mathlib.Core.List.{List, [], _++_}
 use lib.Dec.{leb, eqb}
-use Rattle.limits.specs.Limits.{stepLimit}
+use Rattle.limits.specs.Files.{stepLimit}
 use Rattle.layout.specs.Areas.{Areas}
 use Rattle.opening.specs.Promises.{openRefusal, areasOpened}
 use Rattle.engine.specs.Promises.{answerOf, areasAfter}

@@ -2,7 +2,7 @@
 ghost use mathlib.Core.Path.{_≡_};
 ghost use Prim.Native.Nat.{_+_, _≤_};
 ghost use lib.ListN.{length, take, drop};
-ghost use Rattle.limits.specs.Limits.{fileRecordWidth, lineLimit};
+ghost use Rattle.limits.specs.Files.{fileRecordWidth, lineLimit};
 ghost use Rattle.layout.specs.Areas.{areas};
 ghost use Rattle.lines.specs.Lines.{lineBytes};
 ghost use Rattle.lines.specs.inner.Needed.{Room, Counted};

@@ -11,7 +11,8 @@ use borrow.Author.Tests.{ltb-false, leb-true, eqb-true, not-true, not-false, lt-
 use Rattle.lists.specs.Tables.{every, any, total}
 use Rattle.lists.proofs.Conditions.{and-left, and-right, and-both}
 use Rattle.lists.proofs.Tables.{every-holds, any-holds}
-use Rattle.limits.specs.Limits.{firstArrived, intervalLimit, lockLimit, pageLimit, pageWidth, processorLimit, recordLimit}
+use Rattle.limits.specs.Limits.{intervalLimit, lockLimit, pageLimit, pageWidth, processorLimit, recordLimit}
+use Rattle.limits.specs.Places.{firstArrived}
 use Rattle.limits.specs.inner.Sizes.{diffLimit, firstDirty, firstHolder, slotWidth}
 use Rattle.diff.specs.Reading.{readRefusal}
 use Rattle.rules.specs.InOrder.{present, slotSize}

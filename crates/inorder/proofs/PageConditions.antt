@@ -11,7 +11,8 @@ use borrow.Author.Tests.{ltb-false, leb-true, eqb-false, not-false, lt-ltb, le-l
 use Rattle.lists.specs.Tables.{every, any, total}
 use Rattle.lists.proofs.Conditions.{and-left, and-right, and-both, or-when}
 use Rattle.lists.proofs.Tables.{every-at, every-holds, Passes, any-at, any-holds}
-use Rattle.limits.specs.Limits.{firstArrived, intervalLimit, lockLimit, pageLimit, pageWidth, processorLimit, recordLimit}
+use Rattle.limits.specs.Limits.{intervalLimit, lockLimit, pageLimit, pageWidth, processorLimit, recordLimit}
+use Rattle.limits.specs.Places.{firstArrived}
 use Rattle.limits.specs.inner.Sizes.{copyLimit, firstDirty, firstHolder}
 use Rattle.clock.specs.Clocks.{zeros}
 use Rattle.rules.specs.InOrder.{present, everyProcessor, everyPage, presentHolder, allZero, dirtyPages, roomKept, dirtyHaveInterval, holdersPresent, someoneMissing}

@@ -9,7 +9,8 @@ use lib.Dec.{leb, ltb, eqb}
 use borrow.Author.Tests.{ltb-true, ltb-false, le-ltb, le-leb, lt-leb}
 use Rattle.lists.specs.Tables.{total}
 use Rattle.lists.proofs.Tables.{total-same}
-use Rattle.limits.specs.Limits.{firstArrived, lockLimit, pageLimit, pageWidth, processorLimit, recordLimit}
+use Rattle.limits.specs.Limits.{lockLimit, pageLimit, pageWidth, processorLimit, recordLimit}
+use Rattle.limits.specs.Places.{firstArrived}
 use Rattle.limits.specs.inner.Sizes.{clockWidth, copyLimit, diffLimit, firstDirty, firstHolder, slotWidth}
 use Rattle.clock.specs.Clocks.{entryOf}
 use Rattle.rules.specs.InOrder.{present, presentHolder, recordAt, sameNotice, dirtyPages}

@@ -12,7 +12,8 @@ use borrow.Author.Needs.{needs}
 use Rattle.lists.specs.Tables.{every, any, total}
 use Rattle.lists.proofs.Tables.{any-holds}
 use Rattle.lists.proofs.Passing.{Passed, passed-none, pass-one, fail-one, passed-more, passed-broken, passed-all, Kept, kept-none, kept-on, kept-off, kept-all, and-fails, and-goes-on}
-use Rattle.limits.specs.Limits.{firstArrived, intervalLimit, lockLimit, pageLimit, processorLimit, recordLimit}
+use Rattle.limits.specs.Limits.{intervalLimit, lockLimit, pageLimit, processorLimit, recordLimit}
+use Rattle.limits.specs.Places.{firstArrived}
 use Rattle.limits.specs.inner.Sizes.{firstDirty, firstHolder, markArea}
 use Rattle.inorder_marks.specs.inner.Tests.{zeroAt, pagesOf, mayBeDirty, dirtyHold, holderWithin, holdersHold, arrivedHold, dirtyCount, dirtyOf, roomHolds, marksHoldWith}
 use Rattle.inorder_marks.specs.inner.Needed.{PlacesThere, MarksOne}

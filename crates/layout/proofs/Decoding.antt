@@ -7,7 +7,8 @@ use mathlib.Core.List.{List, [], _∷_, _++_}
 use lib.ListN.{length, getD, take, drop, length-append, length-drop, List·getD-append}
 use lib.Seq.{getD-drop}
 use Rattle.lists.specs.Tables.{cell}
-use Rattle.limits.specs.Limits.{firstArrived, lockLimit, pageLimit, pageWidth, processorLimit, recordLimit}
+use Rattle.limits.specs.Limits.{lockLimit, pageLimit, pageWidth, processorLimit, recordLimit}
+use Rattle.limits.specs.Places.{firstArrived}
 use Rattle.limits.specs.inner.Sizes.{copyLimit, firstDirty, firstHolder, markArea, recordArea, slotWidth, wordArea, wordLimit}
 use Rattle.rules.specs.InOrder.{slotSize}
 use Rattle.rules.specs.State.{mainframe, copyOf, twinOf, State}

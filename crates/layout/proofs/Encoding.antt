@@ -9,7 +9,8 @@ use lib.ListN.{length, getD, take, drop}
 use lib.Seq.{take-all, take-add}
 use lib.Dec.{eqb}
 use borrow.Author.Tests.{eqb-true, eq-eqb}
-use Rattle.limits.specs.Limits.{firstArrived, intervalLimit, lockLimit, pageLimit, pageWidth, processorLimit, recordLimit}
+use Rattle.limits.specs.Limits.{intervalLimit, lockLimit, pageLimit, pageWidth, processorLimit, recordLimit}
+use Rattle.limits.specs.Places.{firstArrived}
 use Rattle.limits.specs.inner.Sizes.{clockArea, clockWidth, copyLimit, firstAppliedRow, firstDirty, firstHolder, firstIntervalRow, firstLockRow, markArea, recordArea, slotWidth, wordArea, wordLimit}
 use Rattle.diff.specs.Reading.{applied}
 use Rattle.rules.specs.InOrder.{slotSize}

@@ -8,7 +8,8 @@ use lib.ListN.{length, getD, take, drop, set, replicate, length-replicate, lengt
 use lib.Seq.{length-take-le, sets}
 use lib.Dec.{eqb}
 use borrow.Author.Needs.{needs}
-use Rattle.limits.specs.Limits.{firstArrived, pageLimit, processorLimit, recordLimit, slotHead, standingPlace}
+use Rattle.limits.specs.Limits.{pageLimit, processorLimit, recordLimit, slotHead}
+use Rattle.limits.specs.Places.{firstArrived, standingPlace}
 use Rattle.limits.specs.inner.Sizes.{firstHolder, firstLockRow, markArea, slotWidth}
 use Rattle.rules.specs.State.{mainframe}
 use Rattle.layout.specs.Areas.{lockRow, arrivedPlace, holderPlace, dirtyPlace, standingCount}

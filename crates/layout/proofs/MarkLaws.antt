@@ -9,7 +9,8 @@ use lib.ListN.{length, getD, set, length-set, replicate, length-replicate, getD-
 use lib.Seq.{getD-set-same, sets}
 use lib.Dec.{eqb}
 use Rattle.lists.specs.Tables.{put, putCell}
-use Rattle.limits.specs.Limits.{firstArrived, lockLimit, pageLimit, processorLimit, standingPlace, wantedPlace}
+use Rattle.limits.specs.Limits.{lockLimit, pageLimit, processorLimit}
+use Rattle.limits.specs.Places.{firstArrived, standingPlace, wantedPlace}
 use Rattle.limits.specs.inner.Sizes.{clockWidth, firstDirty, firstHolder, markArea}
 use Rattle.rules.specs.Close.{cleaned}
 use Rattle.rules.specs.State.{mainframe, Pages, withArrived, withWanted, withPages, withRecords, withMarks}

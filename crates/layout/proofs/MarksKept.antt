@@ -5,7 +5,8 @@ use mathlib.Core.Path.{_≡_, ap}
 use mathlib.Core.List.{List, _∷_}
 use lib.ListN.{length, getD, set}
 use lib.Seq.{getD-set-other, sets}
-use Rattle.limits.specs.Limits.{firstArrived, lockLimit, locksPlace, pageLimit, pagesPlace, processorLimit, processorsPlace, standingPlace, wantedPlace}
+use Rattle.limits.specs.Limits.{lockLimit, pageLimit, processorLimit}
+use Rattle.limits.specs.Places.{firstArrived, locksPlace, pagesPlace, processorsPlace, standingPlace, wantedPlace}
 use Rattle.limits.specs.inner.Sizes.{firstDirty, firstHolder, markArea}
 use Rattle.rules.specs.State.{mainframe, withPages, withMarks}
 use Rattle.layout.specs.Areas.{arrivedPlace, holderPlace, dirtyPlace, standingCount, clocksIn, pagesIn, recordsIn, marksIn, stateIn}

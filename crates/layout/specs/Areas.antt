@@ -4,7 +4,7 @@ use mathlib.Core.Bool.{Bool, _&&_}
 use mathlib.Core.List.{List, _∷_, _++_}
 use lib.ListN.{length, getD, drop}
 use lib.Dec.{eqb}
-use Rattle.limits.specs.Limits.{processorsPlace, pagesPlace, locksPlace, standingPlace, wantedPlace, firstArrived}
+use Rattle.limits.specs.Places.{processorsPlace, pagesPlace, locksPlace, standingPlace, wantedPlace, firstArrived}
 use Rattle.rules.specs.InOrder.{slotSize}
 use Rattle.rules.specs.State.{Limits, mainframe, Holder, Processor, Lock, Barrier, Applied, Interval, Clocks, Pages, Records, Marks, State, standing}
 use Rattle.layout.specs.Layout.{rowOf, tabulate, perProcessor, joinRows}

@@ -9,7 +9,7 @@ use lib.ListN.{length, take, drop, getD, set, length-append, length-drop, length
 use lib.Seq.{length-take-le, sets, take-all, take-suc}
 use borrow.Author.Needs.{needs}
 use Rattle.lists.proofs.Stores.{sets-append, sets-over}
-use Rattle.limits.specs.Limits.{lineLimit}
+use Rattle.limits.specs.Files.{lineLimit}
 use Rattle.lines.specs.Decimal.{digits}
 use Rattle.lines.specs.Lines.{lineBytes}
 use Rattle.lines.specs.inner.Needed.{Room, Put, fieldBytes, halfBytes, Counted, EightFit, ShortFits, behindNumber}

@@ -9,7 +9,8 @@ use mathlib.Core.List.{List, [], _∷_, _++_, append-assoc}
 use lib.ListN.{length, getD, length-append}
 use lib.Dec.{ltb}
 use borrow.Author.Tests.{ltb-true, ltb-false, lt-ltb, le-ltb}
-use Rattle.lines.specs.Decimal.{digitsWithin, digits, valueAfter, valueOf}
+use Rattle.lines.specs.Decimal.{digitsWithin, digits}
+use Rattle.lines.specs.inner.Values.{valueAfter, valueOf}
 use Rattle.lines.specs.inner.Needed.{digitPair}
 
 -- ---- one digit more

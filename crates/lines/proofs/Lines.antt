@@ -6,7 +6,7 @@ use mathlib.Core.Path.{_≡_, refl, sym, ap, _∙_}
 use mathlib.Core.List.{List, [], _∷_, _++_, append-assoc}
 use lib.ListN.{length, set, length-append}
 use lib.Seq.{set-comm, set-set, sets}
-use Rattle.limits.specs.Limits.{lineLimit}
+use Rattle.limits.specs.Files.{lineLimit}
 use Rattle.lines.specs.Decimal.{digitsWithin, digits}
 use Rattle.lines.specs.Lines.{lineBytes}
 use Rattle.lines.specs.inner.Needed.{fieldBytes, halfBytes}

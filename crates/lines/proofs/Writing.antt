@@ -13,7 +13,7 @@ use mir.Val.{Fits}
 use borrow.Author.Tests.{leb-true, leb-false, not-true, not-false, le-leb, lt-leb}
 use borrow.Author.Needs.{needs}
 use Rattle.lists.proofs.Stores.{sets-append, sets-last-first}
-use Rattle.limits.specs.Limits.{lineLimit}
+use Rattle.limits.specs.Files.{lineLimit}
 use Rattle.lines.specs.Decimal.{digits}
 use Rattle.lines.specs.Lines.{lineBytes, lineFits, lineAnswer, placeSaid, lineLeft}
 use Rattle.lines.specs.declared.Placed.the-variants.{End, NoRoom}

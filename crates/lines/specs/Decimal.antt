@@ -14,12 +14,3 @@ digitsWithin (suc most) n =
 -- the digits of a number in base ten with no leading zeros: 0 is "0", 700 is "700"
 unfoldable pub digits : ℕ → List ℕ
 digits n = digitsWithin (n + 1) n
-
--- the number that digits say, where those before them say `before`
-unfoldable pub valueAfter : ℕ → List ℕ → ℕ
-valueAfter before [] = before
-valueAfter before (b ∷ bs) = valueAfter (10 * before + (b - 48)) bs
-
--- the number that digits say
-unfoldable pub valueOf : List ℕ → ℕ
-valueOf bs = valueAfter 0 bs

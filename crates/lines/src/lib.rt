@@ -3,7 +3,7 @@ ghost use mathlib.Core.Path.{_≡_};
 ghost use Prim.Native.Nat.{_+_, _≤_, _<_};
 ghost use lib.ListN.{length};
 ghost use lib.Seq.{sets};
-ghost use Rattle.limits.specs.Limits.{lineLimit};
+ghost use Rattle.limits.specs.Files.{lineLimit};
 ghost use Rattle.lines.specs.Decimal.{digits};
 ghost use Rattle.lines.specs.Lines.{lineBytes, lineFits, lineAnswer, placeSaid, lineLeft};
 ghost use Rattle.lines.specs.inner.Needed.{Room, DigitsFit, PairFits, Put, digitPair, fieldBytes, halfBytes, Eight, Counted, Countable, EightFit, ShortFits, behindNumber};

@@ -6,7 +6,7 @@ use mathlib.Core.List.{List}
 use lib.ListN.{length}
 use lib.Dec.{eqb}
 use native.Mathlib.Omega.{arith}
-use Rattle.limits.specs.Limits.{fileRecordWidth}
+use Rattle.limits.specs.Files.{fileRecordWidth}
 use Rattle.rules.specs.Opening.{openingRefusal, opened}
 use Rattle.rules.specs.State.{mainframe, State}
 use Rattle.rules.proofs.inorder.Facts.{Sized}

@@ -9,7 +9,7 @@ use lib.Seq.{length-take-le, take-all, take-at, sets, length-sets, sets-eq}
 use lib.Dec.{eqb}
 use borrow.Author.Tests.{eqb-true, not-false}
 use borrow.Author.Needs.{needs}
-use Rattle.limits.specs.Limits.{fileRecordWidth}
+use Rattle.limits.specs.Files.{fileRecordWidth}
 use Rattle.limits.specs.inner.Sizes.{clockArea, markArea, partLimit, recordArea, wordArea, wordLimit}
 use Rattle.clock.specs.Clocks.{zeros}
 use Rattle.rules.specs.InOrder.{slotSize, countsInRange}

@@ -9,7 +9,8 @@ use lib.ListN.{length, getD}
 use lib.Dec.{eqb}
 use borrow.Author.Tests.{eqb-true, eq-eqb, ne-eqb, le-leb, not-false}
 use borrow.Author.Needs.{needs}
-use Rattle.limits.specs.Limits.{fileRecordWidth, lockLimit, pageLimit, processorLimit}
+use Rattle.limits.specs.Limits.{lockLimit, pageLimit, processorLimit}
+use Rattle.limits.specs.Files.{fileRecordWidth}
 use Rattle.rules.specs.InOrder.{inRange, countsInRange}
 use Rattle.rules.specs.Opening.{openingRefusal}
 use Rattle.rules.specs.State.{mainframe}

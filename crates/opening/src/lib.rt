@@ -4,7 +4,7 @@ ghost use mathlib.Core.Path.{_≡_};
 ghost use Prim.Native.Nat.{_*_};
 ghost use lib.ListN.{length};
 ghost use lib.Seq.{sets};
-ghost use Rattle.limits.specs.Limits.{fileRecordWidth};
+ghost use Rattle.limits.specs.Files.{fileRecordWidth};
 ghost use Rattle.limits.specs.inner.Sizes.{wordArea, wordLimit};
 ghost use Rattle.layout.specs.Areas.{areas};
 ghost use Rattle.layout.specs.inner.Needed.{RowThere};

@@ -11,7 +11,8 @@ use lib.Dec.{leb, ltb, eqb}
 use borrow.Author.Tests.{lt-ltb, le-ltb, le-leb, lt-leb, eq-eqb, ne-eqb}
 use mir.Syntax.{w8, w32, w64}
 use mir.Val.{Fits}
-use Rattle.limits.specs.Limits.{firstArrived, processorLimit}
+use Rattle.limits.specs.Limits.{processorLimit}
+use Rattle.limits.specs.Places.{firstArrived}
 use Rattle.limits.specs.inner.Sizes.{boundArea, kindBounds, kindLimit, valueLimit}
 use Rattle.rules.specs.InOrder.{present}
 use Rattle.rules.specs.Refusals.{knownKind, usesValue}

@@ -6,7 +6,7 @@ use mathlib.Core.List.{List, [], _∷_}
 use lib.ListN.{length, drop}
 use lib.Seq.{sets, length-sets, drop-drop}
 use borrow.Author.Needs.{needs}
-use Rattle.limits.specs.Limits.{fileRecordWidth}
+use Rattle.limits.specs.Files.{fileRecordWidth}
 use Rattle.limits.specs.inner.Sizes.{markArea}
 use Rattle.rules.specs.Refusals.{Answer, Step, nextInOrder}
 use Rattle.rules.specs.Runs.{answersInOrder, stateInOrder}

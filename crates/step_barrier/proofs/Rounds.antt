@@ -9,7 +9,8 @@ use lib.ListN.{length, set, length-set, replicate, length-replicate}
 use lib.Seq.{sets, length-sets}
 use lib.Dec.{eqb}
 use borrow.Author.Needs.{needs}
-use Rattle.limits.specs.Limits.{firstArrived, processorLimit, wantedPlace}
+use Rattle.limits.specs.Limits.{processorLimit}
+use Rattle.limits.specs.Places.{firstArrived, wantedPlace}
 use Rattle.limits.specs.inner.Sizes.{clockArea, clockWidth, markArea}
 use Rattle.rules.specs.State.{mainframe, Barrier, Clocks, withClock, cleared, withArrived, withClocks, withMarks}
 use Rattle.rules.specs.Steps.{allLearned, roundDone, wantsCollection, want}

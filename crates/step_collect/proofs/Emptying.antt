@@ -8,7 +8,7 @@ use lib.ListN.{length, set, length-set, replicate, length-replicate}
 use lib.Dec.{leb}
 use borrow.Author.Needs.{needs}
 use borrow.Author.Tests.{lt-leb}
-use Rattle.limits.specs.Limits.{wantedPlace}
+use Rattle.limits.specs.Places.{wantedPlace}
 use Rattle.limits.specs.inner.Sizes.{indexArea, markArea}
 use Rattle.rules.specs.InOrder.{present, presentHolder}
 use Rattle.rules.specs.State.{mainframe, Processor, withWanted, State, withMarks, clock, own}

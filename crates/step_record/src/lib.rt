@@ -2,7 +2,7 @@
 ghost use mathlib.Core.Path.{_≡_};
 ghost use Prim.Native.Nat.{_+_, _*_, _≤_};
 ghost use lib.ListN.{length, getD, drop};
-ghost use Rattle.limits.specs.Limits.{fileRecordWidth};
+ghost use Rattle.limits.specs.Files.{fileRecordWidth};
 ghost use Rattle.rules.specs.State.{mainframe};
 ghost use Rattle.layout.specs.Areas.{stateIn};
 ghost use Rattle.engine.specs.inner.Needed.{SteppedKept};

@@ -8,7 +8,7 @@ use lib.ListN.{drop, length, replicate, take, take-append-drop}
 use lib.Seq.{length-take-le, sets, sets-eq}
 use borrow.Author.Tests.{not-false, not-true}
 use borrow.Author.Needs.{needs}
-use Rattle.limits.specs.Limits.{fileRecordWidth}
+use Rattle.limits.specs.Files.{fileRecordWidth}
 use Rattle.layout.specs.Areas.{Areas}
 use Rattle.inorder.specs.Areas.{OrderIs}
 use Rattle.file_chunk.specs.Bytes.{bytesTaken}

@@ -5,7 +5,7 @@ use mathlib.Core.Path.{_≡_, refl, sym, ap, _∙_}
 use mathlib.Core.Bool.{true}
 use mathlib.Core.List.{List, [], _∷_, _++_}
 use lib.ListN.{drop, replicate}
-use Rattle.limits.specs.Limits.{fileRecordWidth, stepLimit}
+use Rattle.limits.specs.Files.{fileRecordWidth, stepLimit}
 use Rattle.limits.specs.inner.Sizes.{clockArea, markArea, recordArea, wordArea}
 use Rattle.rules.specs.InOrder.{slotSize, inRange, countsInRange}
 use Rattle.rules.specs.Opening.{openingRefusal}

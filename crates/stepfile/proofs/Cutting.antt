@@ -8,7 +8,7 @@ use lib.ListN.{length, replicate, length-append}
 use lib.Seq.{take-append-seam, drop-append-seam}
 use lib.Dec.{leb, eqb}
 use borrow.Author.Tests.{le-leb, lt-ltb, leb-true, eqb-false}
-use Rattle.limits.specs.Limits.{fileRecordWidth, stepLimit}
+use Rattle.limits.specs.Files.{fileRecordWidth, stepLimit}
 use Rattle.rules.specs.InOrder.{allZero}
 use Rattle.layout.specs.Areas.{Areas}
 use Rattle.file_record.specs.Records.{Feed, openingTaken, stepTaken, tooManyTaken, recordTaken}

@@ -9,7 +9,7 @@ use lib.Seq.{length-take-le, sets}
 use lib.Dec.{eqb, ltb}
 use borrow.Author.Tests.{eq-eqb, eqb-true, le-ltb, lt-ltb, ne-eqb, not-false, not-true}
 use borrow.Author.Needs.{needs}
-use Rattle.limits.specs.Limits.{fileRecordWidth, lineLimit}
+use Rattle.limits.specs.Files.{fileRecordWidth, lineLimit}
 use Rattle.lines.specs.Lines.{lineBytes}
 use Rattle.lines.specs.inner.Needed.{Room}
 use Rattle.file_record.specs.Records.{refusalLine}

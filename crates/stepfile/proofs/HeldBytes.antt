@@ -10,7 +10,7 @@ use lib.Seq.{drop-cons, drop-drop, drop-set-lt, take-suc-set}
 use lib.Dec.{eqb}
 use borrow.Author.Tests.{eq-eqb, eqb-true, le-ltb, lt-ltb, ne-eqb}
 use borrow.Author.Needs.{needs}
-use Rattle.limits.specs.Limits.{fileRecordWidth}
+use Rattle.limits.specs.Files.{fileRecordWidth}
 use Rattle.rules.specs.InOrder.{allZero}
 use Rattle.stepfile.specs.inner.Needed.{HeldAll, Holdable, Holding, HeldTogether, ZerosBehind}
 

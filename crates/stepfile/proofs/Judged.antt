@@ -8,7 +8,7 @@ use mathlib.Core.List.{List, _++_}
 use lib.ListN.{length, take, drop}
 use lib.Dec.{eqb}
 use borrow.Author.Tests.{le-ltb, eq-eqb}
-use Rattle.limits.specs.Limits.{fileRecordWidth, stepLimit}
+use Rattle.limits.specs.Files.{fileRecordWidth, stepLimit}
 use Rattle.rules.specs.Demand.{ReadsJudged, DemandThree}
 use Rattle.rules.specs.Opening.{openingRefusal}
 use Rattle.rules.specs.Runs.{answers}

@@ -7,7 +7,7 @@ use lib.ListN.{drop, length}
 use lib.Dec.{leb, ltb}
 use borrow.Author.Tests.{le-leb, le-ltb, leb-true, lt-leb, lt-ltb, ltb-true}
 use borrow.Author.Needs.{needs}
-use Rattle.limits.specs.Limits.{fileRecordWidth, lineLimit, stepLimit}
+use Rattle.limits.specs.Files.{fileRecordWidth, lineLimit, stepLimit}
 use Rattle.limits.specs.inner.Sizes.{fileRecordLimit}
 use Rattle.rules.specs.InOrder.{allZero}
 use Rattle.stepfile.specs.Promises.{feedable, sound}

@@ -7,7 +7,7 @@ use mathlib.Core.List.{List, [], _∷_, _++_}
 use lib.ListN.{length, take, drop, replicate}
 use lib.Seq.{sets}
 use lib.Dec.{ltb, leb, eqb}
-use Rattle.limits.specs.Limits.{fileRecordWidth, lineLimit, stepLimit}
+use Rattle.limits.specs.Files.{fileRecordWidth, lineLimit, stepLimit}
 use Rattle.rules.specs.InOrder.{allZero}
 use Rattle.layout.specs.Areas.{Areas, rightSizes}
 use Rattle.file_record.specs.Records.{Feed}

@@ -1,7 +1,7 @@
 // A step file fed in parts, cut anywhere: the lines of its records, as for the whole file.
 ghost use mathlib.Core.Bool.{true};
 ghost use lib.ListN.{length, take, drop};
-ghost use Rattle.limits.specs.Limits.{fileRecordWidth};
+ghost use Rattle.limits.specs.Files.{fileRecordWidth};
 ghost use Rattle.layout.specs.Areas.{areas};
 ghost use Rattle.file_record.specs.Records.{recordTaken};
 ghost use Rattle.file_record.specs.inner.Needed.{standsAt, RecordTaken};

@@ -4,7 +4,7 @@ use mathlib.Core.Path.{_≡_}
 use mathlib.Core.Bool.{Bool, false}
 use mathlib.Core.List.{List}
 use lib.ListN.{drop, length}
-use Rattle.limits.specs.Limits.{fileRecordWidth, lineLimit}
+use Rattle.limits.specs.Files.{fileRecordWidth, lineLimit}
 use Rattle.limits.specs.inner.Sizes.{fileRecordLimit}
 use Rattle.layout.specs.Areas.{areas}
 use Rattle.inorder.specs.Areas.{OrderIs}

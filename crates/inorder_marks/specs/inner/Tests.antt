@@ -6,7 +6,8 @@ use mathlib.Core.List.{List}
 use lib.ListN.{getD}
 use lib.Dec.{leb, ltb, eqb}
 use Rattle.lists.specs.Tables.{every, any, total}
-use Rattle.limits.specs.Limits.{firstArrived, intervalLimit, lockLimit, pageLimit, processorLimit, recordLimit}
+use Rattle.limits.specs.Limits.{intervalLimit, lockLimit, pageLimit, processorLimit, recordLimit}
+use Rattle.limits.specs.Places.{firstArrived}
 use Rattle.limits.specs.inner.Sizes.{firstDirty, firstHolder}
 
 -- ---- what the tests of other areas share with these

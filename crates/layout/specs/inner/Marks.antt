@@ -2,7 +2,8 @@
 use Prim.Native.Nat.{ℕ, _+_, _*_}
 use mathlib.Core.List.{List}
 use lib.ListN.{getD, take, drop, set}
-use Rattle.limits.specs.Limits.{processorsPlace, pagesPlace, locksPlace, standingPlace, wantedPlace, slotHead}
+use Rattle.limits.specs.Limits.{slotHead}
+use Rattle.limits.specs.Places.{processorsPlace, pagesPlace, locksPlace, standingPlace, wantedPlace}
 use Rattle.limits.specs.inner.Sizes.{slotWidth}
 use Rattle.rules.specs.State.{mainframe, Record}
 use Rattle.layout.specs.Areas.{arrivedPlace, holderPlace, dirtyPlace}

@@ -1,7 +1,9 @@
 -- The sizes and places that follow from the numbers of Limits.antt, each with one name; the code has the same names in capitals (src/lib.rt).
 -- Assumes nothing.
 use Prim.Native.Nat.{ℕ, _+_, _*_, _/_}
-use Rattle.limits.specs.Limits.{processorLimit, pageLimit, pageWidth, lockLimit, recordLimit, intervalLimit, slotHead, firstArrived, stepLimit}
+use Rattle.limits.specs.Limits.{processorLimit, pageLimit, pageWidth, lockLimit, recordLimit, intervalLimit, slotHead}
+use Rattle.limits.specs.Files.{stepLimit}
+use Rattle.limits.specs.Places.{firstArrived}
 
 -- "a copy of 256 words": the words of all pages
 abbrev pub wordLimit : ℕ

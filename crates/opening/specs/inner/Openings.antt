@@ -5,7 +5,8 @@ use mathlib.Core.Bool.{Bool, _&&_}
 use mathlib.Core.List.{List, _∷_}
 use lib.ListN.{length, getD, replicate}
 use lib.Dec.{eqb}
-use Rattle.limits.specs.Limits.{fileRecordWidth, standingPlace}
+use Rattle.limits.specs.Files.{fileRecordWidth}
+use Rattle.limits.specs.Places.{standingPlace}
 use Rattle.limits.specs.inner.Sizes.{markArea, wordArea, wordLimit}
 use Rattle.rules.specs.InOrder.{countsInRange}
 use Rattle.rules.specs.State.{mainframe}

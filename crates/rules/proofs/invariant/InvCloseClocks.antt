@@ -13,7 +13,7 @@ use borrow.Author.Tests.{eqb-true, eq-eqb, ne-eqb}
 use Rattle.lists.proofs.Tables.{any-holds}
 use Rattle.clock.specs.Clocks.{sumOf}
 use Rattle.diff.specs.Format.{Below, setting, written}
-use Rattle.diff.specs.Reading.{settingAt}
+use Rattle.diff.specs.inner.Settings.{settingAt}
 use Rattle.diff.proofs.Theorems.{exactly-the-differing-words}
 use Rattle.rules.specs.State.{Limits, Counts, Holder, Processor, Applied, Interval, Clocks, clockOf, withClock, copyOf, twinOf, dirtyAt, Record, State, clock, own, standing}
 use Rattle.rules.specs.Close.{differ, changed, anyChanged, raised, ticked, newRecord, closed}

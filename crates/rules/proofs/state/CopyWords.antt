@@ -13,7 +13,8 @@ use lib.Dec.{eqb}
 use Rattle.lists.proofs.Tables.{by-put-cell}
 use Rattle.lists.proofs.Selected.{Each}
 use Rattle.diff.specs.Format.{Below, setting}
-use Rattle.diff.specs.Reading.{settings, settingAt, applied}
+use Rattle.diff.specs.Reading.{settings, applied}
+use Rattle.diff.specs.inner.Settings.{settingAt}
 use Rattle.diff.proofs.Overlay.{length-overlay}
 use Rattle.diff.proofs.Theorems.{applied-word}
 use Rattle.rules.specs.State.{Pages, copyOf, Record}

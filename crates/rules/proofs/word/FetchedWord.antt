@@ -14,7 +14,8 @@ use Rattle.lists.specs.Tables.{select}
 use Rattle.lists.proofs.Tables.{cell-put-same}
 use Rattle.lists.proofs.Selected.{Each, each-always, each-select, each-sort}
 use Rattle.clock.specs.Clocks.{entryOf}
-use Rattle.diff.specs.Reading.{settingAt, applied}
+use Rattle.diff.specs.Reading.{applied}
+use Rattle.diff.specs.inner.Settings.{settingAt}
 use Rattle.diff.proofs.Theorems.{applied-word}
 use Rattle.rules.specs.State.{Limits, Holder, Processor, Applied, Clocks, clockOf, withClock, copyOf, Record, State, clock, standing}
 use Rattle.rules.specs.Fetch.{isPending, sumAt, earlier, due, appliedAll, withCopy, fetched}

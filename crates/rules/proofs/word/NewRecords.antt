@@ -12,7 +12,7 @@ use lib.Seq.{getD-append-seam}
 use lib.Dec.{eqb}
 use borrow.Author.Tests.{eqb-true, eq-eqb, ne-eqb}
 use Rattle.diff.specs.Format.{written}
-use Rattle.diff.specs.Reading.{settingAt}
+use Rattle.diff.specs.inner.Settings.{settingAt}
 use Rattle.rules.specs.State.{copyOf, twinOf, Record, State}
 use Rattle.rules.specs.Close.{differ, changed, newRecord}
 use Rattle.rules.proofs.state.Slots.{newRecords}

@@ -11,7 +11,7 @@ use lib.Dec.{lit<}
 use Rattle.lists.specs.Tables.{select}
 use Rattle.lists.proofs.Selected.{Each, each-append, each-select, each-sort}
 use Rattle.diff.specs.Format.{Below}
-use Rattle.diff.specs.Reading.{settingAt}
+use Rattle.diff.specs.inner.Settings.{settingAt}
 use Rattle.diff.proofs.Theorems.{exactly-the-differing-words}
 use Rattle.rules.specs.State.{Limits, Clocks, Pages, copyOf, twinOf, Record, recordsOf, Marks, State, withClocks, withPages, withMarks, standing}
 use Rattle.rules.specs.InOrder.{recordAt}

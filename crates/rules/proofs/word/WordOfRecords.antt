@@ -7,7 +7,7 @@ use mathlib.Core.List.{List, [], _∷_, _++_}
 use lib.ListN.{length, getD}
 use lib.Dec.{eqb}
 use borrow.Author.Tests.{eqb-true}
-use Rattle.diff.specs.Reading.{settingAt}
+use Rattle.diff.specs.inner.Settings.{settingAt}
 use Rattle.rules.specs.State.{Record}
 
 abbrev pub noRecord : Record

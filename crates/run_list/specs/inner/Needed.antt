@@ -4,7 +4,7 @@ use mathlib.Core.Path.{_≡_}
 use mathlib.Core.List.{List, [], _∷_}
 use lib.ListN.{length, take, drop}
 use lib.Seq.{sets}
-use Rattle.limits.specs.Limits.{fileRecordWidth}
+use Rattle.limits.specs.Files.{fileRecordWidth}
 use Rattle.rules.specs.Refusals.{refusedAs, answerInOrder, nextInOrder}
 use Rattle.rules.specs.Runs.{answersInOrder, stateInOrder}
 use Rattle.rules.specs.State.{mainframe, State}

@@ -3,7 +3,7 @@ use Prim.Native.Nat.{ℕ, _+_, _≤_}
 use mathlib.Core.Path.{_≡_}
 use mathlib.Core.List.{List}
 use lib.ListN.{length, drop}
-use Rattle.limits.specs.Limits.{fileRecordWidth}
+use Rattle.limits.specs.Files.{fileRecordWidth}
 use Rattle.rules.specs.Refusals.{stepOf}
 use Rattle.step_collect.specs.inner.Needed.{ReadyKept}
 use Rattle.step_record.specs.Records.{stepFrom}

@@ -5,7 +5,7 @@ use mathlib.Core.Bool.{Bool, _&&_, _||_, false, not, true}
 use mathlib.Core.List.{List, _++_}
 use lib.ListN.{drop, length, replicate, take}
 use lib.Dec.{eqb, ltb}
-use Rattle.limits.specs.Limits.{fileRecordWidth, lineLimit}
+use Rattle.limits.specs.Files.{fileRecordWidth, lineLimit}
 use Rattle.limits.specs.inner.Sizes.{fileRecordLimit}
 use Rattle.rules.specs.InOrder.{allZero}
 use Rattle.layout.specs.Areas.{Areas}
