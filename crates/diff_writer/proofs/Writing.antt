@@ -1,14 +1,13 @@
 -- What the writer stores for one pair and for one word, and the difference of two pages word by word, as the writer goes through it: what is
 -- left of its runs and words, and what each word adds. Assumes nothing.
 use Prim.Native.Nat.{ℕ, zero, suc, _+_, _/_, _%_, _≤_, _<_, min}
-use native.Mathlib.Nat.{add-zero}
 use native.Mathlib.Numerals.{add-one}
 use native.Mathlib.Omega.{arith}
 use mathlib.Core.Path.{_≡_, refl, sym, ap, _∙_}
 use mathlib.Core.Option.{Option, none, some}
 use mathlib.Core.List.{List, [], _∷_, _++_}
 use lib.ListN.{length, getD, set, drop, length-set, length-append, drop-of-length-le}
-use lib.Seq.{sets, set-comm}
+use lib.Seq.{sets}
 use Rattle.limits.specs.Limits.{pageWidth}
 use Rattle.diff.specs.Format.{Run, setting, difference, ended, runsFrom, setWords, pairBytes, wordBytes}
 use Rattle.diff.proofs.Theorems.{length-difference}

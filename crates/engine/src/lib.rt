@@ -9,11 +9,11 @@ ghost use Rattle.step_collect.specs.inner.Needed.{ReadyKept};
 ghost use Rattle.step_act.specs.Telling.{Tells};
 ghost use Rattle.engine.specs.Promises.{answerOf, areasAfter};
 ghost use Rattle.engine.specs.inner.Needed.{Refusable, RefusalBy, SteppedAs, SteppedKept};
-use step_act::Outcome;
 use clock::ProcessorId;
+use layout::own_entry;
 use limits::FIRST_BOUND;
 use limits::INDEX_AREA;
-use layout::own_entry;
+use step_act::Outcome;
 
 // A step on areas of any sizes and contents: 1 where they are not in order, else what the step answers and does.
 pub fn step(

@@ -2,7 +2,7 @@
 use Prim.Native.Nat.{ℕ, zero, suc, _≤_, _<_}
 use native.Mathlib.Omega.{arith}
 use mathlib.Core.Path.{_≡_, refl, sym, ap, _∙_}
-use mathlib.Core.List.{List, [], _∷_, map}
+use mathlib.Core.List.{List, _∷_, map}
 use lib.ListN.{take}
 use Rattle.lists.specs.Tables.{select, sortBy}
 use Rattle.limits.specs.Limits.{recordLimit}
@@ -21,7 +21,7 @@ use Rattle.layout.proofs.RowLaws.{tabulate-same, map-tabulate}
 use Rattle.layout.proofs.SlotLaws.{slot-read, record-read}
 use Rattle.fetch_index.specs.inner.Needed.{SlotsSound}
 use Rattle.fetch_index.proofs.InState.{slots-sound}
-use Rattle.fetch.specs.inner.Due.{dueIn}
+use Rattle.fetch_lay.specs.inner.Due.{dueIn}
 use Rattle.fetch.specs.inner.Needed.{Fetchable}
 
 -- ---- the same records

@@ -1,11 +1,3 @@
-pub mod Ordering
-pub mod Picking
-pub mod Done
-pub mod Listing
-pub mod News
 pub mod InState
-pub mod Laying
-pub mod Applying
 pub mod Comparing
 pub mod Fetching
-pub mod Pending

@@ -3,9 +3,9 @@ ghost use mathlib.Core.Bool.{true};
 ghost use Prim.Native.Nat.{_≤_};
 ghost use Rattle.limits.specs.inner.Sizes.{fileRecordLimit};
 ghost use Rattle.file_chunk.specs.inner.Needed.{Passable, AllPassed, FirstTaken, StepsPassable, StepsTaken, AllAhead, Runnable, RoomForSteps, StepsRefused, LastPassable, LastTaken};
+use file_record::Stand;
 use limits::FILE_RECORD_LIMIT;
 use limits::FILE_RECORD_WIDTH;
-use file_record::Stand;
 
 // What stands behind the last whole record of a chunk, and the place in the chunk behind it.
 pub struct Passed {
@@ -64,7 +64,16 @@ fn take_first(
     if chunk.len() - from < FILE_RECORD_WIDTH {
         return Passed { stand, next: from };
     }
-    let opened = file_record::take_opening(stand, chunk, from, lines, clocks, words, records, marks);
+    let opened = file_record::take_opening(
+        stand,
+        chunk,
+        from,
+        lines,
+        clocks,
+        words,
+        records,
+        marks,
+    );
     Passed {
         stand: opened,
         next: from + FILE_RECORD_WIDTH,

@@ -8,8 +8,8 @@ ghost use Rattle.lines.specs.Lines.{lineBytes};
 ghost use Rattle.lines.specs.inner.Needed.{Room, Counted};
 ghost use Rattle.file_record.specs.Records.{openingTaken};
 ghost use Rattle.file_record.specs.inner.Needed.{LinePut, outcomeLine, standsAt, Takeable, StoppedAt, RecordTaken, OpenedAs};
-use step_act::Outcome;
 use limits::FILE_RECORD_WIDTH;
+use step_act::Outcome;
 
 // What stands between two records: the number of the next, whether the run has stopped, whether the areas are in order, and how many
 // bytes of lines are written.

@@ -15,6 +15,16 @@ ghost use Rattle.inorder_records.specs.inner.Needed.{OwnFit};
 ghost use Rattle.inorder.specs.Areas.{OrderIs};
 ghost use Rattle.inorder.specs.inner.Tests.{entryWithin, rowWithin, rowsHold, ownEntries, appliedHold, intervalsHold, clocksHoldWith, wordsHold, countsHold, areasHoldWith, areasHold};
 ghost use Rattle.inorder.specs.inner.Needed.{RowsThere, ClocksThere, ClocksOne, IntervalsOne, WordsOne, AreasThere};
+use inorder_marks::marks_hold;
+use inorder_marks::pages_of;
+use inorder_marks::zeros_at;
+use inorder_records::records_hold;
+use layout::clock_at;
+use layout::marks::lock_count;
+use layout::marks::page_count;
+use layout::marks::processor_count;
+use layout::marks::standing_count;
+use layout::wide;
 use limits::CLOCK_AREA;
 use limits::CLOCK_WIDTH;
 use limits::COPY_LIMIT;
@@ -32,16 +42,6 @@ use limits::PROCESSOR_LIMIT;
 use limits::RECORD_AREA;
 use limits::RECORD_LIMIT;
 use limits::WORD_AREA;
-use inorder_marks::marks_hold;
-use inorder_marks::pages_of;
-use inorder_marks::zeros_at;
-use layout::clock_at;
-use layout::marks::lock_count;
-use layout::marks::page_count;
-use layout::marks::processor_count;
-use layout::marks::standing_count;
-use layout::wide;
-use inorder_records::records_hold;
 
 // Whether lent memory is in order: its areas have the fixed sizes, and the state that they hold is in order.
 pub fn in_order(clocks: &[u8], words: &[u32], records: &[u8], marks: &[u8]) -> bool

@@ -9,6 +9,7 @@ ghost use Rattle.limits.specs.Places.{firstArrived};
 ghost use Rattle.limits.specs.inner.Sizes.{copyLimit, markArea};
 ghost use Rattle.inorder_marks.specs.inner.Tests.{zeroAt, pagesOf, mayBeDirty, dirtyHold, holderWithin, holdersHold, arrivedHold, dirtyOf, roomHolds, marksHoldWith};
 ghost use Rattle.inorder_marks.specs.inner.Needed.{PlacesThere, MarksOne, MarksThere};
+use layout::wide;
 use limits::CLOCK_WIDTH;
 use limits::FIRST_ARRIVED;
 use limits::FIRST_DIRTY;
@@ -18,7 +19,6 @@ use limits::LOCK_LIMIT;
 use limits::PAGE_LIMIT;
 use limits::PROCESSOR_LIMIT;
 use limits::RECORD_LIMIT;
-use layout::wide;
 
 // Whether all marks are in order.
 pub fn marks_hold(

@@ -12,17 +12,17 @@ use clock::IntervalId;
 use clock::PageId;
 use clock::ProcessorId;
 use diff::check;
-use limits::CLOCK_WIDTH;
-use limits::DIFF_LIMIT;
-use limits::NOTICE_ROW;
-use limits::NOTICE_TABLE;
-use limits::PAGE_LIMIT;
 use layout::slots::slot_diff;
 use layout::slots::slot_interval;
 use layout::slots::slot_length;
 use layout::slots::slot_page;
 use layout::slots::slot_processor;
 use layout::wide;
+use limits::CLOCK_WIDTH;
+use limits::DIFF_LIMIT;
+use limits::NOTICE_ROW;
+use limits::NOTICE_TABLE;
+use limits::PAGE_LIMIT;
 
 // Whether all records are in order.
 pub fn records_hold(

@@ -1,11 +1,9 @@
 -- How long a line is, its bytes as two halves, and bytes stored part by part. Assumes nothing.
-use Prim.Native.Nat.{ℕ, suc, _+_, _^_, _≤_, _<_}
+use Prim.Native.Nat.{ℕ, _+_, _^_, _≤_, _<_}
 use native.Mathlib.Omega.{arith}
-use native.Mathlib.Nat.{add-zero}
-use mathlib.Core.Path.{_≡_, refl, sym, ap, _∙_}
-use mathlib.Core.List.{List, [], _∷_, _++_, append-assoc}
-use lib.ListN.{length, set, length-append}
-use lib.Seq.{set-comm, set-set, sets}
+use mathlib.Core.Path.{_≡_, refl}
+use mathlib.Core.List.{[], _∷_, _++_, append-assoc}
+use lib.ListN.{length, length-append}
 use Rattle.limits.specs.Files.{lineLimit}
 use Rattle.lines.specs.Decimal.{digitsWithin, digits}
 use Rattle.lines.specs.Lines.{lineBytes}

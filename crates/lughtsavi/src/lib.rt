@@ -16,8 +16,8 @@ ghost use Rattle.opening.specs.Promises.{openRefusal, areasOpened};
 ghost use Rattle.run_list.specs.Runs.{Ran};
 ghost use Rattle.lughtsavi.specs.Numbers.{stepReturn, slices, slicesAfter, writeReturn};
 ghost use Rattle.lughtsavi.specs.inner.Needed.{ToldAs, writtenNumber};
-use step_act::Outcome;
 use diff_writer::Written;
+use step_act::Outcome;
 
 // Opens a mainframe: 1 for areas of a wrong size, 2 for an opening that is not eight bytes or does not fit, else 0, and the areas
 // are exactly the opened state, whatever they held.

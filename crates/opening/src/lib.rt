@@ -10,6 +10,7 @@ ghost use Rattle.layout.specs.Areas.{areas};
 ghost use Rattle.layout.specs.inner.Needed.{RowThere};
 ghost use Rattle.opening.specs.Promises.{openRefusal, areasOpened};
 ghost use Rattle.opening.specs.inner.Openings.{freshCopy, freshWords, openedMarks, Openable, MarksOpenable, SizesAre, ZerosAre, CountsAre, OpeningIs, HoldsOpened};
+use layout::clear;
 use limits::CLOCK_AREA;
 use limits::FILE_RECORD_WIDTH;
 use limits::LOCK_LIMIT;
@@ -23,7 +24,6 @@ use limits::PROCESSORS_PLACE;
 use limits::RECORD_AREA;
 use limits::WORD_AREA;
 use limits::WORD_LIMIT;
-use layout::clear;
 
 // The limits as bytes, as an opening has its counts.
 const MOST_PROCESSORS: u8 = PROCESSOR_LIMIT as u8;

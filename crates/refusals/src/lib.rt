@@ -15,15 +15,6 @@ ghost use Rattle.refusals.specs.inner.Bounds.{inBounds};
 ghost use Rattle.refusals.specs.inner.Needed.{Countable, BoundsOf, KnownKind, KnownStep, FittingStep, WriteOf};
 use clock::PageId;
 use clock::ProcessorId;
-use limits::COPY_LIMIT;
-use limits::FIRST_ARRIVED;
-use limits::FIRST_DIRTY;
-use limits::KIND_BOUNDS;
-use limits::KIND_LIMIT;
-use limits::LAST_INTERVAL;
-use limits::PAGE_WIDTH;
-use limits::PROCESSOR_LIMIT;
-use limits::RECORD_LIMIT;
 use layout::flag;
 use layout::marks::has_arrived;
 use layout::marks::holder_of;
@@ -33,6 +24,15 @@ use layout::marks::page_count;
 use layout::marks::processor_count;
 use layout::marks::standing_count;
 use layout::wide;
+use limits::COPY_LIMIT;
+use limits::FIRST_ARRIVED;
+use limits::FIRST_DIRTY;
+use limits::KIND_BOUNDS;
+use limits::KIND_LIMIT;
+use limits::LAST_INTERVAL;
+use limits::PAGE_WIDTH;
+use limits::PROCESSOR_LIMIT;
+use limits::RECORD_LIMIT;
 
 // Whether no row from 3 to 6 refuses a step, as one test: by the bounds of the kinds, flags multiplied.
 pub fn fits(

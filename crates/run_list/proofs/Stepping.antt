@@ -17,7 +17,6 @@ use Rattle.fetch_index.specs.inner.Index.{unranked}
 use Rattle.fetch_index.proofs.Kept.{new-kept}
 use Rattle.step_collect.specs.inner.Needed.{ReadyKept}
 use Rattle.step_act.specs.declared.Outcome.{Outcome}
-use Rattle.step_act.specs.Telling.{told}
 use Rattle.engine.specs.inner.Needed.{SteppedKept}
 use Rattle.step_record.specs.Records.{stepFrom, stepsIn, answerWords}
 use Rattle.step_record.specs.inner.Needed.{StepThere}

@@ -8,8 +8,8 @@ ghost use Rattle.rules.specs.State.{mainframe};
 ghost use Rattle.layout.specs.Areas.{stateIn, areas};
 ghost use Rattle.run_list.specs.Runs.{Ran};
 ghost use Rattle.run_list.specs.inner.Needed.{OutcomeLaid, RecordReady, StepLaid, CountIs, RecordsThere, OpeningThere, OpeningLaid, StepsThere, StepsLaid};
-use step_act::Outcome;
 use limits::FILE_RECORD_WIDTH;
+use step_act::Outcome;
 
 // Runs an opening and the step records behind it, and says how many records it has run: of a refused opening only that one.
 // Each answer is laid as three words: refusal, value, count. Of odd sizes: as many whole records are run as there are and as the answers

@@ -12,12 +12,12 @@ ghost use Rattle.step_access.specs.inner.Needed.{AccessesKept, OnWord, W
 ghost use Rattle.step_access.specs.inner.Effects.{AnsweredKept, wordPlace, TwinTaken, Stored};
 use clock::PageId;
 use clock::ProcessorId;
-use limits::PAGE_WIDTH;
 use layout::copy_page;
 use layout::copy_row;
 use layout::marks::is_dirty;
 use layout::marks::mark_dirty;
 use layout::twin_row;
+use limits::PAGE_WIDTH;
 
 // What a read answers: the word, and how many records its fetch applied.
 pub struct Answered {

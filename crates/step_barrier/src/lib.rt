@@ -13,7 +13,6 @@ ghost use Rattle.step_barrier.specs.inner.Needed.{ArrivesKept, AbsentAwa
 ghost use Rattle.step_barrier.specs.inner.Effects.{HoldsClocks, OneMissing, RoundDone, completed, Wanted};
 use clock::Clock;
 use clock::ProcessorId;
-use limits::PROCESSOR_LIMIT;
 use layout::flag;
 use layout::learn;
 use layout::marks::clear_arrived;
@@ -24,6 +23,7 @@ use layout::marks::processor_count;
 use layout::marks::put_wanted;
 use layout::put_clock;
 use layout::wide;
+use limits::PROCESSOR_LIMIT;
 
 // Arrive: closes the interval; the barrier's clock joins the processor's; the processor is marked. When the last processor arrives the
 // round is completed. Yields how many records were applied then.

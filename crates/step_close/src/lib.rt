@@ -20,10 +20,6 @@ use clock::Clock;
 use clock::IntervalId;
 use clock::PageId;
 use clock::ProcessorId;
-use limits::PAGE_LIMIT;
-use limits::PAGE_WIDTH;
-use limits::SLOT_HEAD;
-use limits::SLOT_WIDTH;
 use layout::clock_at;
 use layout::copy_row;
 use layout::interval_row;
@@ -37,6 +33,10 @@ use layout::own_entry;
 use layout::put_clock;
 use layout::twin_row;
 use layout::wide;
+use limits::PAGE_LIMIT;
+use limits::PAGE_WIDTH;
+use limits::SLOT_HEAD;
+use limits::SLOT_WIDTH;
 
 // Closes the interval of a processor: for each page that changed one record, if there is one the clock of the interval, and clean pages.
 // A processor without a dirty page has nothing to close.

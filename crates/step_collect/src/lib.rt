@@ -15,9 +15,6 @@ ghost use Rattle.step_collect.specs.inner.Needed.{ReadyKept, ProcessorFe
 ghost use Rattle.step_collect.specs.inner.Effects.{CountedKept, Emptied};
 use clock::PageId;
 use clock::ProcessorId;
-use limits::CLOCK_WIDTH;
-use limits::FIRST_INTERVAL_ROW;
-use limits::INTERVAL_LIMIT;
 use layout::clear;
 use layout::marks::page_count;
 use layout::marks::processor_count;
@@ -25,6 +22,9 @@ use layout::marks::put_standing_count;
 use layout::marks::put_wanted;
 use layout::own_entry;
 use layout::wide;
+use limits::CLOCK_WIDTH;
+use limits::FIRST_INTERVAL_ROW;
+use limits::INTERVAL_LIMIT;
 
 // Garbage collection: every processor, upwards, fetches every page, upwards; then the records go, and none is ranked. Yields how many records
 // were applied.

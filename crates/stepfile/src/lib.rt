@@ -9,10 +9,10 @@ ghost use Rattle.file_chunk.specs.Bytes.{bytesTaken};
 ghost use Rattle.file_chunk.specs.inner.Needed.{Passable};
 ghost use Rattle.stepfile.specs.Promises.{feedAt, Started, FedAs, FinishedAs};
 ghost use Rattle.stepfile.specs.inner.Needed.{ZerosBehind, FeedableIs, EndsShort, Holdable, HeldAll, Feedable, Completes, BegunPassable, Endable, Ended, ChunkFed};
+use file_record::Stand;
 use limits::FILE_RECORD_LIMIT;
 use limits::FILE_RECORD_WIDTH;
 use limits::LINE_LIMIT;
-use file_record::Stand;
 
 // How far a file has been fed.
 pub struct Progress {

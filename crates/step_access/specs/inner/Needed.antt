@@ -3,7 +3,7 @@ use Prim.Native.Nat.{ℕ, _*_, _≤_, _<_}
 use mathlib.Core.Path.{_≡_}
 use mathlib.Core.List.{List}
 use lib.ListN.{length}
-use Rattle.limits.specs.Limits.{pageLimit, pageWidth, processorLimit}
+use Rattle.limits.specs.Limits.{pageWidth, processorLimit}
 use Rattle.limits.specs.inner.Sizes.{markArea, wordArea, wordLimit}
 use Rattle.rules.specs.State.{mainframe}
 use Rattle.layout.specs.Areas.{stateIn}

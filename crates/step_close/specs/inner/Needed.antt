@@ -6,7 +6,7 @@ use mathlib.Core.List.{List}
 use lib.ListN.{length}
 use lib.Dec.{eqb}
 use Rattle.limits.specs.Limits.{intervalLimit, pageLimit, pageWidth, processorLimit, recordLimit}
-use Rattle.limits.specs.inner.Sizes.{clockArea, diffLimit, markArea, recordArea, slotWidth, wordArea}
+use Rattle.limits.specs.inner.Sizes.{clockArea, diffLimit, recordArea, slotWidth, wordArea}
 use Rattle.clock.specs.Clocks.{entryOf}
 use Rattle.diff.specs.Format.{difference}
 use Rattle.diff_writer.specs.inner.Masks.{maskOf}
