@@ -1,5 +1,5 @@
--- Happens-before-1 pinned from above: runs in which an order larger than document 01's would put 1's store before 2's read, which answers 0.
--- Rests on Edges and JudgedRuns. Assumes nothing.
+-- Happens-before-1 pinned from above: runs in which an order larger than document 01's would put one step before another; where these are 1's
+-- store of 5 and 2's read, the read answers 0. Rests on Edges and JudgedRuns. Assumes nothing.
 use Prim.Native.Nat.{ℕ}
 use mathlib.Core.Path.{_≡_, refl, _∙_, subst}
 use mathlib.Core.Bool.{true}
@@ -23,6 +23,7 @@ pub record NotBefore (c : Counts) (ts : List Step) (answered : List Answer) (i j
   pub answers-are : answers mainframe (opened mainframe c) ts ≡ answered
   pub not-before : Before (c .processors) (eventsFrom c ts) i j → ⊥
 
+-- the answers and the test are computed
 shown : {c : Counts} {ts : List Step} {answered : List Answer} {i j : ℕ} → countsInRange mainframe c ≡ true
     → answersInOrder mainframe (opened mainframe c) ts ≡ answered → apart (c .processors) (events ts answered) i j ≡ true → NotBefore c ts answered i j
 shown {c} {ts} {answered} {i} {j} in-range computed test =

@@ -14,7 +14,7 @@ use Rattle.rules.proofs.runs.FromStart.{answers-from-start}
 use Rattle.rules.proofs.runs.StoredCases.{accepted}
 
 -- Two processors, one page, one lock. Kind 7 by processor 9 with object 99 (rows 3, 4, 5); processor 3 reads word 32 (4, 5), and frees lock 0 (4, 8);
--- 2 takes lock 0; 1 arrives; it reads word 32 (5, 6), takes lock 0 (6, 7) and frees it (6, 8); 2 takes lock 1, which is absent (5, no 7)
+-- 2 takes lock 0; 1 arrives; it reads word 32 (5, 6), takes lock 0 (6, 7) and frees it (6, 8); 2 takes lock 1, which is absent (5)
 unfoldable pub severalRows : List Step
 severalRows =
     stepOf 7 9 99 0 ∷ reads 3 32 ∷ releases 3 0 ∷ acquires 2 0 ∷ arrives 1 ∷ reads 1 32 ∷ acquires 1 0 ∷ releases 1 0 ∷ acquires 2 1 ∷ []
