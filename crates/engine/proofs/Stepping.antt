@@ -16,7 +16,7 @@ use Rattle.layout.specs.inner.Needed.{Ready, OwnEntry, ClocksOf}
 use Rattle.layout.proofs.Encoding.{held-again, holding-is}
 use Rattle.refusals.specs.inner.Bounds.{boundsOf}
 use Rattle.refusals.specs.inner.Parts.{seen, stepFits, earlyRefusal, refusalOfKind}
-use Rattle.refusals.specs.inner.Needed.{Countable, BoundsOf, FittingStep}
+use Rattle.refusals.specs.inner.Needed.{MarksCountable, BoundsOf, FittingStep}
 use Rattle.refusals.proofs.Fitting.{bounds-are}
 use Rattle.refusals.proofs.Refusing.{counted-when-ready, table-decides, refusal-in-two, fitting-step}
 use Rattle.step_collect.specs.inner.Needed.{ReadyKept}
@@ -53,7 +53,7 @@ module _ (c m x : List ℕ) (h : Refusable c m x) where
   bounds-within = omega (arith, h .index)
 
   -- the marks count what they may
-  pub marks-counted : Countable m
+  pub marks-counted : MarksCountable m
   marks-counted = h .counted
 
   -- the part that is lent are the bounds of the marks

@@ -198,7 +198,7 @@ fn refuse_steps(stand: Stand, from: usize, end: usize, lines: &mut [u8]) -> Pass
     let mut at = stand.at;
     let mut i = from;
     while i < end {
-        at = file_record::put_line(lines, at, number, 1, 0, 0);
+        at = file_record::put_record_line(lines, at, number, 1, 0, 0);
         number = number + 1;
         i = i + FILE_RECORD_WIDTH;
     }

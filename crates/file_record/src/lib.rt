@@ -35,7 +35,7 @@ pub fn take_opening(
     ensures { λ r. ⌜ RecordTaken (openingTaken (standsAt stand (now (lines .entry)) (areas (now (clocks .entry)) (now (words .entry)) (now (records .entry)) (now (marks .entry)))) (take fileRecordWidth (drop from (now (bytes .entry))))) stand (now (lines .entry)) r (now (lines .exit)) (now (clocks .exit)) (now (words .exit)) (now (records .exit)) (now (marks .exit)) ⌝ }
 {
     let refusal = open_at(bytes, from, clocks, words, records, marks);
-    let at = put_line(lines, stand.at, 0, wide(refusal), 0, 0);
+    let at = put_record_line(lines, stand.at, 0, wide(refusal), 0, 0);
     let number = 1;
     if refusal != 0 {
         return Stand {
@@ -58,7 +58,7 @@ pub fn too_many(stand: Stand, lines: &mut [u8]) -> Stand
     requires { ⌜ Room (now lines) (stand .at) lineLimit ⌝ }
     ensures { λ r. ⌜ StoppedAt stand (now (lines .entry)) r (now (lines .exit)) ⌝ }
 {
-    let at = put_line(lines, stand.at, stand.number, 16, 0, 0);
+    let at = put_record_line(lines, stand.at, stand.number, 16, 0, 0);
     Stand {
         number: stand.number,
         stopped: true,
@@ -95,8 +95,8 @@ pub fn put_next(
     }
 }
 
-// Writes a line from a place on, and says the place behind it.
-pub fn put_line(
+// Writes a line from a place on, and says the place behind it. `LinePut` says so in one record, by which lines are put behind one another.
+pub fn put_record_line(
     out: &mut [u8],
     at: usize,
     number: u32,

@@ -33,9 +33,9 @@ zero-lost l at n i all p h e = kept-off n (zeroAt l at) i all p h (ne-eqb _ _ e)
 -- ---- pages of a processor
 
 -- those of a present processor
-pub pages-there : (processors pages k : ℕ) → k < processors → pages ≡ pagesOf processors pages k
+pub dirty-marks-there : (processors pages k : ℕ) → k < processors → pages ≡ pagesOf processors pages k
 unfolding pagesOf
-pages-there processors pages k h = rw (lt-ltb k processors h)
+dirty-marks-there processors pages k h = rw (lt-ltb k processors h)
 
 -- an absent one has none
 pub pages-absent : (processors pages k : ℕ) → processors ≤ k → 0 ≡ pagesOf processors pages k
@@ -193,4 +193,4 @@ pub marks-is : (own m : List ℕ) (processors pages locks standing : ℕ) (r : B
 unfolding marksHoldWith
 marks-is own m processors pages locks standing r e = e
 
-pub ruleset marks-checked = (passed-none, passed-more, passed-broken, passed-all, and-fails, and-goes-on, kept-none, kept-all, zero-kept, zero-lost, pages-there, pages-absent, dirty-allowed, dirty-refused, dirty-there, dirty-is, marks-one, holder-more, holder-broken, absent-holders-there, holders-is, arrived-none, arrived-more, arrived-missing, arrived-all, absent-arrived-there, arrived-is, count-none, count-clean, count-dirty, count-all, sum-none, sum-next, sum-whole, room-is, marks-is, needs)
+pub ruleset marks-checked = (passed-none, passed-more, passed-broken, passed-all, and-fails, and-goes-on, kept-none, kept-all, zero-kept, zero-lost, dirty-marks-there, pages-absent, dirty-allowed, dirty-refused, dirty-there, dirty-is, marks-one, holder-more, holder-broken, absent-holders-there, holders-is, arrived-none, arrived-more, arrived-missing, arrived-all, absent-arrived-there, arrived-is, count-none, count-clean, count-dirty, count-all, sum-none, sum-next, sum-whole, room-is, marks-is, needs)

@@ -1,4 +1,4 @@
--- The numbers of one mainframe and of a step file, each with one name; those that follow from them are in Sizes.antt. The code has the same
+-- The numbers of one mainframe, each with one name; those that follow from them are in inner/Sizes.antt. The code has the same
 -- names in capitals (src/lib.rt). Assumes nothing.
 use Prim.Native.Nat.{ℕ}
 

@@ -1,4 +1,4 @@
--- A number in base ten as bytes of ASCII, and what such bytes say when read back. Assumes nothing.
+-- A number in base ten as bytes of ASCII. Assumes nothing.
 use Prim.Native.Nat.{ℕ, zero, suc, _+_, _-_, _/_, _%_}
 use mathlib.Core.Bool.{cond}
 use mathlib.Core.List.{List, [], _∷_, _++_}

@@ -22,7 +22,7 @@ use Rattle.layout.specs.Areas.{arrivedPlace, stateIn}
 use Rattle.layout.specs.inner.Marks.{processorCount, arrivedMark}
 use Rattle.refusals.specs.inner.Parts.{seen, boundOf, fieldsFit, mayAct, stepFits}
 use Rattle.refusals.specs.inner.Bounds.{objectBoundOf, valueBoundOf, inBounds, boundsOf}
-use Rattle.refusals.specs.inner.Needed.{Countable, BoundsOf}
+use Rattle.refusals.specs.inner.Needed.{MarksCountable, BoundsOf}
 use Rattle.refusals.proofs.Marked.{arrived-seen}
 
 -- ---- flags
@@ -102,11 +102,11 @@ in-bounds m bounds k o v h l =
 -- ---- the processor
 
 -- its mark, or that behind the last, has its place
-pub arrived-place-there : (m : List ℕ) (d j : ℕ) → Countable m → j ≡ min d processorLimit → firstArrived + j < length m
+pub arrived-place-there : (m : List ℕ) (d j : ℕ) → MarksCountable m → j ≡ min d processorLimit → firstArrived + j < length m
 arrived-place-there m d j h e = omega (arith, h .marks, e)
 
 -- by the number of processors and one mark
-module _ (m : List ℕ) (q d j : ℕ) (h : Countable m) (small : q < 4294967296) (wraps : (d + 1) % 18446744073709551616 ≡ q) (large : d < 18446744073709551616) (least : j ≡ min d processorLimit) where
+module _ (m : List ℕ) (q d j : ℕ) (h : MarksCountable m) (small : q < 4294967296) (wraps : (d + 1) % 18446744073709551616 ≡ q) (large : d < 18446744073709551616) (least : j ≡ min d processorLimit) where
   -- one that is among the processors
   there : j < processorCount m → q ≡ j + 1
   there l = omega (arith, h .processors, small, wraps, large, least)
@@ -142,7 +142,7 @@ module _ (m : List ℕ) (q d j : ℕ) (h : Countable m) (small : q < 4294967296)
       go (no l) = rw (le-ltb j (processorCount m) (omega arith), absent (omega arith))
 
 -- the flags of both
-pub processor-flagged : (m : List ℕ) (q d j n x y : ℕ) → Countable m → Fits w32 q → Fits w64 d → (d + 1) % 2 ^ 64 ≡ q → j ≡ min d processorLimit
+pub processor-flagged : (m : List ℕ) (q d j n x y : ℕ) → MarksCountable m → Fits w32 q → Fits w64 d → (d + 1) % 2 ^ 64 ≡ q → j ≡ min d processorLimit
     → (n ≡ processorCount m) × (n < 256) → x ≡ cond (ltb j n) 1 0 → y ≡ cond (eqb (getD m (firstArrived + j) 0) 0) 1 0 → x * y ≡ cond (mayAct (seen m) q) 1 0
 processor-flagged m q d j n x y h fq fd wraps least count ex ey =
     both (ltb j n) (eqb (getD m (firstArrived + j) 0) 0) x y ex ey

@@ -92,7 +92,7 @@ pub fn finish(progress: Progress, lines: &mut [u8]) -> Taken
             written: 0,
         };
     }
-    let written = file_record::put_line(lines, 0, progress.number, 15, 0, 0);
+    let written = file_record::put_record_line(lines, 0, progress.number, 15, 0, 0);
     Taken {
         progress,
         fed: true,

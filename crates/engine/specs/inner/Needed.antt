@@ -9,7 +9,7 @@ use Rattle.rules.specs.State.{mainframe, State}
 use Rattle.layout.specs.Areas.{stateIn}
 use Rattle.layout.specs.inner.Needed.{Holds}
 use Rattle.refusals.specs.inner.Bounds.{boundsOf}
-use Rattle.refusals.specs.inner.Needed.{Countable}
+use Rattle.refusals.specs.inner.Needed.{MarksCountable}
 use Rattle.fetch_index.specs.inner.Index.{IndexKept}
 use Rattle.step_act.specs.declared.Outcome.{Outcome}
 use Rattle.step_act.specs.Telling.{Tells}
@@ -21,7 +21,7 @@ pub record RefusalIs (s : State) (t : Step) (n : ℕ) : Type 0 where
 -- the clocks and the marks of a state in order, and an index with their bounds
 pub record Refusable (c m x : List ℕ) : Type 0 where
   pub clocks : length c ≡ clockArea
-  pub counted : Countable m
+  pub counted : MarksCountable m
   pub index : length x ≡ indexArea
   pub bounds : drop firstBound x ≡ boundsOf m
 

@@ -17,7 +17,7 @@ pub record AbsentClean (m : List ℕ) : Type 0 where
   pub clean : (p g : ℕ) → presentHolder (seen m) (Applied p g) ≡ false → dirtyAt (seen m .pages) p g ≡ false
 
 -- the area of the marks, counts in range in it, and nothing dirty that is absent
-pub record Countable (m : List ℕ) : Type 0 where
+pub record MarksCountable (m : List ℕ) : Type 0 where
   pub marks : length m ≡ markArea
   pub processors : processorCount m ≤ processorLimit
   pub pages : pageCount m ≤ pageLimit
@@ -32,13 +32,13 @@ pub record BoundsOf (m bounds : List ℕ) : Type 0 where
 
 -- the marks, and a known kind
 pub record KnownKind (m : List ℕ) (kind : ℕ) : Type 0 where
-  pub counted : Countable m
+  pub counted : MarksCountable m
   pub first : 1 ≤ kind
   pub last : kind ≤ 6
 
 -- the marks, and a processor that has marks
 pub record PagesOf (m : List ℕ) (p : ℕ) : Type 0 where
-  pub counted : Countable m
+  pub counted : MarksCountable m
   pub from : 1 ≤ p
   pub to : p ≤ processorLimit
 
