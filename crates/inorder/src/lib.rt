@@ -243,7 +243,7 @@ fn words_zero(words: &[u32], at: usize, n: usize) -> bool
     all
 }
 
-// Whether the absent pages of one processor are zeros, among the copies or among the twins, whose rows begin at a row.
+// Whether the absent pages of one processor are zeros: its copies or its twins, as the rows from `first` on are the copies or the twins.
 fn words_of(words: &[u32], first: usize, processors: usize, pages: usize, k: usize) -> bool
     requires { ⌜ WordsOne (now words) first pages k ⌝ }
     ensures { λ r. ⌜ r ≡ wordsHold (now (words .entry)) first processors pages k ⌝ }
