@@ -11,7 +11,7 @@
 -- Rests on Carried and on rules' DemandThree. Assumes nothing.
 use Prim.Native.Nat.{ℕ, _<_}
 use native.Mathlib.Omega.{arith}
-use mathlib.Core.Path.{_≡_, refl, sym, ap, _∙_}
+use mathlib.Core.Path.{_≡_, refl, ap, _∙_}
 use mathlib.Core.List.{List, [], _∷_}
 use lib.Dec.{eqb}
 use mathlib.Core.Bool.{cond}
@@ -24,7 +24,7 @@ use Rattle.rules.proofs.DemandThree.{demand-three}
 use Rattle.memory.specs.Areas.{Areas, holding}
 use Rattle.opening.specs.Promises.{openingOf, openRefusal, areasOpened}
 use Rattle.opening.proofs.Following.{accepted-opening}
-use Rattle.engine.specs.Promises.{answerOf, areasAfter}
+use Rattle.engine.specs.Promises.{areasAfter}
 use Rattle.engine.specs.Calls.{answersOfCalls, areasAfterCalls}
 use Rattle.engine.proofs.Carried.{Carried, opened-carried, next-carried, carried-answer, carried-after}
 

@@ -17,7 +17,6 @@ use Rattle.index.specs.Index.{unranked}
 use Rattle.index.proofs.Kept.{new-kept}
 use Rattle.collecting.specs.Needed.{ReadyKept}
 use Rattle.acting.specs.declared.Outcome.{Outcome}
-use Rattle.acting.specs.Telling.{told}
 use Rattle.engine.specs.Needed.{SteppedKept}
 use Rattle.records.specs.Records.{stepFrom, stepsIn, answerWords}
 use Rattle.records.specs.Needed.{StepThere}
