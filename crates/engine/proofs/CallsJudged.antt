@@ -7,12 +7,13 @@
 --     answered is the value field of the last of them, or 0 if there are none;
 --   * in each case the value answered is 0 or the value field of one of them.
 -- happens-before-1 is made from the number of processors, the fields of the calls and which of them were refused. What is judged are the
--- answers by the definitions that the contract of `step` cites (`answerOf`, `areasAfter`), call after call (specs/Calls.antt).
+-- answers by the definitions that the contract of `step` cites (`answerOf`, `areasAfter`), call after call (specs/Calls.antt), and the
+-- numbers of the outcomes that calls which meet that contract have returned.
 -- Rests on Carried and on rules' DemandThree. Assumes nothing.
 use Prim.Native.Nat.{ℕ, _<_}
 use native.Mathlib.Omega.{arith}
 use mathlib.Core.Path.{_≡_, refl, ap, _∙_}
-use mathlib.Core.List.{List, [], _∷_}
+use mathlib.Core.List.{List, [], _∷_, map}
 use lib.Dec.{eqb}
 use mathlib.Core.Bool.{cond}
 use Rattle.rules.specs.Demand.{ReadsJudged, DemandThree}
@@ -24,8 +25,10 @@ use Rattle.rules.proofs.DemandThree.{demand-three}
 use Rattle.layout.specs.Areas.{Areas, holding}
 use Rattle.opening.specs.Promises.{openingOf, openRefusal, areasOpened}
 use Rattle.opening.proofs.Following.{accepted-opening}
+use Rattle.step_act.specs.declared.Outcome.{Outcome}
+use Rattle.step_act.specs.Telling.{told}
 use Rattle.engine.specs.Promises.{answerOf, areasAfter}
-use Rattle.engine.specs.Calls.{answersOfCalls, areasAfterCalls}
+use Rattle.engine.specs.Calls.{answersOfCalls, areasAfterCalls, Returned}
 use Rattle.engine.proofs.Carried.{Carried, opened-carried, next-carried, carried-answer, carried-after}
 
 -- ---- calls on the areas of a state are the rules' steps
@@ -45,6 +48,15 @@ unfolding areasAfterCalls stateAfter
 calls-leave s [] h = refl
 calls-leave s (t ∷ ts) h =
     ap (λ (b : Areas). areasAfterCalls b ts) (carried-after s h t) ∙ calls-leave (next mainframe s t) ts (next-carried s t h)
+
+-- what the calls returned tells what they answer
+returned-tells : (a : Areas) (ts : List Step) (os : List Outcome) → Returned a ts os → map told os ≡ answersOfCalls a ts
+unfolding Returned answersOfCalls
+returned-tells a [] [] h = refl
+returned-tells a [] (o ∷ os) h = absurd h
+returned-tells a (t ∷ ts) [] h = absurd h
+returned-tells a (t ∷ ts) (o ∷ os) h =
+    ap (λ (x : Answer). x ∷ map told os) (h .0 .numbers) ∙ ap (λ (l : List Answer). answerOf a t ∷ l) (returned-tells (areasAfter a t) ts os (h .1))
 
 -- ---- from an accepted opening
 
@@ -81,3 +93,7 @@ module _ (opening : List ℕ) (lent : Areas) (accepted : openRefusal opening len
   pub calls-judged : ReadsJudged (openingOf opening .counts .processors) calls (answersOfCalls (areasOpened opening lent) calls)
   unfolding DemandThree
   calls-judged = rw calls-follow-rules (demand-three mainframe (openingOf opening) words-there (accepted-opening opening lent accepted) calls)
+
+  -- and by the value in the outcome that the call returned
+  pub returned-judged : (outcomes : List Outcome) → Returned (areasOpened opening lent) calls outcomes → ReadsJudged (openingOf opening .counts .processors) calls (map told outcomes)
+  returned-judged outcomes h = rw (returned-tells (areasOpened opening lent) calls outcomes h) calls-judged

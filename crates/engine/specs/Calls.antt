@@ -3,6 +3,8 @@
 use mathlib.Core.List.{List, [], _∷_}
 use Rattle.rules.specs.Refusals.{Step, Answer}
 use Rattle.layout.specs.Areas.{Areas}
+use Rattle.step_act.specs.Telling.{Tells}
+use Rattle.step_act.specs.declared.Outcome.{Outcome}
 use Rattle.engine.specs.Promises.{answerOf, areasAfter}
 
 -- what the calls answer, one after the other
@@ -14,3 +16,10 @@ answersOfCalls a (t ∷ ts) = answerOf a t ∷ answersOfCalls (areasAfter a t) t
 unfoldable pub areasAfterCalls : Areas → List Step → Areas
 areasAfterCalls a [] = a
 areasAfterCalls a (t ∷ ts) = areasAfterCalls (areasAfter a t) ts
+
+-- the calls returned these outcomes: the contract of `step`, call after call
+unfoldable pub Returned : Areas → List Step → List Outcome → Type 0
+Returned a [] [] = Unit {0}
+Returned a [] (o ∷ os) = ⊥
+Returned a (t ∷ ts) [] = ⊥
+Returned a (t ∷ ts) (o ∷ os) = Tells o (answerOf a t) × Returned (areasAfter a t) ts os
