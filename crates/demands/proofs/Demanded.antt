@@ -1,29 +1,29 @@
 -- The three demands hold. Rests on the theorems that README names. Assumes nothing.
-use Prim.Native.Nat.{ℕ, suc, _+_, _≤_, _<_, min}
+use Prim.Native.Nat.{ℕ, suc, _+_, _<_}
 use native.Mathlib.Omega.{arith}
 use mathlib.Core.Path.{_≡_, refl, sym, ap, _∙_}
-use mathlib.Core.Bool.{Bool, true, false, cond, and-eq-true-iff, false≢true}
-use mathlib.Core.List.{List, [], _∷_, _++_}
+use mathlib.Core.Bool.{Bool, true, false, cond, false≢true}
+use mathlib.Core.List.{List}
 use mathlib.Core.Option.{Option, none}
 use mathlib.Core.Logic.{_↔_}
 use lib.ListN.{length, getD, take, drop}
 use lib.Seq.{sets}
 use lib.Dec.{eqb}
-use borrow.Author.Tests.{ne-eqb, eq-eqb, not-true}
+use borrow.Author.Tests.{ne-eqb}
 use Rattle.limits.specs.Limits.{pageWidth, intervalLimit, recordLimit}
-use Rattle.limits.specs.Files.{fileRecordWidth, stepLimit}
-use Rattle.diff.specs.Format.{Below, written}
-use Rattle.diff.specs.Reading.{readRefusal, settings, applied}
+use Rattle.limits.specs.Files.{fileRecordWidth}
+use Rattle.diff.specs.Format.{written}
+use Rattle.diff.specs.Reading.{readRefusal, applied}
 use Rattle.diff.specs.Answers.{applyRefusal, pageAfter}
 use Rattle.diff.specs.inner.Settings.{settingAt}
 use Rattle.diff.proofs.Theorems.{applying-what-is-written, WrittenFromPages, exactly-the-written-form, one-form, at-most-131-bytes}
 use Rattle.diff_writer.specs.Answers.{writeRefusal, outAfter}
 use Rattle.rules.specs.Demand.{ReadsJudged, DemandThree}
-use Rattle.rules.specs.InOrder.{present, dirtyPages, inOrder}
-use Rattle.rules.specs.Opening.{Opening, openingRefusal, opened}
-use Rattle.rules.specs.Refusals.{Step, Write, actionOf, Answer, refusedAs, effect, refusalInOrder, answerInOrder, refusal, answer, nextInOrder, next}
+use Rattle.rules.specs.InOrder.{dirtyPages, inOrder}
+use Rattle.rules.specs.Opening.{opened}
+use Rattle.rules.specs.Refusals.{Step, actionOf, Answer, refusedAs, effect, refusalInOrder, answerInOrder, refusal, answer, next}
 use Rattle.rules.specs.Runs.{answers}
-use Rattle.rules.specs.State.{mainframe, State, dirtyAt, own, hasArrived}
+use Rattle.rules.specs.State.{mainframe, State, dirtyAt, own}
 use Rattle.rules.specs.Steps.{pageOfWord}
 use Rattle.rules.proofs.DemandThree.{demand-three}
 use Rattle.rules.proofs.InOrderRuns.{refused-leaves-state, refusal-is-not-one}
@@ -36,13 +36,11 @@ use Rattle.layout.proofs.Encoding.{held-again, right-lent}
 use Rattle.opening.specs.Promises.{openingOf, openRefusal, areasOpened}
 use Rattle.opening.proofs.Following.{accepted-opening}
 use Rattle.engine.specs.Promises.{answerOf, areasAfter}
-use Rattle.engine.specs.Calls.{answersOfCalls}
 use Rattle.engine.proofs.CallsJudged.{calls-judged}
 use Rattle.engine.proofs.Carried.{Carried, opened-carried, next-carried, carried-sizes, carried-held}
 use Rattle.step_record.specs.Records.{stepsIn}
 use Rattle.run_list.specs.Runs.{firstRefusal, firstState, runAnswers}
 use Rattle.file_chunk.specs.Bytes.{bytesTaken}
-use Rattle.stepfile.specs.Files.{answerLines, stepCount, endLine, openedBy, fileLines}
 use Rattle.stepfile.specs.Promises.{feedAt, progressOf, feedable, notTaken, feedAnswer, feedLines, feedAreas}
 use Rattle.stepfile.specs.declared.Progress.{Progress}
 use Rattle.stepfile.proofs.Judged.{file-judged, accepted-lines}
@@ -214,15 +212,14 @@ demand-one =
 
 -- two pages, named as the theorems of the format name them
 from-pages : (bytes : List ℕ) → readRefusal pageWidth bytes ≡ 0 ↔ WrittenFromPages pageWidth bytes → readRefusal pageWidth bytes ≡ 0 ↔ FromPages bytes
-from-pages bytes e =
-    (
-      λ r.
+from-pages bytes e = (
+  λ r.
       let p = e .0 r in
       record { old = p .old; new = p .new; old-whole = p .old-whole; new-whole = p .new-whole; old-words = p .old-words; new-words = p .new-words; is = p .is },
-      λ p.
+  λ p.
       e .1
       (record { old = p .old; new = p .new; old-whole = p .old-whole; new-whole = p .new-whole; old-words = p .old-words; new-words = p .new-words; is = p .is }),
-    )
+)
 
 demand-two : DemandTwo
 unfolding settingAt

@@ -11,7 +11,6 @@ use Prim.Native.Nat.{ℕ, suc, _+_, _*_, _≤_, _<_, min}
 use mathlib.Core.Path.{_≡_}
 use mathlib.Core.Bool.{true, false}
 use mathlib.Core.List.{List, _++_}
-use mathlib.Core.Option.{Option}
 use mathlib.Core.Logic.{_↔_}
 use lib.ListN.{length, take, drop}
 use Rattle.limits.specs.Limits.{pageWidth, intervalLimit, recordLimit}
@@ -20,11 +19,10 @@ use Rattle.diff.specs.Format.{Below, written}
 use Rattle.diff.specs.Reading.{readRefusal, settings, applied}
 use Rattle.diff.specs.Answers.{applyRefusal, pageAfter}
 use Rattle.diff_writer.specs.Answers.{writeRefusal, outAfter}
-use Rattle.rules.specs.Close.{differ}
 use Rattle.rules.specs.Demand.{ReadsJudged, DemandThree}
 use Rattle.rules.specs.InOrder.{present, dirtyPages, inOrder}
 use Rattle.rules.specs.Opening.{Opening, openingRefusal, opened}
-use Rattle.rules.specs.Refusals.{Step, Write, actionOf, Answer, refusedAs, answer, next}
+use Rattle.rules.specs.Refusals.{Step, Write, actionOf, refusedAs, answer, next}
 use Rattle.rules.specs.Runs.{answers}
 use Rattle.rules.specs.State.{mainframe, dirtyAt, own, hasArrived}
 use Rattle.rules.specs.Steps.{pageOfWord}
