@@ -36,7 +36,7 @@ use Rattle.layout.proofs.Encoding.{held-again, right-lent}
 use Rattle.opening.specs.Promises.{openingOf, openRefusal, areasOpened}
 use Rattle.opening.proofs.Following.{accepted-opening}
 use Rattle.engine.specs.Promises.{answerOf, areasAfter}
-use Rattle.engine.proofs.CallsJudged.{calls-judged}
+use Rattle.engine.proofs.CallsJudged.{calls-judged, returned-judged}
 use Rattle.engine.proofs.Carried.{Carried, opened-carried, next-carried, carried-sizes, carried-held}
 use Rattle.step_record.specs.Records.{stepsIn}
 use Rattle.run_list.specs.Runs.{firstRefusal, firstState, runAnswers}
@@ -258,6 +258,7 @@ demand-three-holds =
     record {
       of-lists = λ o e ts. demand-three mainframe o words-there e ts;
       of-calls = calls-judged;
+      of-outcomes = returned-judged;
       of-runs = of-runs;
       of-files = file-judged;
       file-lines = accepted-lines;

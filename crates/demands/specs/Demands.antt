@@ -10,7 +10,7 @@
 use Prim.Native.Nat.{ℕ, suc, _+_, _*_, _≤_, _<_, min}
 use mathlib.Core.Path.{_≡_}
 use mathlib.Core.Bool.{true, false}
-use mathlib.Core.List.{List, _++_}
+use mathlib.Core.List.{List, _++_, map}
 use mathlib.Core.Logic.{_↔_}
 use lib.ListN.{length, take, drop}
 use Rattle.limits.specs.Limits.{pageWidth, intervalLimit, recordLimit}
@@ -28,8 +28,10 @@ use Rattle.rules.specs.State.{mainframe, dirtyAt, own, hasArrived}
 use Rattle.rules.specs.Steps.{pageOfWord}
 use Rattle.layout.specs.Areas.{Areas, heldBy, rightSizes}
 use Rattle.opening.specs.Promises.{openingOf, openRefusal, areasOpened}
+use Rattle.step_act.specs.Telling.{told}
+use Rattle.step_act.specs.declared.Outcome.{Outcome}
 use Rattle.engine.specs.Promises.{answerOf, areasAfter}
-use Rattle.engine.specs.Calls.{answersOfCalls}
+use Rattle.engine.specs.Calls.{answersOfCalls, Returned}
 use Rattle.step_record.specs.Records.{stepsIn}
 use Rattle.run_list.specs.Runs.{firstRefusal, runAnswers}
 use Rattle.file_record.specs.Records.{refusalLine}
@@ -119,6 +121,9 @@ pub record DemandThreeHolds : Type 0 where
   -- of every list of calls of `step`, with any fields, on areas that an accepted opening left and that nobody else writes
   pub of-calls : (bytes : List ℕ) (a : Areas) → openRefusal bytes a ≡ 0 → (ts : List Step)
       → ReadsJudged (openingOf bytes .counts .processors) ts (answersOfCalls (areasOpened bytes a) ts)
+  -- and of the outcomes that calls which keep their contract have returned
+  pub of-outcomes : (bytes : List ℕ) (a : Areas) → openRefusal bytes a ≡ 0 → (ts : List Step) (os : List Outcome) → Returned (areasOpened bytes a) ts os
+      → ReadsJudged (openingOf bytes .counts .processors) ts (map told os)
   -- of the answers of `run` over an opening and n records behind it
   pub of-runs : (n : ℕ) (bytes : List ℕ) (a : Areas) → firstRefusal bytes a ≡ 0
       → ReadsJudged (openingOf (take fileRecordWidth bytes) .counts .processors) (stepsIn n (drop fileRecordWidth bytes)) (drop 1 (runAnswers (suc n) bytes a))
