@@ -1,4 +1,4 @@
--- `reader::next` meets its contract: a walk of its MIR, by hand. The borrow of the reader is opened; `pair_at` is called on the slice and the place that it holds, and `place_after` on the pair and the place; the next place is stored beside the slice, and the borrow is closed at the reader that has moved on. All that the proof knows of the two callees is that each meets its contract.
+-- `diff_reader::next` meets its contract: a walk of its MIR, by hand. The borrow of the reader is opened; `pair_at` is called on the slice and the place that it holds, and `place_after` on the pair and the place; the next place is stored beside the slice, and the borrow is closed at the reader that has moved on. All that the proof knows of the two callees is that each meets its contract.
 -- A `Reader` and a `Pair` are Copy: what each owns is had twice, once for a callee and once for the exit. What `bytes` owns is kept, and the facts of `at` are made anew: `again`.
 -- Assumes nothing.
 use mathlib.Core.Path.{_≡_, refl, ap, _∙_}
@@ -235,5 +235,5 @@ next-spec 𝓤 H 𝓜 𝓖 𝓡 =
     entered 𝓤 H (tripleOf 𝓤 H (𝓖 .A) next.signature (next.spec 𝓤 H (𝓖 .A) (𝓜 .mem) (𝓡 .run)))
     (tables 𝓤 H 𝓜 𝓡 code.env .C) (tables 𝓤 H 𝓜 𝓡 code.env .Λ) #reader·next code.function (code.unfolded 𝓤 H 𝓜 𝓡)
     (next-meets 𝓤 H (𝓖 .A) (givenOf 𝓤 H 𝓜 𝓖) (𝓜 .mem) (𝓡 .run) (tablesOf 𝓤 H 𝓜 (tables 𝓤 H 𝓜 𝓡 code.env))
-    (cited 𝓤 H (PairAt 𝓤 H (𝓖 .A) (𝓜 .mem) (𝓡 .run)) 𝓜 𝓡 code.env #reader·pair-at pair-def.routine code.calls-reader·pair-at (pair-thm.met 𝓤 H 𝓜 𝓖 𝓡))
-    (cited 𝓤 H (PlaceAfter 𝓤 H (𝓖 .A) (𝓜 .mem) (𝓡 .run)) 𝓜 𝓡 code.env #reader·place-after place-def.routine code.calls-reader·place-after (place-thm.met 𝓤 H 𝓜 𝓖 𝓡)))
+    (cited 𝓤 H (PairAt 𝓤 H (𝓖 .A) (𝓜 .mem) (𝓡 .run)) 𝓜 𝓡 code.env #reader·pair-at pair-def.routine code.calls-diff-reader·pair-at (pair-thm.met 𝓤 H 𝓜 𝓖 𝓡))
+    (cited 𝓤 H (PlaceAfter 𝓤 H (𝓖 .A) (𝓜 .mem) (𝓡 .run)) 𝓜 𝓡 code.env #reader·place-after place-def.routine code.calls-diff-reader·place-after (place-thm.met 𝓤 H 𝓜 𝓖 𝓡)))
