@@ -1,0 +1,4 @@
+pub mod Standing
+pub mod Coming
+pub mod Writing
+pub mod Taking

@@ -1,0 +1,134 @@
+-- The run program between its reads and writes: what it does next, and that the bytes handed to write, in order, are the lines of the file for
+-- what was read. Assumes nothing.
+use Prim.Native.Nat.{ℕ, _+_, _-_, _/_, _<_, _≤_, min}
+use mathlib.Core.Path.{_≡_}
+use mathlib.Core.Bool.{Bool, true, false, cond, _||_}
+use mathlib.Core.List.{List, [], _++_}
+use lib.ListN.{length, take, drop}
+use lib.Dec.{ltb, eqb}
+use Rattle.limits.specs.Limits.{fileRecordWidth, lineLimit}
+use Rattle.memory.specs.Areas.{Areas, rightSizes}
+use Rattle.stepfile.specs.Files.{fileLines}
+use Rattle.stepfile.specs.Feeding.{after}
+use Rattle.stepfile.specs.Promises.{Reached, feedAnswer, feedLines, feedAreas, finishAnswer, finishLines}
+use Rattle.stepfile.specs.declared.Taken.{Taken}
+use Rattle.run_loop.specs.declared.Fault.{Fault}
+use Rattle.run_loop.specs.declared.Fault.the-variants.{Nothing, Reading, Writing, NotFed}
+use Rattle.run_loop.specs.declared.Action.{Action}
+use Rattle.run_loop.specs.declared.Action.the-variants.{Read, Write, Stop}
+use Rattle.run_loop.specs.declared.Run.{Run}
+
+-- ---- what comes next
+
+-- whether nothing went wrong
+abbrev pub isNothing : Fault → Bool
+isNothing Nothing = true
+isNothing Reading = false
+isNothing Writing = false
+isNothing NotFed = false
+
+-- whether to read
+abbrev pub isRead : Action → Bool
+isRead Read = true
+isRead Write = false
+isRead Stop = false
+
+-- after a fault nothing; else the lines that are left are written, then bytes are read; "After 2, 15 or 16 it stops"
+unfoldable pub actionOf : Run → Action
+actionOf s =
+    cond (isNothing (s .fault))
+    (cond (ltb (s .from) (s .to)) Write
+    (cond (s .ended || s .progress .stopped) Stop Read))
+    Stop
+
+-- the lines that are made and not yet written, among the bytes lent for lines
+unfoldable pub pending : Run → List ℕ → List ℕ
+pending s out = take (s .to - s .from) (drop (s .from) out)
+
+-- ---- what was read and what was written
+
+-- the lines due for the bytes read: those of the whole file once the input has ended
+unfoldable pub due : Areas → List ℕ → Bool → List ℕ
+due a₀ read ended = cond ended (fileLines read) (after a₀ read .lines)
+
+-- from areas a₀ on these bytes have been read and those have been written: what was written and what is left to be written are the lines due
+pub record Runs (a₀ : Areas) (read written : List ℕ) (s : Run) (out : List ℕ) (a : Areas) : Type 0 where
+  pub sizes : rightSizes a₀ ≡ true
+  pub reached : Reached a₀ read (s .progress) a
+  pub ordered : s .from ≤ s .to
+  pub within : s .to ≤ length out
+  pub lines : written ++ pending s out ≡ due a₀ read (s .ended)
+
+-- ---- the promises
+
+-- what `start` promises: nothing has been read or written, and reading comes next
+pub record Begins (s : Run) : Type 0 where
+  pub runs : (a₀ : Areas) (out : List ℕ) → rightSizes a₀ ≡ true → Runs a₀ [] [] s out a₀
+  pub reads : actionOf s ≡ Read
+
+-- what `next` promises: without a fault the program stops only where all lines are written: of the whole file where the input has ended, and
+-- where the run has stopped, whatever bytes follow that were not read
+pub record NextIs (s : Run) (x : Action) : Type 0 where
+  pub is : x ≡ actionOf s
+  pub all : (a₀ : Areas) (read rest written out : List ℕ) (a : Areas) → x ≡ Stop → isNothing (s .fault) ≡ true → Runs a₀ read written s out a
+      → (s .ended ≡ true → rest ≡ []) → written ≡ fileLines (read ++ rest)
+
+-- where the run stands after an answer of stepfile's; a chunk that was not fed is a fault
+unfoldable pub takenRun : Run → Taken → Bool → Run
+takenRun s t ended =
+    cond (t .fed) (record { progress = t .progress; from = 0; to = t .written; ended = ended; fault = Nothing })
+    (record { progress = s .progress; from = s .from; to = s .to; ended = s .ended; fault = NotFed })
+
+-- where it stands after bytes that were read, none at the end of the input; a run that is not to read is left as it is
+unfoldable pub readRun : Run → List ℕ → ℕ → Areas → Run
+readRun s bytes room a =
+    cond (isRead (actionOf s))
+    (cond (eqb (length bytes) 0) (takenRun s (finishAnswer (s .progress) room) true) (takenRun s (feedAnswer (s .progress) bytes room a) false))
+    s
+
+-- the bytes lent for lines then
+unfoldable pub readLines : Run → List ℕ → List ℕ → Areas → List ℕ
+readLines s bytes out a =
+    cond (isRead (actionOf s)) (cond (eqb (length bytes) 0) (finishLines (s .progress) out) (feedLines (s .progress) bytes out a)) out
+
+-- the areas then
+unfoldable pub readAreas : Run → List ℕ → ℕ → Areas → Areas
+readAreas s bytes room a = cond (isRead (actionOf s)) (cond (eqb (length bytes) 0) a (feedAreas (s .progress) bytes room a)) a
+
+-- what `after_read` promises
+pub record ReadAs (s : Run) (bytes out : List ℕ) (a : Areas) (s′ : Run) (out′ : List ℕ) (a′ : Areas) : Type 0 where
+  pub run : s′ ≡ readRun s bytes (length out) a
+  pub lines : out′ ≡ readLines s bytes out a
+  pub areas : a′ ≡ readAreas s bytes (length out) a
+  -- with room for the lines of the bytes they are taken, ..
+  pub fed : (a₀ : Areas) (read written : List ℕ) → actionOf s ≡ Read → length bytes / fileRecordWidth < length out / lineLimit → Runs a₀ read written s out a
+      → s′ .fault ≡ Nothing
+  -- .. and stand behind those read before
+  pub runs : (a₀ : Areas) (read written : List ℕ) → actionOf s ≡ Read → length bytes / fileRecordWidth < length out / lineLimit → Runs a₀ read written s out a
+      → Runs a₀ (read ++ bytes) written s′ out′ a′
+
+-- where it stands after the first n bytes of the lines left were written; a write that takes nothing has failed
+unfoldable pub wroteRun : Run → ℕ → Run
+wroteRun s n =
+    record {
+      progress = s .progress;
+      from = s .from + min n (s .to - s .from);
+      to = s .to;
+      ended = s .ended;
+      fault = cond (eqb n 0) Writing (s .fault);
+    }
+
+-- what `after_write` promises: these bytes stand behind those written before, and the rest is left
+pub record WroteAs (s : Run) (n : ℕ) (s′ : Run) : Type 0 where
+  pub run : s′ ≡ wroteRun s n
+  pub runs : (a₀ : Areas) (read written out : List ℕ) (a : Areas) → Runs a₀ read written s out a → Runs a₀ read (written ++ take n (pending s out)) s′ out a
+
+-- where it stands after a read or a write that failed; where it is made again nothing changes
+unfoldable pub failedRun : Run → Fault → Bool → Run
+failedRun s f again =
+    cond again s (record { progress = s .progress; from = s .from; to = s .to; ended = s .ended; fault = f })
+
+-- what `failed` promises: what was read and written stays
+pub record FailedAs (s : Run) (f : Fault) (again : Bool) (s′ : Run) : Type 0 where
+  pub run : s′ ≡ failedRun s f again
+  pub runs : (a₀ : Areas) (read written out : List ℕ) (a : Areas) → Runs a₀ read written s out a → Runs a₀ read written s′ out a
