@@ -16,7 +16,7 @@ use Rattle.passing.specs.Bytes.{bytesTaken}
 use Rattle.run_loop.specs.Promises.{Begins, NextIs, Runs, actionOf, due, isNothing, isRead, pending}
 use Rattle.run_loop.specs.declared.Run.{Run}
 use Rattle.run_loop.specs.declared.Fault.{Fault}
-use Rattle.run_loop.specs.declared.Fault.the-variants.{Nothing}
+use Rattle.run_loop.specs.declared.Fault.the-variants.{Nothing, Reading, Writing, NotFed}
 use Rattle.run_loop.specs.declared.Action.{Action}
 use Rattle.run_loop.specs.declared.Action.the-variants.{Read, Write, Stop}
 use Rattle.run_loop.proofs.Standing.{written-due, stopped-lines}
@@ -24,20 +24,31 @@ use Rattle.run_loop.proofs.Standing.{written-due, stopped-lines}
 -- ---- when it is reading or stopping
 
 -- all lines are written, and there may be more to read
-pub record Reading (s : Run) : Type 0 where
+pub record MayRead (s : Run) : Type 0 where
   pub none : s .to ≤ s .from
   pub more : s .ended ≡ false
 
-pub reading : (s : Run) → actionOf s ≡ Read → Reading s
+pub reading : (s : Run) → actionOf s ≡ Read → MayRead s
 unfolding actionOf
 reading s = go (isNothing (s .fault)) (ltb (s .from) (s .to)) (s .ended) (s .progress .stopped) refl refl
   where
-    go : (n l e t : Bool) → ltb (s .from) (s .to) ≡ l → s .ended ≡ e → cond n (cond l Write (cond (e || t) Stop Read)) Stop ≡ Read → Reading s
+    go : (n l e t : Bool) → ltb (s .from) (s .to) ≡ l → s .ended ≡ e → cond n (cond l Write (cond (e || t) Stop Read)) Stop ≡ Read → MayRead s
     go true true e t q r x = let z : _≡_ {A = ℕ} 0 1 = cc in absurd (omega arith)
     go true false true t q r x = let z : _≡_ {A = ℕ} 0 1 = cc in absurd (omega arith)
     go true false false true q r x = let z : _≡_ {A = ℕ} 0 1 = cc in absurd (omega arith)
     go true false false false q r x = record { none = ltb-false (s .from) (s .to) q; more = r }
     go false l e t q r x = let z : _≡_ {A = ℕ} 0 1 = cc in absurd (omega arith)
+
+-- then nothing went wrong
+pub reads-faultless : (s : Run) → actionOf s ≡ Read → s .fault ≡ Nothing
+unfolding actionOf
+reads-faultless s = go (s .fault)
+  where
+    go : (f : Fault) → cond (isNothing f) (cond (ltb (s .from) (s .to)) Write (cond (s .ended || s .progress .stopped) Stop Read)) Stop ≡ Read → f ≡ Nothing
+    go Nothing e = refl
+    go Reading e = let z : _≡_ {A = ℕ} 0 1 = cc in absurd (omega arith)
+    go Writing e = let z : _≡_ {A = ℕ} 0 1 = cc in absurd (omega arith)
+    go NotFed e = let z : _≡_ {A = ℕ} 0 1 = cc in absurd (omega arith)
 
 -- all lines are written, and the input has ended or the run has stopped
 record Over (s : Run) : Type 0 where

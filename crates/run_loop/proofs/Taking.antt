@@ -16,15 +16,15 @@ use Rattle.stepfile.specs.Promises.{FedAs, FinishedAs, Reached, feedAnswer, fee
 use Rattle.stepfile.specs.declared.Progress.{Progress}
 use Rattle.stepfile.specs.declared.Taken.{Taken}
 use Rattle.stepfile.proofs.Cutting.{after-sound}
-use Rattle.run_loop.specs.Promises.{ReadAs, Runs, actionOf, due, isRead, pending, readAreas, readLines, readRun, takenRun}
-use Rattle.run_loop.specs.Needed.{Ends, Feeds}
+use Rattle.run_loop.specs.Promises.{Runs, actionOf, due, isRead, pending, readAreas, readLines, readRun, takenRun}
+use Rattle.run_loop.specs.Needed.{Ends, Feeds, ReadAs}
 use Rattle.run_loop.specs.declared.Run.{Run}
 use Rattle.run_loop.specs.declared.Fault.{Fault}
 use Rattle.run_loop.specs.declared.Fault.the-variants.{Nothing, NotFed}
 use Rattle.run_loop.specs.declared.Action.{Action}
 use Rattle.run_loop.specs.declared.Action.the-variants.{Read, Write, Stop}
 use Rattle.run_loop.proofs.Standing.{written-due}
-use Rattle.run_loop.proofs.Coming.{Reading, reading}
+use Rattle.run_loop.proofs.Coming.{reading}
 
 -- ---- where the run stands after an answer
 

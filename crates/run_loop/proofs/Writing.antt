@@ -10,7 +10,8 @@ use lib.Dec.{eqb, leb}
 use borrow.Author.Tests.{eq-eqb, ne-eqb, leb-true, leb-false}
 use borrow.Author.Needs.{needs}
 use Rattle.memory.specs.Areas.{Areas}
-use Rattle.run_loop.specs.Promises.{FailedAs, Runs, WroteAs, failedRun, pending, wroteRun}
+use Rattle.run_loop.specs.Promises.{Runs, failedRun, pending, wroteRun}
+use Rattle.run_loop.specs.Needed.{FailedAs, WroteAs}
 use Rattle.run_loop.specs.declared.Run.{Run}
 use Rattle.run_loop.specs.declared.Fault.{Fault}
 use Rattle.run_loop.specs.declared.Fault.the-variants.{Writing}

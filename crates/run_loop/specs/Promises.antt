@@ -6,6 +6,8 @@ use mathlib.Core.Bool.{Bool, true, false, cond, _||_}
 use mathlib.Core.List.{List, [], _++_}
 use lib.ListN.{length, take, drop}
 use lib.Dec.{ltb, eqb}
+use lib.IntN.{ℤ, pos, negsuc}
+use lib.Signed.{ltZ}
 use Rattle.limits.specs.Limits.{fileRecordWidth, lineLimit}
 use Rattle.memory.specs.Areas.{Areas, rightSizes}
 use Rattle.stepfile.specs.Files.{fileLines}
@@ -95,18 +97,6 @@ readLines s bytes out a =
 unfoldable pub readAreas : Run → List ℕ → ℕ → Areas → Areas
 readAreas s bytes room a = cond (isRead (actionOf s)) (cond (eqb (length bytes) 0) a (feedAreas (s .progress) bytes room a)) a
 
--- what `after_read` promises
-pub record ReadAs (s : Run) (bytes out : List ℕ) (a : Areas) (s′ : Run) (out′ : List ℕ) (a′ : Areas) : Type 0 where
-  pub run : s′ ≡ readRun s bytes (length out) a
-  pub lines : out′ ≡ readLines s bytes out a
-  pub areas : a′ ≡ readAreas s bytes (length out) a
-  -- with room for the lines of the bytes they are taken, ..
-  pub fed : (a₀ : Areas) (read written : List ℕ) → actionOf s ≡ Read → length bytes / fileRecordWidth < length out / lineLimit → Runs a₀ read written s out a
-      → s′ .fault ≡ Nothing
-  -- .. and stand behind those read before
-  pub runs : (a₀ : Areas) (read written : List ℕ) → actionOf s ≡ Read → length bytes / fileRecordWidth < length out / lineLimit → Runs a₀ read written s out a
-      → Runs a₀ (read ++ bytes) written s′ out′ a′
-
 -- where it stands after the first n bytes of the lines left were written; a write that takes nothing has failed
 unfoldable pub wroteRun : Run → ℕ → Run
 wroteRun s n =
@@ -118,17 +108,47 @@ wroteRun s n =
       fault = cond (eqb n 0) Writing (s .fault);
     }
 
--- what `after_write` promises: these bytes stand behind those written before, and the rest is left
-pub record WroteAs (s : Run) (n : ℕ) (s′ : Run) : Type 0 where
-  pub run : s′ ≡ wroteRun s n
-  pub runs : (a₀ : Areas) (read written out : List ℕ) (a : Areas) → Runs a₀ read written s out a → Runs a₀ read (written ++ take n (pending s out)) s′ out a
-
 -- where it stands after a read or a write that failed; where it is made again nothing changes
 unfoldable pub failedRun : Run → Fault → Bool → Run
 failedRun s f again =
     cond again s (record { progress = s .progress; from = s .from; to = s .to; ended = s .ended; fault = f })
 
--- what `failed` promises: what was read and written stays
-pub record FailedAs (s : Run) (f : Fault) (again : Bool) (s′ : Run) : Type 0 where
-  pub run : s′ ≡ failedRun s f again
-  pub runs : (a₀ : Areas) (read written out : List ℕ) (a : Areas) → Runs a₀ read written s out a → Runs a₀ read written s′ out a
+-- ---- what a call of C's answered
+
+-- the bytes that a read or a write moved, of those it was handed: none where it answered a number below 0, since it failed
+unfoldable pub moved : ℤ → List ℕ → List ℕ
+moved (pos n) bytes = take n bytes
+moved (negsuc n) bytes = []
+
+-- where the run stands after a read's answer
+unfoldable pub gotRun : Run → ℤ → Bool → List ℕ → ℕ → Areas → Run
+gotRun s got again chunk room a = cond (ltZ got (pos 0)) (failedRun s Reading again) (readRun s (moved got chunk) room a)
+
+-- the bytes lent for lines then
+unfoldable pub gotLines : Run → ℤ → List ℕ → List ℕ → Areas → List ℕ
+gotLines s got chunk out a = cond (ltZ got (pos 0)) out (readLines s (moved got chunk) out a)
+
+-- the areas then
+unfoldable pub gotAreas : Run → ℤ → List ℕ → ℕ → Areas → Areas
+gotAreas s got chunk room a = cond (ltZ got (pos 0)) a (readAreas s (moved got chunk) room a)
+
+-- what `after_read` promises
+pub record GotAs (s : Run) (got : ℤ) (again : Bool) (chunk out : List ℕ) (a : Areas) (s′ : Run) (out′ : List ℕ) (a′ : Areas) : Type 0 where
+  pub run : s′ ≡ gotRun s got again chunk (length out) a
+  pub lines : out′ ≡ gotLines s got chunk out a
+  pub areas : a′ ≡ gotAreas s got chunk (length out) a
+  -- with room for the lines of a whole chunk every chunk is fed, ..
+  pub fed : (a₀ : Areas) (read written : List ℕ) → actionOf s ≡ Read → length chunk / fileRecordWidth < length out / lineLimit → Runs a₀ read written s out a
+      → s′ .fault ≡ NotFed → ⊥
+  -- .. and its bytes stand behind those read before
+  pub runs : (a₀ : Areas) (read written : List ℕ) → actionOf s ≡ Read → length chunk / fileRecordWidth < length out / lineLimit → Runs a₀ read written s out a
+      → Runs a₀ (read ++ moved got chunk) written s′ out′ a′
+
+-- where the run stands after a write's answer, which was handed the lines left
+unfoldable pub putRun : Run → ℤ → Bool → List ℕ → Run
+putRun s put again out = cond (ltZ put (pos 0)) (failedRun s Writing again) (wroteRun s (length (moved put (pending s out))))
+
+-- what `after_write` promises: the bytes that were taken stand behind those written before, and the rest is left
+pub record PutAs (s : Run) (put : ℤ) (again : Bool) (out : List ℕ) (s′ : Run) : Type 0 where
+  pub run : s′ ≡ putRun s put again out
+  pub runs : (a₀ : Areas) (read written : List ℕ) (a : Areas) → Runs a₀ read written s out a → Runs a₀ read (written ++ moved put (pending s out)) s′ out a

@@ -1,9 +1,11 @@
 // The run program but for its C calls: what it does next, and where it stands after a read or a write.
 ghost use Prim.Native.Nat.{_-_, min};
 ghost use mathlib.Core.Path.{_≡_};
+ghost use lib.IntN.{pos};
+ghost use lib.Signed.{ltZ};
 ghost use Rattle.memory.specs.Areas.{areas};
-ghost use Rattle.run_loop.specs.Promises.{isNothing, isRead, actionOf, pending, takenRun, Begins, NextIs, ReadAs, WroteAs, FailedAs};
-ghost use Rattle.run_loop.specs.Needed.{Feeds, Ends};
+ghost use Rattle.run_loop.specs.Promises.{isNothing, isRead, actionOf, pending, takenRun, Begins, NextIs, GotAs, PutAs};
+ghost use Rattle.run_loop.specs.Needed.{Feeds, Ends, ReadAs, WroteAs, FailedAs};
 use stepfile::Progress;
 use stepfile::Taken;
 
@@ -78,8 +80,41 @@ pub fn unwritten(run: Run, lines: &[u8]) -> &[u8]
     &lines[from..to]
 }
 
-// The bytes have been read; none at the end of the input.
+// A read has answered, and put bytes at the start of the chunk. One that failed is made again or not.
 pub fn after_read(
+    run: Run,
+    got: isize,
+    again: bool,
+    chunk: &[u8],
+    lines: &mut [u8],
+    clocks: &mut [u8],
+    words: &mut [u32],
+    records: &mut [u8],
+    marks: &mut [u8],
+) -> Run
+    ensures { λ r. ⌜ GotAs run got again (now (chunk .entry)) (now (lines .entry)) (areas (now (clocks .entry)) (now (words .entry)) (now (records .entry)) (now (marks .entry))) r (now (lines .exit)) (areas (now (clocks .exit)) (now (words .exit)) (now (records .exit)) (now (marks .exit))) ⌝ }
+{
+    if is_failed(got) {
+        return fail(run, Fault::Reading, again);
+    }
+    let n = io::count(got, chunk);
+    take(run, &chunk[..n], lines, clocks, words, records, marks)
+}
+
+// A write has answered, which was handed the lines that are left. One that failed is made again or not; one that takes nothing has failed.
+pub fn after_write(run: Run, put: isize, again: bool, lines: &[u8]) -> Run
+    ensures { λ r. ⌜ PutAs run put again (now (lines .entry)) r ⌝ }
+{
+    if is_failed(put) {
+        return fail(run, Fault::Writing, again);
+    }
+    let part = unwritten(run, lines);
+    let n = io::count(put, part);
+    write(run, n)
+}
+
+// Takes bytes that have been read; none at the end of the input.
+fn take(
     run: Run,
     bytes: &[u8],
     lines: &mut [u8],
@@ -97,48 +132,6 @@ pub fn after_read(
         return end(run, lines);
     }
     feed(run, bytes, lines, clocks, words, records, marks)
-}
-
-// The first n bytes of the lines that were left have been written. A write that takes nothing has failed.
-pub fn after_write(run: Run, n: usize) -> Run
-    ensures { λ r. ⌜ WroteAs run n r ⌝ }
-{
-    let progress = run.progress;
-    let from = run.from + least(n, left(run));
-    if n == 0 {
-        return Run {
-            progress,
-            from,
-            to: run.to,
-            ended: run.ended,
-            fault: Fault::Writing,
-        };
-    }
-    let fault = run.fault;
-    Run {
-        progress,
-        from,
-        to: run.to,
-        ended: run.ended,
-        fault,
-    }
-}
-
-// A read or a write has failed; where it is to be made again nothing changes.
-pub fn failed(run: Run, fault: Fault, again: bool) -> Run
-    ensures { λ r. ⌜ FailedAs run fault again r ⌝ }
-{
-    if again {
-        return run;
-    }
-    let progress = run.progress;
-    Run {
-        progress,
-        from: run.from,
-        to: run.to,
-        ended: run.ended,
-        fault,
-    }
 }
 
 // Feeds bytes that have been read.
@@ -191,6 +184,48 @@ fn go_on(run: Run, taken: Taken, ended: bool) -> Run
     }
 }
 
+// Goes on behind the first n bytes of the lines that were left; none is a failure.
+fn write(run: Run, n: usize) -> Run
+    ensures { λ r. ⌜ WroteAs run n r ⌝ }
+{
+    let progress = run.progress;
+    let from = run.from + least(n, left(run));
+    if n == 0 {
+        return Run {
+            progress,
+            from,
+            to: run.to,
+            ended: run.ended,
+            fault: Fault::Writing,
+        };
+    }
+    let fault = run.fault;
+    Run {
+        progress,
+        from,
+        to: run.to,
+        ended: run.ended,
+        fault,
+    }
+}
+
+// A read or a write has failed; where it is to be made again nothing changes.
+fn fail(run: Run, fault: Fault, again: bool) -> Run
+    ensures { λ r. ⌜ FailedAs run fault again r ⌝ }
+{
+    if again {
+        return run;
+    }
+    let progress = run.progress;
+    Run {
+        progress,
+        from: run.from,
+        to: run.to,
+        ended: run.ended,
+        fault,
+    }
+}
+
 // Whether the run is to read on.
 fn is_reading(run: Run) -> bool
     ensures { λ r. ⌜ r ≡ isRead (actionOf run) ⌝ }
@@ -201,6 +236,13 @@ fn is_reading(run: Run) -> bool
         Action::Write => false,
         Action::Stop => false,
     }
+}
+
+// Whether a call failed, by its answer.
+fn is_failed(moved: isize) -> bool
+    ensures { λ r. ⌜ r ≡ ltZ moved (pos 0) ⌝ }
+{
+    moved < 0
 }
 
 // Whether nothing went wrong.
