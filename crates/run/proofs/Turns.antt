@@ -1,114 +1,131 @@
 -- From turn to turn: what `run_loop` promises of a read and of a write keeps what holds. `turn-laws`. Assumes nothing.
-use Prim.Native.Nat.{ℕ, _/_, _<_, _≤_}
+use Prim.Native.Nat.{ℕ, _+_, _-_, min}
 use native.Mathlib.Omega.{arith}
-use mathlib.Core.Path.{_≡_, refl, sym, ap, _∙_}
-use mathlib.Core.Bool.{Bool, true, false, cond, _||_}
+use mathlib.Core.Path.{_≡_, sym, _∙_}
+use mathlib.Core.Bool.{Bool, true, false, cond}
 use mathlib.Core.List.{List, [], _++_}
-use lib.ListN.{length, take, length-take}
-use lib.Dec.{eqb, ltb}
+use lib.ListN.{length, length-replicate, replicate}
+use lib.Dec.{eqb}
+use lib.IntN.{ℤ, pos}
+use lib.Signed.{ltZ}
 use borrow.Author.Needs.{needs}
-use Rattle.limits.specs.Limits.{fileRecordWidth, lineLimit}
-use Rattle.memory.specs.Areas.{areas}
-use Rattle.run_loop.specs.Promises.{Begins, FailedAs, NextIs, ReadAs, WroteAs, actionOf, failedRun, isNothing, pending, wroteRun}
+use Rattle.limits.specs.Sizes.{clockArea, markArea, recordArea, wordArea}
+use Rattle.memory.specs.Areas.{areas, rightSizes}
+use Rattle.memory.proofs.Encoding.{lent-right}
+use Rattle.run_loop.specs.Promises.{Begins, GotAs, NextIs, PutAs, actionOf, failedRun, moved, pending, putRun, wroteRun}
 use Rattle.run_loop.specs.declared.Run.{Run}
 use Rattle.run_loop.specs.declared.Fault.{Fault}
-use Rattle.run_loop.specs.declared.Fault.the-variants.{Nothing, Reading, Writing, NotFed}
+use Rattle.run_loop.specs.declared.Fault.the-variants.{Writing}
 use Rattle.run_loop.specs.declared.Action.{Action}
-use Rattle.run_loop.specs.declared.Action.the-variants.{Read, Write, Stop}
-use Rattle.run.specs.Going.{Going, Keeps, Possible, Reads, Roomy, Sized}
+use Rattle.run_loop.specs.declared.Action.the-variants.{Read}
+use Rattle.run_loop.proofs.Coming.{reads-faultless}
+use Rattle.run.specs.Going.{Ample, Going, Keeps, Possible, Readable, chunkBytes, lineRoom}
 
 -- ---- faults
 
--- a failed read or write is no chunk that was not fed
-pub reading-possible : Possible Reading
-reading-possible = record { fed = λ e. let z : _≡_ {A = ℕ} 0 1 = cc in omega arith }
-
-pub writing-possible : Possible Writing
+-- a failed write is no chunk that was not fed
+writing-possible : Possible Writing
 writing-possible = record { fed = λ e. let z : _≡_ {A = ℕ} 0 1 = cc in omega arith }
 
-nothing-possible : Possible Nothing
-nothing-possible = record { fed = λ e. let z : _≡_ {A = ℕ} 0 1 = cc in omega arith }
-
-pub going-possible : (s : Run) (out c w r m : List ℕ) → Going s out c w r m → Possible (s .fault)
-going-possible s out c w r m g = g .possible
+pub going-possible : (s : Run) (chunk out c w r m : List ℕ) → Going s chunk out c w r m → Possible (s .fault)
+going-possible s chunk out c w r m g = g .possible
 
 -- ---- the start
 
-started-fault : (s : Run) → actionOf s ≡ Read → Possible (s .fault)
-unfolding actionOf
-started-fault s = go (s .fault)
-  where
-    go : (f : Fault) → cond (isNothing f) (cond (ltb (s .from) (s .to)) Write (cond (s .ended || s .progress .stopped) Stop Read)) Stop ≡ Read → Possible f
-    go Nothing e = nothing-possible
-    go Reading e = reading-possible
-    go Writing e = writing-possible
-    go NotFed e = let z : _≡_ {A = ℕ} 0 1 = cc in absurd (omega arith)
+-- an array of zeros is as long as it is declared
+pub zeros : (n : ℕ) → length (replicate {A = ℕ} n 0) ≡ n
+zeros n = length-replicate n 0
 
-pub going-begins : (s : Run) (out c w r m : List ℕ) → Begins s → Sized c w r m → Going s out c w r m
-going-begins s out c w r m b z =
-    record { first = areas c w r m; read = []; written = []; runs = b .runs (areas c w r m) out (z .sizes); possible = started-fault s (b .reads) }
+-- arrays of these lengths are ample
+pub ample : (chunk lines c w r m : List ℕ) → length chunk ≡ chunkBytes → length lines ≡ lineRoom → length c ≡ clockArea → length w ≡ wordArea → length r ≡ recordArea → length m ≡ markArea
+    → Ample chunk lines c w r m
+ample chunk lines c w r m a b d e f g = record { roomy = record { room = omega (arith, a, b) }; lent = record { clocks = d; words = e; records = f; marks = g } }
+
+pub going-begins : (s : Run) (chunk out c w r m : List ℕ) → Begins s → Ample chunk out c w r m → Going s chunk out c w r m
+unfolding rightSizes areas
+going-begins s chunk out c w r m b z =
+    record {
+      roomy = z .roomy;
+      first = areas c w r m;
+      read = [];
+      written = [];
+      runs = b .runs (areas c w r m) out (lent-right c w r m (z .lent));
+      possible = record { fed = λ e. let y : _≡_ {A = ℕ} 0 1 = cc (reads-faultless s (b .reads), e) in omega arith };
+    }
 
 -- ---- a read
 
-pub reads-next : (s : Run) (x : Action) → NextIs s x → x ≡ Read → Reads s
-reads-next s x h e = record { next = sym (h .is) ∙ e }
+pub readable : (s : Run) (x : Action) (chunk out c w r m : List ℕ) → NextIs s x → x ≡ Read → Going s chunk out c w r m → Readable s chunk out c w r m
+readable s x chunk out c w r m h e g = record { next = sym (h .is) ∙ e; going = g }
 
-pub going-failed : (s : Run) (f : Fault) (again : Bool) (s′ : Run) (out c w r m : List ℕ) → FailedAs s f again s′ → Possible f → Going s out c w r m → Going s′ out c w r m
-unfolding failedRun
-going-failed s f again s′ out c w r m h p g =
+-- whatever the read left in the chunk
+pub readable-still : (s : Run) (chunk chunk′ out c w r m : List ℕ) → length chunk′ ≡ length chunk → Readable s chunk out c w r m → Readable s chunk′ out c w r m
+readable-still s chunk chunk′ out c w r m e h =
+    let g : Going s chunk out c w r m = h .going in
     record {
-      first = g .first;
-      read = g .read;
-      written = g .written;
-      runs = h .runs (g .first) (g .read) (g .written) out (areas c w r m) (g .runs);
-      possible = rw (h .run) (go again);
+      next = h .next;
+      going =
+          record {
+            roomy = record { room = rw e (g .roomy .room) };
+            first = g .first;
+            read = g .read;
+            written = g .written;
+            runs = g .runs;
+            possible = g .possible;
+          };
     }
-  where
-    go : (b : Bool) → Possible (failedRun s f b .fault)
-    go true = g .possible
-    go false = p
 
-pub going-read : (s : Run) (out c w r m : List ℕ) (s′ : Run) (out′ c′ w′ r′ m′ : List ℕ) (chunk : List ℕ) (n : ℕ) → ReadAs s (take n chunk) out (areas c w r m) s′ out′ (areas c′ w′ r′ m′)
-    → Roomy chunk out → Reads s → Going s out c w r m → Going s′ out′ c′ w′ r′ m′
-going-read s out c w r m s′ out′ c′ w′ r′ m′ chunk n h y x g =
+pub going-got : (s : Run) (got : ℤ) (again : Bool) (chunk out c w r m : List ℕ) (s′ : Run) (out′ c′ w′ r′ m′ : List ℕ) → GotAs s got again chunk out (areas c w r m) s′ out′ (areas c′ w′ r′ m′)
+    → Readable s chunk out c w r m → length out′ ≡ length out → Going s′ chunk out′ c′ w′ r′ m′
+going-got s got again chunk out c w r m s′ out′ c′ w′ r′ m′ h y e =
+    let g : Going s chunk out c w r m = y .going in
     record {
+      roomy = record { room = rw e (g .roomy .room) };
       first = g .first;
-      read = g .read ++ take n chunk;
+      read = g .read ++ moved got chunk;
       written = g .written;
-      runs = h .runs (g .first) (g .read) (g .written) (x .next) room (g .runs);
-      possible = rw (h .fed (g .first) (g .read) (g .written) (x .next) room (g .runs)) nothing-possible;
+      runs = h .runs (g .first) (g .read) (g .written) (y .next) (g .roomy .room) (g .runs);
+      possible = record { fed = h .fed (g .first) (g .read) (g .written) (y .next) (g .roomy .room) (g .runs) };
     }
-  where
-    room : length (take n chunk) / fileRecordWidth < length out / lineLimit
-    room = omega (arith, y .room, length-take n chunk)
-
-pub roomy-still : (chunk lines chunk′ lines′ : List ℕ) → length chunk′ ≡ length chunk → length lines′ ≡ length lines → Roomy chunk lines → Roomy chunk′ lines′
-roomy-still chunk lines chunk′ lines′ e d y = record { room = rw (e, d) (y .room) }
 
 -- ---- a write
 
-pub keeps-failed : (s : Run) (f : Fault) (again : Bool) (s′ : Run) (out : List ℕ) → FailedAs s f again s′ → Possible f → Keeps s out s′
-keeps-failed s f again s′ out h p = record { on = λ c w r m g. going-failed s f again s′ out c w r m h p g }
+put-possible : (s : Run) (put : ℤ) (again : Bool) (out : List ℕ) → Possible (s .fault) → Possible (putRun s put again out .fault)
+unfolding putRun failedRun wroteRun
+put-possible s put again out p = go (ltZ put (pos 0)) again (eqb (length (moved put (pending s out))) 0)
+  where
+    after : Bool → Bool → Bool → Run
+    after b d n =
+        cond b (cond d s (record { progress = s .progress; from = s .from; to = s .to; ended = s .ended; fault = Writing }))
+        (record {
+          progress = s .progress;
+          from = s .from + min (length (moved put (pending s out))) (s .to - s .from);
+          to = s .to;
+          ended = s .ended;
+          fault = cond n Writing (s .fault);
+        })
 
-pub keeps-wrote : (s : Run) (n : ℕ) (s′ : Run) (out : List ℕ) → WroteAs s n s′ → Keeps s out s′
-unfolding wroteRun
-keeps-wrote s n s′ out h =
+    go : (b d n : Bool) → Possible (after b d n .fault)
+    go true true n = p
+    go true false n = writing-possible
+    go false d true = writing-possible
+    go false d false = p
+
+pub keeps-put : (s : Run) (put : ℤ) (again : Bool) (out : List ℕ) (s′ : Run) → PutAs s put again out s′ → Keeps s out s′
+keeps-put s put again out s′ h =
     record {
-      on = λ c w r m g.
+      on = λ chunk c w r m g.
           record {
+            roomy = g .roomy;
             first = g .first;
             read = g .read;
-            written = g .written ++ take n (pending s out);
-            runs = h .runs (g .first) (g .read) (g .written) out (areas c w r m) (g .runs);
-            possible = rw (h .run) (either (eqb n 0) (g .possible));
+            written = g .written ++ moved put (pending s out);
+            runs = h .runs (g .first) (g .read) (g .written) (areas c w r m) (g .runs);
+            possible = rw (h .run) (put-possible s put again out (g .possible));
           };
     }
-  where
-    either : (b : Bool) → Possible (s .fault) → Possible (cond b Writing (s .fault))
-    either true p = writing-possible
-    either false p = p
 
-pub going-kept : (s : Run) (out : List ℕ) (s′ : Run) (c w r m : List ℕ) → Keeps s out s′ → Going s out c w r m → Going s′ out c w r m
-going-kept s out s′ c w r m k g = k .on c w r m g
+pub going-kept : (s : Run) (out : List ℕ) (s′ : Run) (chunk c w r m : List ℕ) → Keeps s out s′ → Going s chunk out c w r m → Going s′ chunk out c w r m
+going-kept s out s′ chunk c w r m k g = k .on chunk c w r m g
 
-pub ruleset turn-laws = (reading-possible, writing-possible, going-possible, going-begins, reads-next, going-failed, going-read, roomy-still, keeps-failed, keeps-wrote, going-kept, needs)
+pub ruleset turn-laws = (going-possible, going-begins, readable, readable-still, going-got, keeps-put, going-kept, needs)

@@ -1,5 +1,5 @@
 // The run program: a step file on standard input, its lines on standard output. What it does between its C calls, `run_loop` says.
-ghost use Rattle.run.specs.Going.{Roomy, Sized, Possible, Going, Reads, Keeps};
+ghost use Rattle.run.specs.Going.{Ample, Possible, Going, Readable, Keeps};
 use libc::STDERR_FILENO;
 use libc::STDIN_FILENO;
 use libc::STDOUT_FILENO;
@@ -14,13 +14,13 @@ use run_loop::Fault;
 use run_loop::Run;
 
 // The bytes read at a time, and room for the lines of so many bytes and of a record begun before.
-const CHUNK: usize = 65536;
+const CHUNK_BYTES: usize = 65536;
 
-const LINES: usize = LINE_LIMIT * (CHUNK / FILE_RECORD_WIDTH + 1);
+const LINE_ROOM: usize = LINE_LIMIT * (CHUNK_BYTES / FILE_RECORD_WIDTH + 1);
 
 fn main() {
-    let mut chunk = [0u8; CHUNK];
-    let mut lines = [0u8; LINES];
+    let mut chunk = [0u8; CHUNK_BYTES];
+    let mut lines = [0u8; LINE_ROOM];
     let mut clocks = [0u8; CLOCK_AREA];
     let mut words = [0u32; WORD_AREA];
     let mut records = [0u8; RECORD_AREA];
@@ -46,32 +46,53 @@ fn run_all(
     records: &mut [u8],
     marks: &mut [u8],
 ) -> Fault
-    requires { ⌜ Roomy (now chunk) (now lines) ⌝ }
-    requires { ⌜ Sized (now clocks) (now words) (now records) (now marks) ⌝ }
+    requires { ⌜ Ample (now chunk) (now lines) (now clocks) (now words) (now records) (now marks) ⌝ }
     ensures { λ f. ⌜ Possible f ⌝ }
 {
     let mut run = run_loop::start();
     let mut turns = u64::MAX;
     while 0 < turns {
-        let action = run_loop::next(run);
-        match action {
-            Action::Read => {
-                run = read_on(run, chunk, lines, clocks, words, records, marks);
-                turns = turns - 1;
-            }
-            Action::Write => {
-                run = write_on(run, lines);
-                turns = turns - 1;
-            }
-            Action::Stop => {
-                return run.fault;
-            }
+        if is_over(run) {
+            return run.fault;
         }
+        run = turn(run, chunk, lines, clocks, words, records, marks);
+        turns = turns - 1;
     }
     run.fault
 }
 
-// Reads a chunk.
+// Whether nothing is left to do.
+fn is_over(run: Run) -> bool {
+    let action = run_loop::next(run);
+    match action {
+        Action::Read => false,
+        Action::Write => false,
+        Action::Stop => true,
+    }
+}
+
+// Does what comes next.
+fn turn(
+    run: Run,
+    chunk: &mut [u8],
+    lines: &mut [u8],
+    clocks: &mut [u8],
+    words: &mut [u32],
+    records: &mut [u8],
+    marks: &mut [u8],
+) -> Run
+    requires { ⌜ Going run (now chunk) (now lines) (now clocks) (now words) (now records) (now marks) ⌝ }
+    ensures { λ r. ⌜ Going r (now (chunk .exit)) (now (lines .exit)) (now (clocks .exit)) (now (words .exit)) (now (records .exit)) (now (marks .exit)) ⌝ }
+{
+    let action = run_loop::next(run);
+    match action {
+        Action::Read => read_on(run, chunk, lines, clocks, words, records, marks),
+        Action::Write => write_on(run, lines),
+        Action::Stop => run,
+    }
+}
+
+// Reads a chunk and takes it.
 fn read_on(
     run: Run,
     chunk: &mut [u8],
@@ -81,30 +102,43 @@ fn read_on(
     records: &mut [u8],
     marks: &mut [u8],
 ) -> Run
-    requires { ⌜ Roomy (now chunk) (now lines) ⌝ }
-    requires { ⌜ Reads run ⌝ }
-    requires { ⌜ Going run (now lines) (now clocks) (now words) (now records) (now marks) ⌝ }
-    ensures { λ r. ⌜ Going r (now (lines .exit)) (now (clocks .exit)) (now (words .exit)) (now (records .exit)) (now (marks .exit)) ⌝ }
+    requires { ⌜ Readable run (now chunk) (now lines) (now clocks) (now words) (now records) (now marks) ⌝ }
+    ensures { λ r. ⌜ Going r (now (chunk .exit)) (now (lines .exit)) (now (clocks .exit)) (now (words .exit)) (now (records .exit)) (now (marks .exit)) ⌝ }
 {
     let got = libc::read(STDIN_FILENO, chunk);
-    if got < 0 {
-        return run_loop::failed(run, Fault::Reading, os::errno() == libc::EINTR);
-    }
-    let n = io::count(got, chunk);
-    run_loop::after_read(run, &chunk[..n], lines, clocks, words, records, marks)
+    let again = is_interrupted();
+    take_in(run, got, again, chunk, lines, clocks, words, records, marks)
+}
+
+// Takes a chunk that was read.
+fn take_in(
+    run: Run,
+    got: isize,
+    again: bool,
+    chunk: &[u8],
+    lines: &mut [u8],
+    clocks: &mut [u8],
+    words: &mut [u32],
+    records: &mut [u8],
+    marks: &mut [u8],
+) -> Run
+    requires { ⌜ Readable run (now chunk) (now lines) (now clocks) (now words) (now records) (now marks) ⌝ }
+    ensures { λ r. ⌜ Going r (now (chunk .entry)) (now (lines .exit)) (now (clocks .exit)) (now (words .exit)) (now (records .exit)) (now (marks .exit)) ⌝ }
+{
+    run_loop::after_read(run, got, again, chunk, lines, clocks, words, records, marks)
 }
 
 // Writes the lines that are left, or the first of them.
 fn write_on(run: Run, lines: &[u8]) -> Run
     ensures { λ r. ⌜ Keeps run (now (lines .entry)) r ⌝ }
 {
-    let part = run_loop::unwritten(run, lines);
-    let put = libc::write(STDOUT_FILENO, part);
-    if put < 0 {
-        return run_loop::failed(run, Fault::Writing, os::errno() == libc::EINTR);
-    }
-    let n = io::count(put, part);
-    run_loop::after_write(run, n)
+    let put = libc::write(STDOUT_FILENO, run_loop::unwritten(run, lines));
+    run_loop::after_write(run, put, is_interrupted(), lines)
+}
+
+// Whether the C call just made is to be made again, if it failed: a signal came before it moved a byte.
+fn is_interrupted() -> bool {
+    os::errno() == libc::EINTR
 }
 
 // Says on standard error what went wrong, if anything. No C call stands between the one that failed and this.

@@ -6,4 +6,4 @@ use Rattle.run.proofs.read_on.Tie as tie
 pub read-on-spec : {M : Type 1} → statement M
 read-on-spec =
     tie.close
-    (tie.spec (λ c κs. search turn-laws) (λ c κs. search turn-laws) (λ c κs. search turn-laws) (λ c. search turn-laws) (λ c. search turn-laws) (λ c κs. search turn-laws) (λ c. search turn-laws) (λ c. search turn-laws) (λ c κs. search turn-laws) (λ c. search turn-laws) (λ c. search turn-laws) (λ c. search turn-laws) (λ c. search turn-laws) (λ c. search turn-laws) (λ c. search turn-laws) (λ c. search turn-laws))
+    (tie.spec (λ c κs. search turn-laws) (λ c κs. search turn-laws) (λ c κs. search turn-laws) (λ c. search turn-laws) (λ c. search turn-laws) (λ c. search turn-laws) (λ c. search turn-laws) (λ c. search turn-laws) (λ c. search turn-laws) (λ c. search turn-laws))

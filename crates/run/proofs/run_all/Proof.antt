@@ -8,7 +8,7 @@ use Rattle.run.proofs.run_all.Tie as tie
 
 abbrev Inv-loop : tie.InvT-loop
 Inv-loop chunk₀ lines₀ clocks₀ words₀ records₀ marks₀ run₀ turns₀ chunk lines clocks words records marks run turns =
-    Going run lines clocks words records marks × (length chunk ≡ length chunk₀) × (length lines ≡ length lines₀) × (length clocks ≡ length clocks₀) × (length words ≡ length words₀) × (length records ≡ length records₀) × (length marks ≡ length marks₀)
+    Going run chunk lines clocks words records marks × (length chunk ≡ length chunk₀) × (length lines ≡ length lines₀) × (length clocks ≡ length clocks₀) × (length words ≡ length words₀) × (length records ≡ length records₀) × (length marks ≡ length marks₀)
 
 abbrev μ-loop : tie.MeasureT-loop
 μ-loop chunk₀ lines₀ clocks₀ words₀ records₀ marks₀ run₀ turns₀ chunk lines clocks words records marks run turns =
@@ -17,4 +17,4 @@ abbrev μ-loop : tie.MeasureT-loop
 pub run-all-spec : {M : Type 1} → statement M
 run-all-spec =
     tie.close
-    (tie.spec Inv-loop μ-loop (λ c κs. search turn-laws) (λ c. search turn-laws) (λ c κs. search turn-laws) (λ c. search turn-laws) (λ c κs. search turn-laws) (λ c. search turn-laws) (λ c. search turn-laws) (λ c. search turn-laws) (λ c. search turn-laws) (λ c κs. search turn-laws) (λ c. search turn-laws) (λ c. search turn-laws) (λ c. search turn-laws) (λ c. search turn-laws) (λ c. search turn-laws) (λ c. search turn-laws) (λ c. search turn-laws) (λ c. search turn-laws) (λ c. search turn-laws) (λ c. search turn-laws) (λ c. search turn-laws) (λ c. search turn-laws) (λ c. search turn-laws) (λ c. search turn-laws) (λ c. search turn-laws) (λ c. search turn-laws) (λ c. search turn-laws) (λ c. search turn-laws))
+    (tie.spec Inv-loop μ-loop (λ c κs. search turn-laws) (λ c. search turn-laws) (λ c κs. search turn-laws) (λ c. search turn-laws) (λ c. search turn-laws) (λ c. search turn-laws) (λ c. search turn-laws) (λ c. search turn-laws) (λ c. search turn-laws) (λ c. search turn-laws) (λ c κs. search turn-laws) (λ c. search turn-laws) (λ c. search turn-laws) (λ c. (search turn-laws, search turn-laws, search turn-laws, search turn-laws, search turn-laws, search turn-laws, search turn-laws)) (λ c. search turn-laws) (λ c. search turn-laws) (λ c. search turn-laws) (λ c. search turn-laws) (λ c. search turn-laws) (λ c. search turn-laws) (λ c. search turn-laws))
