@@ -31,7 +31,7 @@ going-possible s chunk out c w r m g = g .possible
 
 -- ---- the start
 
--- an array of zero-bytes is as long as it is declared
+-- an array of zeros is as long as it is declared
 pub zero-bytes : (n : ℕ) → length (replicate {A = ℕ} n 0) ≡ n
 zero-bytes n = length-replicate n 0
 
