@@ -16,7 +16,7 @@ use mir.Val.{SFits, ofZ, toZ}
 use mir.ValLaws.{toZ-ofZ}
 use Rattle.limits.specs.Files.{fileRecordWidth, lineLimit}
 use Rattle.layout.specs.Areas.{Areas}
-use Rattle.io.specs.inner.Counts.{clamped}
+use Rattle.io.specs.Counts.{clamped}
 use Rattle.run_loop.specs.Promises.{GotAs, PutAs, failedRun, gotAreas, gotLines, gotRun, bytesMoved, pending, putRun, readAreas, readLines, readRun, wroteRun}
 use Rattle.run_loop.specs.inner.Needed.{FailedAs, ReadAs, WroteAs}
 use Rattle.run_loop.specs.declared.Run.{Run}
