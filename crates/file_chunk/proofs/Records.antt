@@ -1,4 +1,4 @@
--- One record taken: the opening, a step, or one too many. Rests on taking's and the engine's laws. Assumes nothing.
+-- One record taken: the opening, a step, or one too many. Rests on file_record's and the engine's laws. Assumes nothing.
 use Prim.Native.Nat.{_+_, _<_, _≤_, ℕ}
 use native.Mathlib.Omega.{arith}
 use native.Mathlib.Numerals.{add-one}

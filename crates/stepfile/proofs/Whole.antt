@@ -1,5 +1,5 @@
 -- A file fed byte by byte prints the lines of the whole file: those of its opening, of its steps as the rules answer them, and of its end.
--- Rests on Carried and on passing's laws of bytes. Assumes nothing.
+-- Rests on Carried and on file_chunk's laws of bytes. Assumes nothing.
 use Prim.Native.Nat.{ℕ, zero, suc, _+_, _-_, _*_, _%_, _≤_, _<_, min}
 use native.Mathlib.Omega.{arith}
 use mathlib.Core.Path.{_≡_, refl, sym, ap, _∙_}
