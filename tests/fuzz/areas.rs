@@ -42,6 +42,11 @@ pub fn copy_at(p: usize, page: usize) -> usize {
 /// The first of all the twins' words.
 pub const TWINS_AT: usize = PAGE_WORDS * 64;
 
+/// The first of the 32 words of a page's twin.
+pub fn twin_at(p: usize, page: usize) -> usize {
+    TWINS_AT + copy_at(p, page)
+}
+
 // Marks.
 
 pub const PROCESSORS_AT: usize = 0;

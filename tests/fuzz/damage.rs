@@ -186,7 +186,7 @@ fn fit_length(record: &mut [u8]) {
 }
 
 /// Noise where nothing is said: slots beyond those that stand, bytes beyond a
-/// diff, twins.
+/// diff, twins of present pages.
 fn noise_beyond(random: &mut Random, areas: &mut Areas) {
     let standing = usize::from(*areas.mark(STANDING_AT)).min(SLOTS);
     let slot = random.below(SLOTS);
@@ -197,24 +197,28 @@ fn noise_beyond(random: &mut Random, areas: &mut Areas) {
         0
     };
     random.fill(&mut record[used.min(SLOT)..]);
-    let at = TWINS_AT + random.below(TWINS_AT);
-    areas.words.part_mut()[at] = random.word();
+    let processors = usize::from(*areas.mark(PROCESSORS_AT)).clamp(1, PROCESSORS);
+    let pages = usize::from(*areas.mark(PAGES_AT)).clamp(1, PAGES);
+    let twin = twin_at(random.within(1, processors), random.below(pages));
+    areas.words.part_mut()[twin + random.below(PAGE_WORDS)] = random.word();
 }
 
-/// A word of a page beyond those opened, or of a processor beyond.
+/// A word of the copy or the twin of a page beyond those opened, or of a
+/// processor beyond.
 fn absent_word(random: &mut Random, areas: &mut Areas) {
     let pages = usize::from(*areas.mark(PAGES_AT)).min(PAGES - 1);
     let processors = usize::from(*areas.mark(PROCESSORS_AT)).min(PROCESSORS - 1);
-    let copy = match random.percent(50) {
-        true => copy_at(
+    let (p, page) = match random.percent(50) {
+        true => (
             random.within(1, PROCESSORS),
             random.within(pages, PAGES - 1),
         ),
-        false => copy_at(
+        false => (
             random.within(processors + 1, PROCESSORS),
             random.below(PAGES),
         ),
     };
-    let at = copy + random.below(PAGE_WORDS);
+    let page_at = random.pick(&[copy_at, twin_at]);
+    let at = page_at(p, page) + random.below(PAGE_WORDS);
     areas.words.part_mut()[at] = random.pick(&[0, 1, 1 << 31, u32::MAX]);
 }

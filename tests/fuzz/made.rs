@@ -13,11 +13,11 @@ pub fn make(random: &mut Random, areas: &mut Areas) {
     areas.words.part_mut().fill(0);
     areas.marks.part_mut().fill(0);
     random.fill(areas.records.part_mut());
-    random.fill_words(&mut areas.words.part_mut()[TWINS_AT..]);
     for p in 1..=processors {
         for page in 0..pages {
-            let copy = copy_at(p, page)..copy_at(p, page) + PAGE_WORDS;
-            random.fill_words(&mut areas.words.part_mut()[copy]);
+            for at in [copy_at(p, page), twin_at(p, page)] {
+                random.fill_words(&mut areas.words.part_mut()[at..at + PAGE_WORDS]);
+            }
         }
     }
     let own: Vec<u8> = (0..processors).map(|_| own_entry(random)).collect();

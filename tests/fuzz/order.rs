@@ -9,10 +9,11 @@ use crate::state::{Record, State};
 type Clause = (&'static str, fn(State) -> bool);
 
 /// The clauses after the first (the sizes), in the document's order.
-pub const CLAUSES: [Clause; 18] = [
+pub const CLAUSES: [Clause; 19] = [
     ("counts in range", counts_in_range),
     ("absent entries are 0", absent_entries_zero),
-    ("absent words are 0", absent_words_zero),
+    ("absent copies' words are 0", absent_copies_zero),
+    ("absent twins' words are 0", absent_twins_zero),
     ("absent arrived marks are 0", absent_arrived_zero),
     ("absent dirty marks are 0", absent_dirty_zero),
     ("absent holders are 0", absent_holders_zero),
@@ -84,9 +85,18 @@ fn absent_entries_zero(s: State) -> bool {
         && (0..LOCKS).all(of_lock)
 }
 
-/// "words ... for absent cards, pages" (the copies' words)
-fn absent_words_zero(s: State) -> bool {
-    let zero = |p, page| s.copy(p, page).iter().all(|word| *word == 0);
+/// "words ... for absent cards, pages": those of the copies
+fn absent_copies_zero(s: State) -> bool {
+    absent_words_zero(s, |p, page| s.copy(p, page))
+}
+
+/// "words ... for absent cards, pages": those of the twins
+fn absent_twins_zero(s: State) -> bool {
+    absent_words_zero(s, |p, page| s.twin(p, page))
+}
+
+fn absent_words_zero<'a>(s: State, words: impl Fn(usize, usize) -> &'a [u32]) -> bool {
+    let zero = |p, page| words(p, page).iter().all(|word| *word == 0);
     let fine = |p, page| s.has_processor(p) && s.has_page(page) || zero(p, page);
     all_processors().all(|p| (0..PAGES).all(|page| fine(p, page)))
 }

@@ -88,6 +88,10 @@ impl<'a> State<'a> {
         &self.0.words[copy_at(p, page)..copy_at(p, page) + PAGE_WORDS]
     }
 
+    pub fn twin(self, p: usize, page: usize) -> &'a [u32] {
+        &self.0.words[twin_at(p, page)..twin_at(p, page) + PAGE_WORDS]
+    }
+
     /// The records that stand, as far as there are slots for them.
     pub fn records(self) -> impl Iterator<Item = Record<'a>> {
         let slots = self.0.records.chunks_exact(SLOT);

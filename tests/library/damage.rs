@@ -130,6 +130,10 @@ fn damages(reached: &Areas) -> Vec<(String, Areas)> {
         ("the last word of an absent page", copy(2, 7) + 31),
         ("a word of an absent processor", copy(4, 0)),
         ("the last word of an absent processor", copy(8, 7) + 31),
+        ("a twin's word of an absent page", twin(1, 2)),
+        ("the last twin's word of an absent page", twin(2, 7) + 31),
+        ("a twin's word of an absent processor", twin(4, 0)),
+        ("the last word of all the twins", twin(8, 7) + 31),
     ];
     for (name, place) in words {
         let mut areas = reached.clone();

@@ -12,7 +12,7 @@ use mir.Syntax.{w8, w32}
 use mir.Val.{Fits}
 use borrow.Author.Tests.{le-leb}
 use borrow.Author.Needs.{needs}
-use Rattle.limits.specs.Sizes.{clockWidth}
+use Rattle.limits.specs.inner.Sizes.{clockWidth}
 use Rattle.clock.specs.Clocks.{joined, covered, entryOf, sumOf}
 use Rattle.clock.proofs.Laws.{joined-entry, length-joined, covered→Covers}
 

@@ -10,10 +10,10 @@ use lib.Seq.{sets, length-sets}
 use borrow.Author.Needs.{needs}
 use borrow.Author.Tests.{eq-eqb, ne-eqb}
 use Rattle.limits.specs.Limits.{pageWidth}
-use Rattle.limits.specs.Sizes.{runLimit}
+use Rattle.limits.specs.inner.Sizes.{runLimit}
 use Rattle.diff.specs.Reading.{runCount, mostRuns, runsAt, runsIn, wordsPlace, wordAt, wordsAt, wordCount, orderly, readRefusal, applied}
 use Rattle.diff.specs.Answers.{applyRefusal, pageAfter}
-use Rattle.diff.specs.Needed.{Applicable, NextThere, RunThere}
+use Rattle.diff.specs.inner.Needed.{Applicable, NextThere, RunThere}
 use Rattle.diff.proofs.Runs.{orderly-parts}
 use Rattle.diff.proofs.Legal.{legal-when-read}
 use Rattle.diff.proofs.Overlay.{lay, lay-applies}

@@ -9,7 +9,7 @@ use lib.ListN.{length, take, replicate}
 use lib.Dec.{lit≤}
 use borrow.Author.Tests.{eq-eqb, ne-eqb, le-ltb}
 use Rattle.limits.specs.Limits.{pageWidth}
-use Rattle.limits.specs.Sizes.{runLimit}
+use Rattle.limits.specs.inner.Sizes.{runLimit}
 use Rattle.diff.specs.Format.{setting, difference, ended, runsFrom, runs, setWords, pairBytes, wordBytes, wordsBytes, bytesOf, written}
 use Rattle.diff.specs.Reading.{runCount, mostRuns, runsAt, runsIn, wordsPlace, wordCount, pairHolds, orderly, pairsRefusal, readRefusal}
 use Rattle.diff.proofs.Legal.{read-when-legal}

@@ -9,10 +9,10 @@ use lib.Dec.{leb, eqb}
 use borrow.Author.Needs.{needs}
 use borrow.Author.Tests.{leb-true, lt-leb, le-leb, lt-ltb, le-ltb, eq-eqb, ne-eqb, not-true, not-false}
 use Rattle.limits.specs.Limits.{pageWidth}
-use Rattle.limits.specs.Sizes.{runLimit}
+use Rattle.limits.specs.inner.Sizes.{runLimit}
 use Rattle.diff.specs.Format.{Run}
 use Rattle.diff.specs.Reading.{runCount, mostRuns, runsAt, runsIn, wordsPlace, wordCount, pairHolds, orderly, pairsRefusal, readRefusal}
-use Rattle.diff.specs.Needed.{PairsThere}
+use Rattle.diff.specs.inner.Needed.{PairsThere}
 
 -- ---- one pair
 
@@ -29,12 +29,12 @@ unfolding pairHolds
 pair-on-page from offset len h e = rw (le-leb from offset h, le-leb 1 len (omega arith))
 
 -- what a pair that keeps its rule says
-pub record Holds (from offset len : ℕ) : Type 0 where
+pub record PairHolds (from offset len : ℕ) : Type 0 where
   pub above : from ≤ offset
   pub some-words : 1 ≤ len
   pub within : offset + len ≤ pageWidth
 
-holds : (from offset len : ℕ) → pairHolds pageWidth from offset len ≡ true → Holds from offset len
+holds : (from offset len : ℕ) → pairHolds pageWidth from offset len ≡ true → PairHolds from offset len
 unfolding pairHolds
 holds from offset len h =
     let both = and-eq-true-iff (leb from offset && leb 1 len) (leb (offset + len) pageWidth) .0 h in

@@ -13,8 +13,8 @@ use lib.Seq.{append-snoc, take-append-seam, drop-append-seam, length-take-le}
 use lib.Dec.{leb, lit<}
 use borrow.Author.Tests.{leb-true, le-leb}
 use Rattle.diff.specs.Format.{Below, Run, ended, runsFrom, runs, setWords, pairBytes}
-use Rattle.diff.proofs.Words.{below-cons}
 use Rattle.diff.specs.Reading.{wordCount, pairHolds, orderly, settingsOf}
+use Rattle.diff.proofs.Words.{below-cons}
 
 -- what it means that the first of several pairs keeps its rule, and the rest theirs
 pub record Orderly (w from offset len : ℕ) (rs : List Run) : Type 0 where

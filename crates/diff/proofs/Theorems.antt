@@ -11,9 +11,10 @@ use lib.Seq.{ext-getD}
 use lib.Dec.{eqb, lit<, eqb·suc-zero, eqb·zero-suc}
 use borrow.Author.Tests.{eq-eqb, eqb-true}
 use Rattle.limits.specs.Limits.{pageWidth}
-use Rattle.limits.specs.Sizes.{diffLimit, runLimit}
+use Rattle.limits.specs.inner.Sizes.{diffLimit, runLimit}
 use Rattle.diff.specs.Format.{Below, Run, setting, difference, runs, runsFrom, ended, setWords, pairBytes, wordsBytes, bytesOf, written}
-use Rattle.diff.specs.Reading.{readRefusal, runsIn, wordsPlace, wordsAt, wordCount, settings, settingAt, overlay, applied}
+use Rattle.diff.specs.Reading.{readRefusal, runsIn, wordsPlace, wordsAt, wordCount, settings, overlay, applied}
+use Rattle.diff.specs.inner.Settings.{settingAt}
 use Rattle.diff.proofs.Runs.{runs-gap, words-gap, length-settings, words-of-settings, orderly-bound, orderly-count, pairs-are-bytes}
 use Rattle.diff.proofs.Words.{length-words, words-fit, below-cons, below-append, words-are-bytes}
 use Rattle.diff.proofs.Legal.{Legal, legal-when-read, read-when-legal, legal-when-written, write-after-read, read-after-write, length-bytes, runs-in-order, words-of-runs}

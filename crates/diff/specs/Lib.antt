@@ -1,4 +1,4 @@
 pub mod Format
 pub mod Reading
 pub mod Answers
-pub mod Needed
+pub mod inner

@@ -78,10 +78,6 @@ settingsOf w from (r ∷ rs) words =
 unfoldable pub settings : ℕ → List ℕ → List (Option ℕ)
 settings w bytes = settingsOf w 0 (runsIn bytes) (wordsAt bytes (wordsPlace bytes) (wordCount (runsIn bytes)))
 
--- what a byte string does to one word of a page
-unfoldable pub settingAt : ℕ → List ℕ → ℕ → Option ℕ
-settingAt w bytes i = getD (settings w bytes) i none
-
 -- a page with the settings carried out
 unfoldable pub overlay : List (Option ℕ) → List ℕ → List ℕ
 overlay [] page = page

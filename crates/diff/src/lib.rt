@@ -7,7 +7,7 @@ ghost use lib.Seq.{sets};
 ghost use Rattle.limits.specs.Limits.{pageWidth};
 ghost use Rattle.diff.specs.Reading.{runsAt, wordAt, wordsAt, pairHolds, pairsRefusal, readRefusal, applied};
 ghost use Rattle.diff.specs.Answers.{applyRefusal, pageAfter};
-ghost use Rattle.diff.specs.Needed.{PairsThere, Applicable, NextThere, RunThere};
+ghost use Rattle.diff.specs.inner.Needed.{PairsThere, Applicable, NextThere, RunThere};
 use limits::PAGE_WIDTH;
 use limits::RUN_LIMIT;
 

@@ -1,29 +1,31 @@
 -- A step on areas of any sizes and contents: 1 where they are not in order, else the step in order; and the areas are those that hold the
 -- rules' next state. One law for each way of the code, and `answering-laws`. Assumes nothing.
 use Prim.Native.Nat.{ℕ}
+use native.Mathlib.Omega.{arith}
 use mathlib.Core.Path.{_≡_, refl, sym, ap, _∙_}
 use mathlib.Core.Bool.{Bool, true, false, cond, not, _&&_, and-eq-true-iff}
 use mathlib.Core.List.{List}
 use lib.ListN.{length}
 use borrow.Author.Tests.{not-false}
 use borrow.Author.Needs.{needs}
-use Rattle.limits.specs.Sizes.{markArea}
+use Rattle.limits.specs.inner.Sizes.{markArea}
 use Rattle.rules.specs.InOrder.{inOrder}
-use Rattle.rules.specs.Refusals.{Step, Answer, refusedAs, answerInOrder, nextInOrder, answer, next}
+use Rattle.rules.specs.Refusals.{Step, refusedAs, answerInOrder, nextInOrder, answer, next}
 use Rattle.rules.specs.State.{mainframe, State}
-use Rattle.rules.proofs.InOrderSays.{in-order-says}
-use Rattle.memory.specs.Areas.{stateIn, sizesRight, areas, heldBy, holding, rightSizes}
-use Rattle.memory.specs.Needed.{Ready}
-use Rattle.memory.proofs.Encoding.{right-lent, held-again, holding-is}
-use Rattle.checking.specs.Areas.{areasInOrder, OrderIs}
-use Rattle.index.specs.Index.{unranked}
-use Rattle.index.proofs.Kept.{new-kept}
-use Rattle.collecting.specs.Needed.{ReadyKept}
-use Rattle.acting.specs.declared.Outcome.{Outcome}
-use Rattle.acting.specs.declared.Outcome.the-variants.{Refused}
-use Rattle.acting.specs.Outcomes.{outcomeOf}
+use Rattle.rules.proofs.inorder.InOrderSays.{in-order-says}
+use Rattle.layout.specs.Areas.{stateIn, sizesRight, areas, heldBy, holding, rightSizes}
+use Rattle.layout.specs.inner.Needed.{Ready}
+use Rattle.layout.proofs.Encoding.{right-lent, held-again, holding-is}
+use Rattle.inorder.specs.Areas.{areasInOrder, OrderIs}
+use Rattle.fetch_index.specs.inner.Index.{unranked}
+use Rattle.fetch_index.proofs.Kept.{new-kept}
+use Rattle.step_collect.specs.inner.Needed.{ReadyKept}
+use Rattle.step_act.specs.declared.Outcome.{Outcome}
+use Rattle.step_act.specs.declared.Outcome.the-variants.{Refused}
+use Rattle.step_act.specs.Telling.{Tells}
+use Rattle.step_act.proofs.Telling.{refused-tells}
 use Rattle.engine.specs.Promises.{answerOf, areasAfter}
-use Rattle.engine.specs.Needed.{SteppedAs, SteppedKept}
+use Rattle.engine.specs.inner.Needed.{SteppedAs, SteppedKept}
 
 -- ---- in order or not
 
@@ -63,11 +65,8 @@ module _ (c w r m : List ℕ) (b : Bool) (e : OrderIs b c w r m) where
         go false y = refl
 
     -- 1: "not in order"
-    pub out-of-order : Refused 1 ≡ outcomeOf (answerOf (areas c w r m) t)
-    unfolding outcomeOf refusedAs
-    out-of-order =
-        ap (λ (d : Bool). outcomeOf (cond d (answerInOrder mainframe (stateIn mainframe c w r m) t) (refusedAs 1))) (sym out)
-        ∙ ap (λ (a : Answer). outcomeOf a) (sym (answer-by-test c w r m t))
+    pub out-of-order : Tells (Refused 1) (answerOf (areas c w r m) t)
+    out-of-order = rw (answer-by-test c w r m t, out) (refused-tells 1 (λ e. omega (arith, e)))
 
     -- "every lent area untouched"
     pub out-of-order-untouched : areas c w r m ≡ areasAfter (areas c w r m) t
@@ -88,11 +87,8 @@ module _ (c w r m : List ℕ) (b : Bool) (e : OrderIs b c w r m) where
 
     module _ (t : Step) (x : Outcome) (c′ w′ r′ m′ : List ℕ) (d : SteppedAs (stateIn mainframe c w r m) t x c′ w′ r′ m′) where
       -- the step's answer
-      pub in-order-answered : x ≡ outcomeOf (answerOf (areas c w r m) t)
-      in-order-answered =
-          d .outcome
-          ∙ ap (λ (y : Bool). outcomeOf (cond y (answerInOrder mainframe (stateIn mainframe c w r m) t) (refusedAs 1))) (sym fine)
-          ∙ ap (λ (a : Answer). outcomeOf a) (sym (answer-by-test c w r m t))
+      pub in-order-answered : Tells x (answerOf (areas c w r m) t)
+      in-order-answered = rw (answer-by-test c w r m t, fine) (d .outcome)
 
       -- the step's areas
       pub in-order-after : areas c′ w′ r′ m′ ≡ areasAfter (areas c w r m) t

@@ -1,2 +1,4 @@
 pub mod Stepping
 pub mod Answering
+pub mod Carried
+pub mod CallsJudged

@@ -7,38 +7,24 @@ use mathlib.Core.List.{List}
 use lib.ListN.{length, take, drop}
 use borrow.Author.Tests.{not-true, not-false, eq-eqb, ne-eqb}
 use borrow.Author.Needs.{needs}
-use Rattle.limits.specs.Sizes.{boundArea, firstBound, indexArea}
-use Rattle.rules.specs.Refusals.{Step, stepOf, Answer, refusedAs, actionOf, effect, refusalInOrder, answerInOrder, nextInOrder, answer}
+use Rattle.limits.specs.inner.Sizes.{boundArea, firstBound, indexArea}
+use Rattle.rules.specs.Refusals.{Step, stepOf, refusedAs, actionOf, effect, refusalInOrder, answerInOrder, nextInOrder}
 use Rattle.rules.specs.State.{mainframe, State, own}
-use Rattle.rules.proofs.Kept.{next-keeps-order}
-use Rattle.memory.specs.Areas.{stateIn, Areas, areas, heldBy, holding, rightSizes}
-use Rattle.memory.specs.Needed.{Ready, OwnEntry, ClocksOf}
-use Rattle.memory.proofs.Encoding.{held-again, holding-is}
-use Rattle.refusals.specs.Bounds.{boundsOf}
-use Rattle.refusals.specs.Parts.{seen, stepFits, earlyRefusal, refusalOfKind}
-use Rattle.refusals.specs.Needed.{Counted, BoundsOf, FittingStep}
+use Rattle.rules.proofs.inorder.Kept.{next-keeps-order}
+use Rattle.layout.specs.Areas.{stateIn, areas, holding}
+use Rattle.layout.specs.inner.Needed.{Ready, OwnEntry, ClocksOf}
+use Rattle.layout.proofs.Encoding.{held-again, holding-is}
+use Rattle.refusals.specs.inner.Bounds.{boundsOf}
+use Rattle.refusals.specs.inner.Parts.{seen, stepFits, earlyRefusal, refusalOfKind}
+use Rattle.refusals.specs.inner.Needed.{MarksCountable, BoundsOf, FittingStep}
 use Rattle.refusals.proofs.Fitting.{bounds-are}
 use Rattle.refusals.proofs.Refusing.{counted-when-ready, table-decides, refusal-in-two, fitting-step}
-use Rattle.collecting.specs.Needed.{ReadyKept}
-use Rattle.acting.specs.declared.Outcome.{Outcome}
-use Rattle.acting.specs.declared.Outcome.the-variants.{Refused}
-use Rattle.acting.specs.Telling.{told}
-use Rattle.acting.specs.Outcomes.{outcomeOf}
-use Rattle.acting.specs.Needed.{DoneAs, DoneKept}
-use Rattle.acting.proofs.Telling.{told-refused, told-in-state}
-use Rattle.engine.specs.Promises.{answerOf}
-use Rattle.engine.specs.Needed.{RefusalIs, Refusable, RefusalBy, SteppedAs, SteppedKept}
-
--- ---- an outcome tells the answer of its step
-
--- in areas of any sizes and contents: the refusal, value and count of the outcome are those of the answer
-pub outcome-tells : (a : Areas) (t : Step) → told (outcomeOf (answerOf a t)) ≡ answerOf a t
-unfolding answerOf
-outcome-tells a t = go (rightSizes a)
-  where
-    go : (b : Bool) → told (outcomeOf (cond b (answer mainframe (heldBy a) t) (refusedAs 1))) ≡ cond b (answer mainframe (heldBy a) t) (refusedAs 1)
-    go true = told-in-state mainframe (heldBy a) t
-    go false = told-refused 1
+use Rattle.step_collect.specs.inner.Needed.{ReadyKept}
+use Rattle.step_act.specs.declared.Outcome.{Outcome}
+use Rattle.step_act.specs.declared.Outcome.the-variants.{Refused}
+use Rattle.step_act.specs.inner.Needed.{DoneAs, DoneKept}
+use Rattle.step_act.proofs.Telling.{refused-tells}
+use Rattle.engine.specs.inner.Needed.{RefusalIs, Refusable, RefusalBy, SteppedAs, SteppedKept}
 
 -- ---- refused, or done
 
@@ -59,10 +45,6 @@ module _ (s : State) (t : Step) (n : ℕ) (e : n ≡ refusalInOrder mainframe s 
   unfolding nextInOrder
   done-next z = rw (← e, eq-eqb n 0 z)
 
-refused-outcome : (n : ℕ) → (n ≡ 0 → ⊥) → Refused n ≡ outcomeOf (refusedAs n)
-unfolding outcomeOf refusedAs
-refused-outcome n z = rw (ne-eqb n 0 z)
-
 -- ---- the refusal by the bounds, the own entry and the marks
 
 module _ (c m x : List ℕ) (h : Refusable c m x) where
@@ -71,7 +53,7 @@ module _ (c m x : List ℕ) (h : Refusable c m x) where
   bounds-within = omega (arith, h .index)
 
   -- the marks count what they may
-  pub marks-counted : Counted m
+  pub marks-counted : MarksCountable m
   marks-counted = h .counted
 
   -- the part that is lent are the bounds of the marks
@@ -137,17 +119,17 @@ module _ (c w r m : List ℕ) (k p o v n : ℕ) (h : Ready c w r m) (e : Refusal
   refused-as : (n ≡ 0 → ⊥) → SteppedAs (stateIn mainframe c w r m) (stepOf k p o v) (Refused n) c w r m
   refused-as z =
       record {
-        outcome = refused-outcome n z ∙ ap (λ (a : Answer). outcomeOf a) (sym (refused-answer (stateIn mainframe c w r m) (stepOf k p o v) n (e .is) z));
+        outcome = rw (refused-answer (stateIn mainframe c w r m) (stepOf k p o v) n (e .is) z) (refused-tells n z);
         areas = record { lent = h .lent; is = sym (refused-next (stateIn mainframe c w r m) (stepOf k p o v) n (e .is) z) };
       }
 
   done-as : (x : Outcome) (c′ w′ r′ m′ : List ℕ) → n ≡ 0
       → DoneAs (effect mainframe (stateIn mainframe c w r m) p (actionOf (stepOf k p o v))) x c′ w′ r′ m′
       → SteppedAs (stateIn mainframe c w r m) (stepOf k p o v) x c′ w′ r′ m′
-  unfolding outcomeOf stepOf
+  unfolding stepOf
   done-as x c′ w′ r′ m′ z d =
       record {
-        outcome = d .outcome ∙ ap (λ (a : Answer). outcomeOf a) (sym (done-answer (stateIn mainframe c w r m) (stepOf k p o v) n (e .is) z));
+        outcome = rw (done-answer (stateIn mainframe c w r m) (stepOf k p o v) n (e .is) z) (d .outcome);
         areas = record { lent = d .areas .lent; is = d .areas .is ∙ sym (done-next (stateIn mainframe c w r m) (stepOf k p o v) n (e .is) z) };
       }
 

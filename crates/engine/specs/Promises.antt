@@ -2,7 +2,7 @@
 use mathlib.Core.Bool.{cond}
 use Rattle.rules.specs.Refusals.{Step, Answer, refusedAs, answer, next}
 use Rattle.rules.specs.State.{mainframe}
-use Rattle.memory.specs.Areas.{Areas, heldBy, holding, rightSizes}
+use Rattle.layout.specs.Areas.{Areas, heldBy, holding, rightSizes}
 
 -- what a step answers: 1 for areas of a wrong size, else the rules' answer
 unfoldable pub answerOf : Areas → Step → Answer

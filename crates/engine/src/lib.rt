@@ -3,17 +3,17 @@
 ghost use mathlib.Core.Path.{_≡_};
 ghost use Rattle.rules.specs.State.{mainframe};
 ghost use Rattle.rules.specs.Refusals.{stepOf};
-ghost use Rattle.memory.specs.Areas.{stateIn, areas};
-ghost use Rattle.memory.specs.Needed.{Ready};
-ghost use Rattle.collecting.specs.Needed.{ReadyKept};
-ghost use Rattle.acting.specs.Outcomes.{outcomeOf};
+ghost use Rattle.layout.specs.Areas.{stateIn, areas};
+ghost use Rattle.layout.specs.inner.Needed.{Ready};
+ghost use Rattle.step_collect.specs.inner.Needed.{ReadyKept};
+ghost use Rattle.step_act.specs.Telling.{Tells};
 ghost use Rattle.engine.specs.Promises.{answerOf, areasAfter};
-ghost use Rattle.engine.specs.Needed.{Refusable, RefusalBy, SteppedAs, SteppedKept};
-use acting::Outcome;
+ghost use Rattle.engine.specs.inner.Needed.{Refusable, RefusalBy, SteppedAs, SteppedKept};
 use clock::ProcessorId;
+use layout::own_entry;
 use limits::FIRST_BOUND;
 use limits::INDEX_AREA;
-use memory::own_entry;
+use step_act::Outcome;
 
 // A step on areas of any sizes and contents: 1 where they are not in order, else what the step answers and does.
 pub fn step(
@@ -26,10 +26,10 @@ pub fn step(
     records: &mut [u8],
     marks: &mut [u8],
 ) -> Outcome
-    ensures answer { λ r. ⌜ r ≡ outcomeOf (answerOf (areas (now (clocks .entry)) (now (words .entry)) (now (records .entry)) (now (marks .entry))) (stepOf kind processor object value)) ⌝ }
+    ensures answer { λ r. ⌜ Tells r (answerOf (areas (now (clocks .entry)) (now (words .entry)) (now (records .entry)) (now (marks .entry))) (stepOf kind processor object value)) ⌝ }
     ensures memory { λ r. ⌜ areas (now (clocks .exit)) (now (words .exit)) (now (records .exit)) (now (marks .exit)) ≡ areasAfter (areas (now (clocks .entry)) (now (words .entry)) (now (records .entry)) (now (marks .entry))) (stepOf kind processor object value) ⌝ }
 {
-    if !checking::in_order(clocks, words, records, marks) {
+    if !inorder::in_order(clocks, words, records, marks) {
         return Outcome::Refused(1);
     }
     step_once(
@@ -58,7 +58,7 @@ fn step_once(
     requires { ⌜ Ready (now clocks) (now words) (now records) (now marks) ⌝ }
     ensures { λ r. ⌜ SteppedAs (stateIn mainframe (now (clocks .entry)) (now (words .entry)) (now (records .entry)) (now (marks .entry))) (stepOf kind processor object value) r (now (clocks .exit)) (now (words .exit)) (now (records .exit)) (now (marks .exit)) ⌝ }
 {
-    let mut index = index::new_index(marks);
+    let mut index = fetch_index::new_index(marks);
     step_on(
         kind,
         processor,
@@ -91,7 +91,7 @@ pub fn step_on(
     if refusal != 0 {
         return Outcome::Refused(refusal);
     }
-    acting::act(
+    step_act::act(
         kind,
         ProcessorId(processor as usize),
         object as usize,

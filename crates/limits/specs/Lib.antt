@@ -1,2 +1,4 @@
 pub mod Limits
-pub mod Sizes
+pub mod Places
+pub mod Files
+pub mod inner

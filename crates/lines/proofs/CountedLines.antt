@@ -8,12 +8,13 @@ use mathlib.Core.List.{List, [], _∷_, _++_, append-assoc}
 use lib.ListN.{length, take, drop, getD, set, length-append, length-drop, length-set, take-append-drop}
 use lib.Seq.{length-take-le, sets, take-all, take-suc}
 use borrow.Author.Needs.{needs}
-use Rattle.limits.specs.Limits.{lineLimit}
+use Rattle.lists.proofs.Stores.{sets-append, sets-over}
+use Rattle.limits.specs.Files.{lineLimit}
 use Rattle.lines.specs.Decimal.{digits}
 use Rattle.lines.specs.Lines.{lineBytes}
-use Rattle.lines.specs.Needed.{Room, Put, fieldBytes, halfBytes, Counted, EightFit, ShortFits, behindNumber}
+use Rattle.lines.specs.inner.Needed.{Room, Put, fieldBytes, halfBytes, Counted, EightFit, ShortFits, behindNumber}
 use Rattle.lines.proofs.Digits.{digits-one, some-digit}
-use Rattle.lines.proofs.Lines.{length-line, sets-append, sets-over}
+use Rattle.lines.proofs.Lines.{length-line}
 use Rattle.lines.proofs.Writing.{put-keeps-length, sets-keep-length}
 
 -- ---- eight bytes stored

@@ -11,7 +11,7 @@ use lib.Dec.{ltb}
 use borrow.Author.Tests.{lt-ltb, le-ltb}
 use borrow.Author.Needs.{needs}
 use Rattle.lines.specs.Decimal.{digits}
-use Rattle.lines.specs.Needed.{DigitsFit, Eight, Counted, Countable}
+use Rattle.lines.specs.inner.Needed.{DigitsFit, Eight, Counted, Countable}
 use Rattle.lines.proofs.Digits.{by-digits, digits-one, digits-more, digits-at-most, some-digit}
 
 -- ---- the digits of a number and of the next

@@ -9,8 +9,9 @@ use mathlib.Core.List.{List, [], _∷_, _++_, append-assoc}
 use lib.ListN.{length, getD, length-append}
 use lib.Dec.{ltb}
 use borrow.Author.Tests.{ltb-true, ltb-false, lt-ltb, le-ltb}
-use Rattle.lines.specs.Decimal.{digitsWithin, digits, valueAfter, valueOf}
-use Rattle.lines.specs.Needed.{pairBytes}
+use Rattle.lines.specs.Decimal.{digitsWithin, digits}
+use Rattle.lines.specs.inner.Values.{valueAfter, valueOf}
+use Rattle.lines.specs.inner.Needed.{digitPair}
 
 -- ---- one digit more
 
@@ -40,14 +41,14 @@ digits-more n h =
     rw (add-one n, le-ltb n 10 h) (ap (λ (ds : List ℕ). ds ++ (48 + n % 10) ∷ []) (within-any n (n / 10 + 1) (n / 10) (omega arith) (omega arith)))
 
 -- a number of two digits is a pair
-pub digits-two : (n : ℕ) → 10 ≤ n → n < 100 → digits n ≡ pairBytes n
-unfolding pairBytes
+pub digits-two : (n : ℕ) → 10 ≤ n → n < 100 → digits n ≡ digitPair n
+unfolding digitPair
 digits-two n h k =
     digits-more n h ∙ ap (λ (ds : List ℕ). ds ++ (48 + n % 10) ∷ []) (digits-one (n / 10) (omega arith))
 
 -- a larger one has the digits of its hundredth and a pair more
-pub digits-pair-more : (n : ℕ) → 100 ≤ n → digits n ≡ digits (n / 100) ++ pairBytes (n % 100)
-unfolding pairBytes
+pub digits-pair-more : (n : ℕ) → 100 ≤ n → digits n ≡ digits (n / 100) ++ digitPair (n % 100)
+unfolding digitPair
 digits-pair-more n h =
     let tens : n / 10 % 10 ≡ n % 100 / 10 = omega arith in
     let ones : n % 10 ≡ n % 100 % 10 = omega arith in
@@ -102,13 +103,13 @@ length-more n h = ap length (digits-more n h) ∙ length-append (digits (n / 10)
 
 -- a number from 10 to 99 has two
 pub length-two : (n : ℕ) → 10 ≤ n → n < 100 → length (digits n) ≡ 2
-unfolding pairBytes
+unfolding digitPair
 length-two n h k = ap length (digits-two n h k)
 
 -- a number of at least 100 has two more than its hundredth
 pub length-pair-more : (n : ℕ) → 100 ≤ n → length (digits n) ≡ length (digits (n / 100)) + 2
-unfolding pairBytes
-length-pair-more n h = ap length (digits-pair-more n h) ∙ length-append (digits (n / 100)) (pairBytes (n % 100))
+unfolding digitPair
+length-pair-more n h = ap length (digits-pair-more n h) ∙ length-append (digits (n / 100)) (digitPair (n % 100))
 
 -- a number of at least 10000 has four more than its part above the last four
 pub length-four-more : (n : ℕ) → 10000 ≤ n → length (digits n) ≡ 4 + length (digits (n / 10000))

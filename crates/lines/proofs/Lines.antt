@@ -1,15 +1,13 @@
 -- How long a line is, its bytes as two halves, and bytes stored part by part. Assumes nothing.
-use Prim.Native.Nat.{ℕ, suc, _+_, _^_, _≤_, _<_}
+use Prim.Native.Nat.{ℕ, _+_, _^_, _≤_, _<_}
 use native.Mathlib.Omega.{arith}
-use native.Mathlib.Nat.{add-zero}
-use mathlib.Core.Path.{_≡_, refl, sym, ap, _∙_}
-use mathlib.Core.List.{List, [], _∷_, _++_, append-assoc}
-use lib.ListN.{length, set, length-append}
-use lib.Seq.{set-comm, set-set, sets}
-use Rattle.limits.specs.Limits.{lineLimit}
+use mathlib.Core.Path.{_≡_, refl}
+use mathlib.Core.List.{[], _∷_, _++_, append-assoc}
+use lib.ListN.{length, length-append}
+use Rattle.limits.specs.Files.{lineLimit}
 use Rattle.lines.specs.Decimal.{digitsWithin, digits}
 use Rattle.lines.specs.Lines.{lineBytes}
-use Rattle.lines.specs.Needed.{fieldBytes, halfBytes}
+use Rattle.lines.specs.inner.Needed.{fieldBytes, halfBytes}
 use Rattle.lines.proofs.Digits.{at-most-ten-digits}
 
 -- a line is its two halves, one behind the other
@@ -28,38 +26,6 @@ pub at-most-44-bytes : (number refusal value count : ℕ) → number < 2 ^ 32 �
     → length (lineBytes number refusal value count) ≤ lineLimit
 at-most-44-bytes number refusal value count a b c d =
     omega (arith, length-line number refusal value count, at-most-ten-digits number a, at-most-ten-digits refusal b, at-most-ten-digits value c, at-most-ten-digits count d)
-
--- ---- stores, one part after the other
-
--- two lists in a row are stored one behind the other
-pub sets-append : (l : List ℕ) (i : ℕ) (vs ws : List ℕ) → sets l i (vs ++ ws) ≡ sets (sets l i vs) (i + length vs) ws
-sets-append l i [] ws = ap (λ (n : ℕ). sets l n ws) (sym (add-zero i))
-sets-append l i (v ∷ vs) ws =
-    sets-append (set l i v) (suc i) vs ws ∙ ap (λ (n : ℕ). sets (sets (set l i v) (suc i) vs) n ws) (omega arith)
-
--- a byte before others may be stored after them
-set-after : (l : List ℕ) (i k v : ℕ) (ws : List ℕ) → i < k → sets (set l i v) k ws ≡ set (sets l k ws) i v
-set-after l i k v [] h = refl
-set-after l i k v (w ∷ ws) h =
-    ap (λ (m : List ℕ). sets m (suc k) ws) (set-comm l i k v w (λ e. omega arith)) ∙ set-after (set l k w) i (suc k) v ws (omega arith)
-
--- of two lists in a row, the last may be stored first
-pub sets-last-first : (l : List ℕ) (i : ℕ) (vs ws : List ℕ) → sets l i (vs ++ ws) ≡ sets (sets l (i + length vs) ws) i vs
-sets-last-first l i [] ws = ap (λ (n : ℕ). sets l n ws) (sym (add-zero i))
-sets-last-first l i (x ∷ vs) ws =
-    let place : suc i + length vs ≡ i + length (x ∷ vs) = omega arith in
-    sets-last-first (set l i x) (suc i) vs ws
-    ∙ ap (λ (n : ℕ). sets (sets (set l i x) n ws) (suc i) vs) place
-    ∙ ap (λ (m : List ℕ). sets m (suc i) vs) (set-after l i (i + length (x ∷ vs)) x ws (omega arith))
-
--- what is stored over others, as many at least, leaves nothing of them
-pub sets-over : (l : List ℕ) (i : ℕ) (vs ws : List ℕ) → length vs ≤ length ws → sets (sets l i vs) i ws ≡ sets l i ws
-sets-over l i [] ws h = refl
-sets-over l i (v ∷ vs) [] h = absurd (omega arith)
-sets-over l i (v ∷ vs) (w ∷ ws) h =
-    ap (λ (m : List ℕ). sets (set m i w) (suc i) ws) (set-after l i (suc i) v vs (omega arith))
-    ∙ ap (λ (m : List ℕ). sets m (suc i) ws) (set-set (sets l (suc i) vs) i v w ∙ sym (set-after l i (suc i) w vs (omega arith)))
-    ∙ sets-over (set l i w) (suc i) vs ws (omega arith)
 
 -- ---- lines of Listing A, and the largest number
 

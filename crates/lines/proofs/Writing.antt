@@ -12,13 +12,14 @@ use mir.Syntax.{w32}
 use mir.Val.{Fits}
 use borrow.Author.Tests.{leb-true, leb-false, not-true, not-false, le-leb, lt-leb}
 use borrow.Author.Needs.{needs}
-use Rattle.limits.specs.Limits.{lineLimit}
+use Rattle.lists.proofs.Stores.{sets-append, sets-last-first}
+use Rattle.limits.specs.Files.{lineLimit}
 use Rattle.lines.specs.Decimal.{digits}
-use Rattle.lines.specs.Lines.{lineBytes, lineFits, lineAnswer, lineLeft}
-use Rattle.lines.specs.Needed.{Room, DigitsFit, PairFits, Put, pairBytes, fieldBytes, halfBytes}
+use Rattle.lines.specs.Lines.{lineBytes, lineFits, lineAnswer, placeSaid, lineLeft}
 use Rattle.lines.specs.declared.Placed.the-variants.{End, NoRoom}
+use Rattle.lines.specs.inner.Needed.{Room, DigitsFit, PairFits, Put, digitPair, fieldBytes, halfBytes}
 use Rattle.lines.proofs.Digits.{digits-one, digits-two, digits-pair-more, length-two, length-pair-more, length-four-more, at-most-ten-digits}
-use Rattle.lines.proofs.Lines.{line-is-halves, sets-append, sets-last-first}
+use Rattle.lines.proofs.Lines.{line-is-halves}
 
 -- ---- how many digits
 
@@ -60,8 +61,8 @@ module _ (out : List ℕ) (at pair : ℕ) where
   pub second-place : PairFits out at pair → (v : ℕ) → at + 1 < length (set out at v)
   second-place p v = simp length-set (omega (arith, p .room))
 
-  pub pair-stored : set (set out at (48 + pair / 10)) (at + 1) (48 + pair % 10) ≡ sets out at (pairBytes pair)
-  unfolding pairBytes
+  pub pair-stored : set (set out at (48 + pair / 10)) (at + 1) (48 + pair % 10) ≡ sets out at (digitPair pair)
+  unfolding digitPair
   pair-stored = ap (λ (k : ℕ). set (set out at (48 + pair / 10)) k (48 + pair % 10)) (add-one at)
 
 -- the last digits of n are stored; those of rest, which end before i, are left
@@ -83,11 +84,11 @@ module _ (out₀ out : List ℕ) (at n i rest : ℕ) (p : Storing out₀ out at 
   pub room-for-pair : 100 ≤ rest → PairFits out (i - 2) (rest % 100)
   room-for-pair h = record { two = omega arith; room = omega (arith, p .room, pair-before h) }
 
-  pub storing-more : (out′ : List ℕ) → 100 ≤ rest → out′ ≡ sets out (i - 2) (pairBytes (rest % 100)) → Storing out₀ out′ at n (i - 2) (rest / 100)
+  pub storing-more : (out′ : List ℕ) → 100 ≤ rest → out′ ≡ sets out (i - 2) (digitPair (rest % 100)) → Storing out₀ out′ at n (i - 2) (rest / 100)
   storing-more out′ h e =
       let more = length-pair-more rest h in
       let here : at + length (digits (rest / 100)) ≡ i - 2 = omega (arith, p .place) in
-      let long = sets-keep-length out out′ (i - 2) (pairBytes (rest % 100)) e in
+      let long = sets-keep-length out out′ (i - 2) (digitPair (rest % 100)) e in
       record {
         place = sym here;
         room = omega (arith, p .room);
@@ -95,8 +96,8 @@ module _ (out₀ out : List ℕ) (at n i rest : ℕ) (p : Storing out₀ out at 
         same =
             p .same
             ∙ ap (λ (l : List ℕ). sets out at l) (digits-pair-more rest h)
-            ∙ sets-last-first out at (digits (rest / 100)) (pairBytes (rest % 100))
-            ∙ ap (λ (k : ℕ). sets (sets out k (pairBytes (rest % 100))) at (digits (rest / 100))) here
+            ∙ sets-last-first out at (digits (rest / 100)) (digitPair (rest % 100))
+            ∙ ap (λ (k : ℕ). sets (sets out k (digitPair (rest % 100))) at (digits (rest / 100))) here
             ∙ ap (λ (l : List ℕ). sets l at (digits (rest / 100))) (sym e);
       }
 
@@ -109,7 +110,7 @@ module _ (out₀ out : List ℕ) (at n i rest : ℕ) (p : Storing out₀ out at 
   pub room-for-first-pair : 10 ≤ rest → rest < 100 → PairFits out at rest
   room-for-first-pair h k = record { two = k; room = omega (arith, p .place, p .room, length-two rest h k) }
 
-  pub first-pair-stored : (out′ : List ℕ) → 10 ≤ rest → rest < 100 → out′ ≡ sets out at (pairBytes rest) → out′ ≡ sets out₀ at (digits n)
+  pub first-pair-stored : (out′ : List ℕ) → 10 ≤ rest → rest < 100 → out′ ≡ sets out at (digitPair rest) → out′ ≡ sets out₀ at (digits n)
   first-pair-stored out′ h k e = e ∙ sym (p .same ∙ ap (λ (l : List ℕ). sets out at l) (digits-two rest h k))
 
 -- ---- one number
@@ -218,8 +219,8 @@ module _ (bytes at : ℕ) where
 
 -- `line_into` by what `line_fits` says
 module _ (out : List ℕ) (at number refusal value count : ℕ) (r : Bool) (is : r ≡ lineFits (length out) at) where
-  pub no-room-answered : not r ≡ true → NoRoom ≡ lineAnswer out at number refusal value count
-  unfolding lineAnswer
+  pub no-room-answered : not r ≡ true → placeSaid NoRoom ≡ lineAnswer out at number refusal value count
+  unfolding lineAnswer placeSaid
   no-room-answered h = rw (sym is ∙ not-true r h)
 
   pub no-room-untouched : not r ≡ true → out ≡ lineLeft out at number refusal value count
@@ -227,8 +228,8 @@ module _ (out : List ℕ) (at number refusal value count : ℕ) (r : Bool) (is :
   no-room-untouched h = rw (sym is ∙ not-true r h)
 
   module _ (h : not r ≡ false) where
-    pub end-answered : (end : ℕ) → end ≡ at + length (lineBytes number refusal value count) → End end ≡ lineAnswer out at number refusal value count
-    unfolding lineAnswer
+    pub end-answered : (end : ℕ) → end ≡ at + length (lineBytes number refusal value count) → placeSaid (End end) ≡ lineAnswer out at number refusal value count
+    unfolding lineAnswer placeSaid
     end-answered end e = rw (sym is ∙ not-false r h, e)
 
     pub line-left : (out′ : List ℕ) → out′ ≡ sets out at (lineBytes number refusal value count) → out′ ≡ lineLeft out at number refusal value count

@@ -1,5 +1,5 @@
--- A number in base ten as bytes of ASCII, and what such bytes say when read back. Assumes nothing.
-use Prim.Native.Nat.{ℕ, zero, suc, _+_, _-_, _*_, _/_, _%_}
+-- A number in base ten as bytes of ASCII. Assumes nothing.
+use Prim.Native.Nat.{ℕ, zero, suc, _+_, _-_, _/_, _%_}
 use mathlib.Core.Bool.{cond}
 use mathlib.Core.List.{List, [], _∷_, _++_}
 use lib.Dec.{ltb}
@@ -14,12 +14,3 @@ digitsWithin (suc most) n =
 -- the digits of a number in base ten with no leading zeros: 0 is "0", 700 is "700"
 unfoldable pub digits : ℕ → List ℕ
 digits n = digitsWithin (n + 1) n
-
--- the number that digits say, where those before them say `before`
-unfoldable pub valueAfter : ℕ → List ℕ → ℕ
-valueAfter before [] = before
-valueAfter before (b ∷ bs) = valueAfter (10 * before + (b - 48)) bs
-
--- the number that digits say
-unfoldable pub valueOf : List ℕ → ℕ
-valueOf bs = valueAfter 0 bs

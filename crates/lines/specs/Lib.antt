@@ -1,3 +1,3 @@
 pub mod Decimal
 pub mod Lines
-pub mod Needed
+pub mod inner

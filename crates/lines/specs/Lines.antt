@@ -1,11 +1,12 @@
 -- Document 01, "The step file and run program": the line of a record, and what writing one into lent memory answers and leaves. Assumes nothing.
 use Prim.Native.Nat.{ℕ, _+_}
 use mathlib.Core.Bool.{Bool, cond}
+use mathlib.Core.Option.{Option, none, some}
 use mathlib.Core.List.{List, [], _∷_, _++_}
 use lib.ListN.{length}
 use lib.Seq.{sets}
 use lib.Dec.{leb}
-use Rattle.limits.specs.Limits.{lineLimit}
+use Rattle.limits.specs.Files.{lineLimit}
 use Rattle.lines.specs.Decimal.{digits}
 use Rattle.lines.specs.declared.Placed.{Placed}
 use Rattle.lines.specs.declared.Placed.the-variants.{End, NoRoom}
@@ -19,9 +20,14 @@ unfoldable pub lineFits : ℕ → ℕ → Bool
 lineFits bytes at = leb (at + lineLimit) bytes
 
 -- what `line_into` answers: the place behind the line, or that there is no room
-unfoldable pub lineAnswer : List ℕ → ℕ → ℕ → ℕ → ℕ → ℕ → Placed
+unfoldable pub lineAnswer : List ℕ → ℕ → ℕ → ℕ → ℕ → ℕ → Option ℕ
 lineAnswer out at number refusal value count =
-    cond (lineFits (length out) at) (End (at + length (lineBytes number refusal value count))) NoRoom
+    cond (lineFits (length out) at) (some (at + length (lineBytes number refusal value count))) none
+
+-- what each case of its answer says: a place, or none
+unfoldable pub placeSaid : Placed → Option ℕ
+placeSaid (End place) = some place
+placeSaid NoRoom = none
 
 -- what `line_into` leaves: the line from a place on, or all as it was
 unfoldable pub lineLeft : List ℕ → ℕ → ℕ → ℕ → ℕ → ℕ → List ℕ

@@ -3,10 +3,10 @@ ghost use mathlib.Core.Path.{_≡_};
 ghost use Prim.Native.Nat.{_+_, _≤_, _<_};
 ghost use lib.ListN.{length};
 ghost use lib.Seq.{sets};
-ghost use Rattle.limits.specs.Limits.{lineLimit};
+ghost use Rattle.limits.specs.Files.{lineLimit};
 ghost use Rattle.lines.specs.Decimal.{digits};
-ghost use Rattle.lines.specs.Lines.{lineBytes, lineFits, lineAnswer, lineLeft};
-ghost use Rattle.lines.specs.Needed.{Room, DigitsFit, PairFits, Put, pairBytes, fieldBytes, halfBytes, Eight, Counted, Countable, EightFit, ShortFits, behindNumber};
+ghost use Rattle.lines.specs.Lines.{lineBytes, lineFits, lineAnswer, placeSaid, lineLeft};
+ghost use Rattle.lines.specs.inner.Needed.{Room, DigitsFit, PairFits, Put, digitPair, fieldBytes, halfBytes, Eight, Counted, Countable, EightFit, ShortFits, behindNumber};
 use limits::LINE_LIMIT;
 
 // What writing a line answers: the place behind it, or that the longest line would not fit.
@@ -24,7 +24,7 @@ pub fn line_into(
     value: u32,
     count: u32,
 ) -> Placed
-    ensures answer { λ r. ⌜ r ≡ lineAnswer (now (out .entry)) at number refusal value count ⌝ }
+    ensures answer { λ r. ⌜ placeSaid r ≡ lineAnswer (now (out .entry)) at number refusal value count ⌝ }
     ensures memory { λ r. ⌜ now (out .exit) ≡ lineLeft (now (out .entry)) at number refusal value count ⌝ }
 {
     if !line_fits(out.len(), at) {
@@ -247,7 +247,7 @@ fn put_digits(out: &mut [u8], at: usize, len: usize, n: u32)
 // Writes the two digits of a number below 100, of which the first may be a zero.
 fn put_pair(out: &mut [u8], at: usize, pair: u32)
     requires { ⌜ PairFits (now out) at pair ⌝ }
-    ensures { λ _. ⌜ now (out .exit) ≡ sets (now (out .entry)) at (pairBytes pair) ⌝ }
+    ensures { λ _. ⌜ now (out .exit) ≡ sets (now (out .entry)) at (digitPair pair) ⌝ }
 {
     out[at] = (48 + pair / 10) as u8;
     out[at + 1] = (48 + pair % 10) as u8;

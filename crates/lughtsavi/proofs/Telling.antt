@@ -8,16 +8,14 @@ use lib.ListN.{length, set}
 use borrow.Author.Tests.{eq-eqb, ne-eqb}
 use borrow.Author.Needs.{needs}
 use Rattle.rules.specs.Refusals.{Step, Answer}
-use Rattle.memory.specs.Areas.{Areas}
-use Rattle.acting.specs.Telling.{outcomeRefusal, outcomeValue, outcomeCount, told}
-use Rattle.acting.specs.Outcomes.{outcomeOf}
-use Rattle.acting.specs.declared.Outcome.{Outcome}
-use Rattle.acting.specs.declared.Outcome.the-variants.{Done, Refused}
+use Rattle.layout.specs.Areas.{Areas}
+use Rattle.step_act.specs.Telling.{outcomeRefusal, outcomeValue, outcomeCount, told, Tells}
+use Rattle.step_act.specs.declared.Outcome.{Outcome}
+use Rattle.step_act.specs.declared.Outcome.the-variants.{Done, Refused}
 use Rattle.engine.specs.Promises.{answerOf, areasAfter}
-use Rattle.engine.proofs.Stepping.{outcome-tells}
-use Rattle.records.specs.Records.{answerWords}
+use Rattle.step_record.specs.Records.{answerWords}
 use Rattle.lughtsavi.specs.Numbers.{slices, stepReturn, slicesAfter}
-use Rattle.lughtsavi.specs.Needed.{ToldAs}
+use Rattle.lughtsavi.specs.inner.Needed.{ToldAs}
 
 -- three words laid into three
 pub three-laid : (l : List ℕ) (x y z : ℕ) → length l ≡ 3 → set (set (set l 0 x) 1 y) 2 z ≡ x ∷ y ∷ z ∷ []
@@ -49,17 +47,13 @@ module _ (out : List ℕ) (a : Areas) (t : Step) where
   unfolding slicesAfter
   no-three-untouched z = rw (ne-eqb (length out) 3 z)
 
-  module _ (z : length out ≡ 3) (o : Outcome) (is : o ≡ outcomeOf (answerOf a t)) (n : ℕ) (out′ : List ℕ) (h : ToldAs o n out′) where
-    -- what the outcome tells is the step's answer
-    tells : told o ≡ answerOf a t
-    tells = ap (λ (x : Outcome). told x) is ∙ outcome-tells a t
-
+  module _ (z : length out ≡ 3) (o : Outcome) (is : Tells o (answerOf a t)) (n : ℕ) (out′ : List ℕ) (h : ToldAs o n out′) where
     pub step-returned : n ≡ stepReturn out a t
     unfolding stepReturn told
-    step-returned = h .returned ∙ ap (λ (x : Answer). x .refusal) tells ∙ rw (eq-eqb (length out) 3 z)
+    step-returned = h .returned ∙ ap (λ (x : Answer). x .refusal) (is .numbers) ∙ rw (eq-eqb (length out) 3 z)
 
     pub step-told : (a′ : Areas) → a′ ≡ areasAfter a t → slices out′ a′ ≡ slicesAfter out a t
     unfolding slicesAfter
-    step-told a′ e = rw (h .laid, tells, e, eq-eqb (length out) 3 z)
+    step-told a′ e = rw (h .laid, is .numbers, e, eq-eqb (length out) 3 z)
 
 pub ruleset telling-laws = (three-laid, done-told, refused-told, no-three-refused, no-three-untouched, step-returned, step-told, needs)

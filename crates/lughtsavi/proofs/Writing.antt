@@ -2,21 +2,22 @@
 -- of the code, and `writing-laws`. Assumes nothing.
 use Prim.Native.Nat.{ℕ, _+_, _≤_, _<_}
 use native.Mathlib.Omega.{arith}
-use mathlib.Core.Path.{_≡_, refl, ap, _∙_}
+use mathlib.Core.Path.{_≡_, refl, sym, ap, _∙_}
 use mathlib.Core.Bool.{Bool, true, false, cond, not, _&&_, and-eq-true-iff}
 use mathlib.Core.List.{List}
 use lib.ListN.{length}
 use lib.Dec.{eqb, ltb}
-use borrow.Author.Tests.{eqb-true, eq-eqb, ne-eqb}
+use borrow.Author.Tests.{eqb-true, eqb-false, eq-eqb, ne-eqb}
 use borrow.Author.Needs.{needs}
 use Rattle.limits.specs.Limits.{pageWidth}
-use Rattle.limits.specs.Sizes.{diffLimit}
+use Rattle.limits.specs.inner.Sizes.{diffLimit}
 use Rattle.diff.specs.Format.{written}
-use Rattle.writer.specs.Answers.{writeRefusal, writeAnswer}
-use Rattle.writer.specs.declared.Written.{Written}
-use Rattle.writer.specs.declared.Written.the-variants.{Length, Refused}
 use Rattle.diff.proofs.Theorems.{at-most-131-bytes}
-use Rattle.lughtsavi.specs.Numbers.{writtenNumber}
+use Rattle.diff_writer.specs.Answers.{writeRefusal, WriteAnswer, writeAnswer, saidBy, wasWritten, Says}
+use Rattle.diff_writer.specs.declared.Written.{Written}
+use Rattle.diff_writer.specs.declared.Written.the-variants.{Length, Refused}
+use Rattle.lughtsavi.specs.Numbers.{writeReturn}
+use Rattle.lughtsavi.specs.inner.Needed.{writtenNumber}
 
 -- ---- a length and a refusal are not mistaken for one another
 
@@ -45,31 +46,36 @@ module _ (old new out : List ℕ) where
       at-most-131-bytes old new (eqb-true _ _ (both .0)) (eqb-true _ _ (both .1))
 
   -- written: the number is at most 131
-  pub written-at-most-131 : writeRefusal pageWidth old new out ≡ 0 → writtenNumber (writeAnswer pageWidth old new out) ≤ diffLimit
-  unfolding writeAnswer writtenNumber
+  pub written-at-most-131 : writeRefusal pageWidth old new out ≡ 0 → writeReturn (writeAnswer pageWidth old new out) ≤ diffLimit
+  unfolding writeAnswer writeReturn
   written-at-most-131 z = rw (eq-eqb (writeRefusal pageWidth old new out) 0 z) (diff-at-most-131 z)
 
   -- refused: it is 256 + the refusal
-  pub refused-from-256 : (writeRefusal pageWidth old new out ≡ 0 → ⊥) → writtenNumber (writeAnswer pageWidth old new out) ≡ 256 + writeRefusal pageWidth old new out
-  unfolding writeAnswer writtenNumber
-  refused-from-256 z = rw (ne-eqb (writeRefusal pageWidth old new out) 0 z)
+  pub refused-from-256 : (writeRefusal pageWidth old new out ≡ 0 → ⊥) → writeReturn (writeAnswer pageWidth old new out) ≡ 256 + writeRefusal pageWidth old new out
+  unfolding writeAnswer writeReturn
+  refused-from-256 z = let e = ne-eqb (writeRefusal pageWidth old new out) 0 z in rw e (rw e)
 
   -- either has 32 bits
-  answer-small : writtenNumber (writeAnswer pageWidth old new out) < 4294967296
-  unfolding writeAnswer writtenNumber
+  answer-small : writeReturn (writeAnswer pageWidth old new out) < 4294967296
   answer-small = go (eqb (writeRefusal pageWidth old new out) 0) refl
     where
-      go : (b : Bool) → eqb (writeRefusal pageWidth old new out) 0 ≡ b
-          → writtenNumber (cond b (Length (length (written old new))) (Refused (writeRefusal pageWidth old new out))) < 4294967296
-      go true e = omega (arith, diff-at-most-131 (eqb-true _ _ e))
-      go false e = omega (arith, refusal-at-most-14)
+      go : (b : Bool) → eqb (writeRefusal pageWidth old new out) 0 ≡ b → writeReturn (writeAnswer pageWidth old new out) < 4294967296
+      go true e = omega (arith, written-at-most-131 (eqb-true _ _ e))
+      go false e = omega (arith, refused-from-256 (eqb-false _ _ e), refusal-at-most-14)
+
+-- ---- the number of what `write` answers
+
+number-returned : (x : Written) (a : WriteAnswer) → Says x a → writtenNumber x ≡ writeReturn a
+unfolding writtenNumber writeReturn saidBy wasWritten
+number-returned (Length n) a h = ap (λ (b : WriteAnswer). writeReturn b) (h .numbers)
+number-returned (Refused n) a h = sym (rw (← h .accepted) (ap (λ (b : WriteAnswer). 256 + b .refusal) (sym (h .numbers))))
 
 -- ---- the ways of the code
 
 module _ (x : Written) where
   -- what is written has a number of 32 bits
-  pub written-small : (old new out : List ℕ) → x ≡ writeAnswer pageWidth old new out → writtenNumber x < 4294967296
-  written-small old new out e = rw e (answer-small old new out)
+  pub written-small : (old new out : List ℕ) → Says x (writeAnswer pageWidth old new out) → writtenNumber x < 4294967296
+  written-small old new out h = rw (number-returned x (writeAnswer pageWidth old new out) h) (answer-small old new out)
 
   module _ (n : ℕ) where
     -- a length
@@ -87,7 +93,7 @@ module _ (x : Written) where
     refusal-numbered m e w = rw (e, w .0)
 
     -- the number of the answer
-    pub answer-numbered : (old new out : List ℕ) → x ≡ writeAnswer pageWidth old new out → n ≡ writtenNumber x → n ≡ writtenNumber (writeAnswer pageWidth old new out)
-    answer-numbered old new out e k = k ∙ ap (λ (y : Written). writtenNumber y) e
+    pub answer-numbered : (old new out : List ℕ) → Says x (writeAnswer pageWidth old new out) → n ≡ writtenNumber x → n ≡ writeReturn (writeAnswer pageWidth old new out)
+    answer-numbered old new out h k = k ∙ number-returned x (writeAnswer pageWidth old new out) h
 
 pub ruleset writing-laws = (written-small, length-small, length-numbered, refusal-numbered, answer-numbered, needs)

@@ -1,16 +1,15 @@
--- What the functions for C and Rust answer where the engine or the diffs answer an enum: document 01's numbers, and what a step leaves in
--- the slices lent to it. Assumes nothing.
+-- What the functions for C and Rust return where the engine or the diffs answer several numbers, and what a step leaves in the slices lent
+-- to it. Assumes nothing.
 use Prim.Native.Nat.{ℕ, _+_}
 use mathlib.Core.Bool.{cond}
 use mathlib.Core.List.{List, [], _∷_}
 use lib.ListN.{length}
 use lib.Dec.{eqb}
+use Rattle.diff_writer.specs.Answers.{WriteAnswer}
 use Rattle.rules.specs.Refusals.{Step}
-use Rattle.memory.specs.Areas.{Areas}
-use Rattle.writer.specs.declared.Written.{Written}
-use Rattle.writer.specs.declared.Written.the-variants.{Length, Refused}
+use Rattle.layout.specs.Areas.{Areas}
 use Rattle.engine.specs.Promises.{answerOf, areasAfter}
-use Rattle.records.specs.Records.{answerWords}
+use Rattle.step_record.specs.Records.{answerWords}
 
 -- ---- a step
 
@@ -34,6 +33,5 @@ slicesAfter out a t = cond (eqb (length out) 3) (slices (answerWords (answerOf a
 -- ---- a diff written
 
 -- the length in bytes, or 256 + the refusal: a length is at most 131
-unfoldable pub writtenNumber : Written → ℕ
-writtenNumber (Length n) = n
-writtenNumber (Refused n) = 256 + n
+unfoldable pub writeReturn : WriteAnswer → ℕ
+writeReturn a = cond (eqb (a .refusal) 0) (a .length) (256 + a .refusal)

@@ -1,6 +1,6 @@
 // The engine and the diffs for callers in C and Rust: functions on numbers and slices, declared for C in include/lughtsavi.h.
 // None has a `requires`: each refuses instead. Every contract determines the answer and what each lent slice holds afterwards,
-// by an equation with a definition of the crate that does the work, or of specs/Numbers.antt where an enum is turned into numbers.
+// by an equation with a definition of the crate that does the work, or of specs/Numbers.antt.
 ghost use mathlib.Core.Path.{_≡_};
 ghost use mathlib.Core.List.{_∷_, []};
 ghost use Prim.Native.Nat.{_<_};
@@ -8,16 +8,16 @@ ghost use lib.ListN.{length};
 ghost use Rattle.limits.specs.Limits.{pageWidth};
 ghost use Rattle.diff.specs.Reading.{readRefusal};
 ghost use Rattle.diff.specs.Answers.{applyRefusal, pageAfter};
-ghost use Rattle.writer.specs.Answers.{writeAnswer, outAfter};
+ghost use Rattle.diff_writer.specs.Answers.{writeAnswer, outAfter};
 ghost use Rattle.rules.specs.Refusals.{stepOf};
-ghost use Rattle.memory.specs.Areas.{areas};
-ghost use Rattle.checking.specs.Areas.{areasInOrder};
+ghost use Rattle.layout.specs.Areas.{areas};
+ghost use Rattle.inorder.specs.Areas.{areasInOrder};
 ghost use Rattle.opening.specs.Promises.{openRefusal, areasOpened};
-ghost use Rattle.running.specs.Runs.{Ran};
-ghost use Rattle.lughtsavi.specs.Numbers.{stepReturn, slices, slicesAfter, writtenNumber};
-ghost use Rattle.lughtsavi.specs.Needed.{ToldAs};
-use acting::Outcome;
-use writer::Written;
+ghost use Rattle.run_list.specs.Runs.{Ran};
+ghost use Rattle.lughtsavi.specs.Numbers.{stepReturn, slices, slicesAfter, writeReturn};
+ghost use Rattle.lughtsavi.specs.inner.Needed.{ToldAs, writtenNumber};
+use diff_writer::Written;
+use step_act::Outcome;
 
 // Opens a mainframe: 1 for areas of a wrong size, 2 for an opening that is not eight bytes or does not fit, else 0, and the areas
 // are exactly the opened state, whatever they held.
@@ -45,7 +45,7 @@ pub extern "C" fn lughtsavi_in_order(
 ) -> bool
     ensures { λ r. ⌜ r ≡ areasInOrder (now (clocks .entry)) (now (words .entry)) (now (records .entry)) (now (marks .entry)) ⌝ }
 {
-    checking::in_order(clocks, words, records, marks)
+    inorder::in_order(clocks, words, records, marks)
 }
 
 // A step: the refusal, or 0, and in the three words of `answer` refusal, value and count. An answer that has not three words gets 1,
@@ -122,16 +122,16 @@ pub extern "C" fn lughtsavi_run(
 ) -> usize
     ensures { λ r. ⌜ Ran (now (bytes .entry)) (now (answers .entry)) (areas (now (clocks .entry)) (now (words .entry)) (now (records .entry)) (now (marks .entry))) r (now (answers .exit)) (areas (now (clocks .exit)) (now (words .exit)) (now (records .exit)) (now (marks .exit))) ⌝ }
 {
-    running::run(bytes, answers, clocks, words, records, marks)
+    run_list::run(bytes, answers, clocks, words, records, marks)
 }
 
 // Writes what turns the page `old` into the page `new` as a diff at the start of `out`: its length in bytes, or 256 + the refusal.
 #[no_mangle]
 pub extern "C" fn lughtsavi_diff_write(old: &[u32], new: &[u32], out: &mut [u8]) -> u32
-    ensures answer { λ r. ⌜ r ≡ writtenNumber (writeAnswer pageWidth (now (old .entry)) (now (new .entry)) (now (out .entry))) ⌝ }
+    ensures answer { λ r. ⌜ r ≡ writeReturn (writeAnswer pageWidth (now (old .entry)) (now (new .entry)) (now (out .entry))) ⌝ }
     ensures memory { λ r. ⌜ now (out .exit) ≡ outAfter pageWidth (now (old .entry)) (now (new .entry)) (now (out .entry)) ⌝ }
 {
-    let written = writer::write(old, new, out);
+    let written = diff_writer::write(old, new, out);
     number(written)
 }
 

@@ -6,14 +6,14 @@ use mathlib.Core.List.{List}
 use lib.ListN.{length}
 use lib.Dec.{eqb}
 use native.Mathlib.Omega.{arith}
-use Rattle.limits.specs.Limits.{fileRecordWidth}
+use Rattle.limits.specs.Files.{fileRecordWidth}
 use Rattle.rules.specs.Opening.{openingRefusal, opened}
 use Rattle.rules.specs.State.{mainframe, State}
-use Rattle.rules.proofs.Facts.{Sized}
-use Rattle.rules.proofs.OpenedInOrder.{opened-sized, opened-in-order, opening-counts}
-use Rattle.memory.specs.Areas.{Areas, areas, holding, rightSizes}
-use Rattle.memory.specs.Needed.{Ready, Holds}
-use Rattle.memory.proofs.Decoding.{encoded-lent, decoded}
+use Rattle.rules.proofs.inorder.Facts.{Sized}
+use Rattle.rules.proofs.inorder.OpenedInOrder.{opened-sized, opened-in-order, opening-counts}
+use Rattle.layout.specs.Areas.{Areas, areas, holding, rightSizes}
+use Rattle.layout.specs.inner.Needed.{Ready, Holds}
+use Rattle.layout.proofs.Decoding.{encoded-lent, decoded}
 use Rattle.opening.specs.Promises.{openingOf, openRefusal, areasOpened}
 
 -- the areas hold the opened state

@@ -9,18 +9,18 @@ use lib.Seq.{length-take-le, take-all, take-at, sets, length-sets, sets-eq}
 use lib.Dec.{eqb}
 use borrow.Author.Tests.{eqb-true, not-false}
 use borrow.Author.Needs.{needs}
-use Rattle.limits.specs.Limits.{fileRecordWidth}
-use Rattle.limits.specs.Sizes.{clockArea, markArea, partLimit, recordArea, wordArea, wordLimit}
+use Rattle.limits.specs.Files.{fileRecordWidth}
+use Rattle.limits.specs.inner.Sizes.{clockArea, markArea, partLimit, recordArea, wordArea, wordLimit}
 use Rattle.clock.specs.Clocks.{zeros}
 use Rattle.rules.specs.InOrder.{slotSize, countsInRange}
 use Rattle.rules.specs.Opening.{openingRefusal, rows, zeroClocks, zeroPages, opened}
 use Rattle.rules.specs.State.{mainframe, Counts}
-use Rattle.memory.specs.Areas.{clockBytes, pageWords, recordBytes, markBytes, sizesRight, Areas, areas, holding, rightSizes}
-use Rattle.memory.specs.Layout.{joinRows}
-use Rattle.memory.specs.Needed.{Lent, RowThere}
-use Rattle.memory.proofs.Encoding.{lent-right, right-lent}
+use Rattle.layout.specs.Areas.{clockBytes, pageWords, recordBytes, markBytes, sizesRight, Areas, areas, holding, rightSizes}
+use Rattle.layout.specs.Layout.{joinRows}
+use Rattle.layout.specs.inner.Needed.{Lent, RowThere}
+use Rattle.layout.proofs.Encoding.{lent-right, right-lent}
 use Rattle.opening.specs.Promises.{openingOf, openRefusal, areasOpened}
-use Rattle.opening.specs.Openings.{openingFits, freshCopy, freshWords, openedMarks, Openable, MarksOpenable, SizesAre, OpeningIs, HoldsOpened}
+use Rattle.opening.specs.inner.Openings.{openingFits, freshCopy, freshWords, openedMarks, Openable, MarksOpenable, SizesAre, OpeningIs, HoldsOpened}
 
 -- ---- the sizes
 

@@ -9,13 +9,14 @@ use lib.ListN.{length, getD}
 use lib.Dec.{eqb}
 use borrow.Author.Tests.{eqb-true, eq-eqb, ne-eqb, le-leb, not-false}
 use borrow.Author.Needs.{needs}
-use Rattle.limits.specs.Limits.{fileRecordWidth, lockLimit, pageLimit, processorLimit}
+use Rattle.limits.specs.Limits.{lockLimit, pageLimit, processorLimit}
+use Rattle.limits.specs.Files.{fileRecordWidth}
 use Rattle.rules.specs.InOrder.{inRange, countsInRange}
 use Rattle.rules.specs.Opening.{openingRefusal}
 use Rattle.rules.specs.State.{mainframe}
-use Rattle.rules.proofs.InOrderSays.{in-range-says}
+use Rattle.rules.proofs.inorder.InOrderSays.{in-range-says}
 use Rattle.opening.specs.Promises.{openingOf}
-use Rattle.opening.specs.Openings.{openingFits, ZerosAre, CountsAre, OpeningIs}
+use Rattle.opening.specs.inner.Openings.{openingFits, ZerosAre, CountsAre, OpeningIs}
 
 -- ---- the bytes that must be 0
 

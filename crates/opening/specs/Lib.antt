@@ -1,2 +1,2 @@
 pub mod Promises
-pub mod Openings
+pub mod inner

@@ -4,10 +4,10 @@ use mathlib.Core.Bool.{cond, not}
 use mathlib.Core.List.{List}
 use lib.ListN.{length, getD}
 use lib.Dec.{eqb}
-use Rattle.limits.specs.Limits.{fileRecordWidth}
+use Rattle.limits.specs.Files.{fileRecordWidth}
 use Rattle.rules.specs.Opening.{Opening, openingRefusal, opened}
 use Rattle.rules.specs.State.{mainframe}
-use Rattle.memory.specs.Areas.{Areas, holding, rightSizes}
+use Rattle.layout.specs.Areas.{Areas, holding, rightSizes}
 
 -- "The opening record holds 0, cards, pages, locks, four zeros"
 unfoldable pub openingOf : List ℕ → Opening

@@ -4,12 +4,13 @@ ghost use mathlib.Core.Path.{_≡_};
 ghost use Prim.Native.Nat.{_*_};
 ghost use lib.ListN.{length};
 ghost use lib.Seq.{sets};
-ghost use Rattle.limits.specs.Limits.{fileRecordWidth};
-ghost use Rattle.limits.specs.Sizes.{wordArea, wordLimit};
-ghost use Rattle.memory.specs.Areas.{areas};
-ghost use Rattle.memory.specs.Needed.{RowThere};
+ghost use Rattle.limits.specs.Files.{fileRecordWidth};
+ghost use Rattle.limits.specs.inner.Sizes.{wordArea, wordLimit};
+ghost use Rattle.layout.specs.Areas.{areas};
+ghost use Rattle.layout.specs.inner.Needed.{RowThere};
 ghost use Rattle.opening.specs.Promises.{openRefusal, areasOpened};
-ghost use Rattle.opening.specs.Openings.{freshCopy, freshWords, openedMarks, Openable, MarksOpenable, SizesAre, ZerosAre, CountsAre, OpeningIs, HoldsOpened};
+ghost use Rattle.opening.specs.inner.Openings.{freshCopy, freshWords, openedMarks, Openable, MarksOpenable, SizesAre, ZerosAre, CountsAre, OpeningIs, HoldsOpened};
+use layout::clear;
 use limits::CLOCK_AREA;
 use limits::FILE_RECORD_WIDTH;
 use limits::LOCK_LIMIT;
@@ -23,7 +24,6 @@ use limits::PROCESSORS_PLACE;
 use limits::RECORD_AREA;
 use limits::WORD_AREA;
 use limits::WORD_LIMIT;
-use memory::clear;
 
 // The limits as bytes, as an opening has its counts.
 const MOST_PROCESSORS: u8 = PROCESSOR_LIMIT as u8;

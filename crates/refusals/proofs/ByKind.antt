@@ -9,15 +9,15 @@ use borrow.Author.Tests.{ltb-true, le-leb, lt-leb, lt-ltb, le-ltb, eq-eqb, ne-eq
 use mir.Syntax.{w64}
 use mir.Val.{Fits}
 use Rattle.limits.specs.Limits.{intervalLimit, lockLimit, pageWidth, recordLimit}
-use Rattle.limits.specs.Sizes.{wordLimit}
+use Rattle.limits.specs.inner.Sizes.{wordLimit}
 use Rattle.rules.specs.Refusals.{Write, Acquire, Release, knownKind, usesValue, lateRefusal}
 use Rattle.rules.specs.State.{mainframe, dirtyAt, State, holder}
 use Rattle.rules.specs.Steps.{pageOfWord}
-use Rattle.memory.specs.Areas.{stateIn}
-use Rattle.memory.specs.Marks.{pageCount, lockCount, holderMark, dirtyMark}
-use Rattle.memory.specs.Needed.{LockMark, PageMark}
-use Rattle.refusals.specs.Parts.{seen, boundOf, fieldsFit, refusalOfKind, recordsToCome, roomIfAllDirty}
-use Rattle.refusals.specs.Needed.{Counted, FittingStep, WriteOf}
+use Rattle.layout.specs.Areas.{stateIn}
+use Rattle.layout.specs.inner.Marks.{pageCount, lockCount, holderMark, dirtyMark}
+use Rattle.layout.specs.inner.Needed.{LockMark, PageMark}
+use Rattle.refusals.specs.inner.Parts.{seen, boundOf, fieldsFit, refusalOfKind, recordsToCome, roomIfAllDirty}
+use Rattle.refusals.specs.inner.Needed.{MarksCountable, FittingStep, WriteOf}
 use Rattle.refusals.proofs.Marked.{dirty-seen, holder-seen}
 use Rattle.refusals.proofs.Counting.{few-records-to-come}
 
@@ -77,7 +77,7 @@ module _ (m : List ℕ) (k o v b : ℕ) (bound : b ≡ boundOf (seen m) k) where
     unfolding fieldsFit
     no-value t = rw (← bound, lt-ltb o b l, ← used, t)
 
-module _ (m : List ℕ) (k o v : ℕ) (h : Counted m) (fit : fieldsFit (seen m) k o v ≡ true) where
+module _ (m : List ℕ) (k o v : ℕ) (h : MarksCountable m) (fit : fieldsFit (seen m) k o v ≡ true) where
   object-below : o < boundOf (seen m) k
   unfolding fieldsFit
   object-below = ltb-true o (boundOf (seen m) k) (and-eq-true-iff (ltb o (boundOf (seen m) k)) (usesValue k || eqb v 0) .0 fit .0)
@@ -97,7 +97,7 @@ pub page-of-word : (m : List ℕ) (p w : ℕ) → WriteOf m p w → PageMark m p
 page-of-word m p w h = record { marks = h .by .counted .marks; from = h .by .from; to = h .by .to; page = omega (arith, h .word) }
 
 -- the counts
-pub counted-of-write : (m : List ℕ) (p w : ℕ) → WriteOf m p w → Counted m
+pub counted-of-write : (m : List ℕ) (p w : ℕ) → WriteOf m p w → MarksCountable m
 counted-of-write m p w h = h .by .counted
 
 module _ (m : List ℕ) (n p w : ℕ) (h : WriteOf m p w) (d : Bool) (mark : d ≡ not (eqb (dirtyMark m p (w / pageWidth)) 0)) where

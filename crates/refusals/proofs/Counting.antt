@@ -11,16 +11,16 @@ use lib.Dec.{leb, ltb, eqb}
 use borrow.Author.Tests.{lt-leb, le-ltb}
 use mir.Syntax.{w64}
 use mir.Val.{Fits}
+use Rattle.lists.specs.Tables.{total}
+use Rattle.lists.proofs.Tables.{total-same, total-zero, total-in-rows, total-of-fewer}
 use Rattle.limits.specs.Limits.{pageLimit, processorLimit, recordLimit}
-use Rattle.limits.specs.Sizes.{copyLimit, firstDirty}
+use Rattle.limits.specs.inner.Sizes.{copyLimit, firstDirty}
 use Rattle.rules.specs.InOrder.{present, presentHolder, dirtyPages}
 use Rattle.rules.specs.State.{mainframe, dirtyAt, State}
-use Rattle.rules.specs.Tables.{total}
-use Rattle.rules.proofs.Tables.{total-same, total-zero, total-in-rows, total-of-fewer}
-use Rattle.memory.specs.Areas.{dirtyPlace, recordsIn, stateIn, standingCount}
-use Rattle.memory.specs.Marks.{processorCount, pageCount, dirtyMark}
-use Rattle.refusals.specs.Parts.{seen, recordsToCome, roomIfAllDirty}
-use Rattle.refusals.specs.Needed.{Counted}
+use Rattle.layout.specs.Areas.{dirtyPlace, recordsIn, stateIn, standingCount}
+use Rattle.layout.specs.inner.Marks.{processorCount, pageCount, dirtyMark}
+use Rattle.refusals.specs.inner.Parts.{seen, recordsToCome, roomIfAllDirty}
+use Rattle.refusals.specs.inner.Needed.{MarksCountable}
 use Rattle.refusals.proofs.Marked.{dirty-seen}
 
 -- ---- the dirty marks, absent processors and pages included
@@ -31,13 +31,13 @@ markAt m k = cond (not (eqb (getD m (firstDirty + k) 0) 0)) 1 0
 
 -- the first k of them are counted
 pub record MarksCounted (m : List ℕ) (sum k : ℕ) : Type 0 where
-  pub counted : Counted m
+  pub counted : MarksCountable m
   pub upto : k ≤ copyLimit
   pub few : sum ≤ k
   pub same : sum ≡ total k (markAt m)
 
 -- none is counted yet
-pub counting-begins : (m : List ℕ) → Counted m → MarksCounted m 0 0
+pub counting-begins : (m : List ℕ) → MarksCountable m → MarksCounted m 0 0
 unfolding total
 counting-begins m h = record { counted = h; upto = omega arith; few = omega arith; same = refl }
 
@@ -65,7 +65,7 @@ module _ (m : List ℕ) where
       ap (λ (x : ℕ). cond (not (eqb (getD m x 0) 0)) 1 0) place
       ∙ ap (λ (t : Bool). cond t 1 0) (dirty-seen m (not (eqb (dirtyMark m (suc i) g) 0)) (suc i) (omega arith) (omega arith) g b refl)
 
-  module _ (h : Counted m) where
+  module _ (h : MarksCountable m) where
     no-page : (i g : ℕ) → pageCount m ≤ g → dirty i g ≡ 0
     unfolding presentHolder seen stateIn
     no-page i g l = ap (λ (t : Bool). cond t 1 0) (h .absent-clean .clean (suc i) g (rw (le-ltb g (pageCount m) l) (and-false (present (seen m) (suc i)))))
@@ -124,17 +124,17 @@ few-records-to-come s = omega (arith, sum-at-most (s .counts .processors) (s .co
     of-one k = omega (arith, sum-at-most (s .counts .pages) 1 _ (λ g. flag (dirtyAt (s .pages) (suc k) g)))
 
 module _ (m : List ℕ) (a b : ℕ) (processors-are : (a ≡ processorCount m) × (a < 256)) (pages-are : (b ≡ pageCount m) × (b < 256)) where
-  few-in-all : Counted m → a * b ≤ copyLimit
+  few-in-all : MarksCountable m → a * b ≤ copyLimit
   few-in-all h = rw (processors-are .0, pages-are .0) (mul-le-mul (h .processors) (h .pages))
 
   -- the product of the counts is a small number
-  pub product-fits : Counted m → Fits w64 (a * b)
+  pub product-fits : MarksCountable m → Fits w64 (a * b)
   product-fits h = omega (arith, few-in-all h)
 
   module _ (x : ℕ) (standing-is : (x ≡ standingCount m) × (x < 65536)) where
     -- and so is its sum with the records that stand
-    pub sum-fits : Counted m → Fits w64 (x + a * b)
-    sum-fits h = omega (arith, few-in-all h, standing-is .1)
+    pub room-sum-fits : MarksCountable m → Fits w64 (x + a * b)
+    room-sum-fits h = omega (arith, few-in-all h, standing-is .1)
 
     -- three marks decide about the room
     pub marks-decide-room : ltb (x + a * b) recordLimit ≡ roomIfAllDirty (seen m)

@@ -5,23 +5,24 @@ use native.Mathlib.Decide.{decLe, decLt}
 use native.Mathlib.Omega.{arith}
 use mathlib.Core.Path.{_≡_, refl, sym, ap, _∙_}
 use mathlib.Core.Bool.{Bool, true, false, cond, not, _&&_, _||_, and-false}
-use mathlib.Core.List.{List, []}
+use mathlib.Core.List.{List}
 use lib.ListN.{length, getD}
 use lib.Dec.{leb, ltb, eqb}
 use borrow.Author.Tests.{lt-ltb, le-ltb, le-leb, lt-leb, eq-eqb, ne-eqb}
 use mir.Syntax.{w8, w32, w64}
 use mir.Val.{Fits}
-use Rattle.limits.specs.Limits.{firstArrived, processorLimit}
-use Rattle.limits.specs.Sizes.{boundArea, kindBounds, kindLimit, valueLimit}
+use Rattle.limits.specs.Limits.{processorLimit}
+use Rattle.limits.specs.Places.{firstArrived}
+use Rattle.limits.specs.inner.Sizes.{boundArea, kindBounds, kindLimit, valueLimit}
 use Rattle.rules.specs.InOrder.{present}
 use Rattle.rules.specs.Refusals.{knownKind, usesValue}
 use Rattle.rules.specs.State.{mainframe, hasArrived}
-use Rattle.rules.proofs.KindsOfSteps.{by-kind, known-says}
-use Rattle.memory.specs.Areas.{arrivedPlace, stateIn}
-use Rattle.memory.specs.Marks.{processorCount, arrivedMark}
-use Rattle.refusals.specs.Parts.{seen, boundOf, fieldsFit, mayAct, stepFits}
-use Rattle.refusals.specs.Bounds.{objectBoundOf, valueBoundOf, inBounds, boundsOf}
-use Rattle.refusals.specs.Needed.{Counted, BoundsOf}
+use Rattle.rules.proofs.inorder.KindsOfSteps.{by-kind, known-says}
+use Rattle.layout.specs.Areas.{arrivedPlace, stateIn}
+use Rattle.layout.specs.inner.Marks.{processorCount, arrivedMark}
+use Rattle.refusals.specs.inner.Parts.{seen, boundOf, fieldsFit, mayAct, stepFits}
+use Rattle.refusals.specs.inner.Bounds.{objectBoundOf, valueBoundOf, inBounds, boundsOf}
+use Rattle.refusals.specs.inner.Needed.{MarksCountable, BoundsOf}
 use Rattle.refusals.proofs.Marked.{arrived-seen}
 
 -- ---- flags
@@ -101,11 +102,11 @@ in-bounds m bounds k o v h l =
 -- ---- the processor
 
 -- its mark, or that behind the last, has its place
-pub arrived-place-there : (m : List ℕ) (d j : ℕ) → Counted m → j ≡ min d processorLimit → firstArrived + j < length m
+pub arrived-place-there : (m : List ℕ) (d j : ℕ) → MarksCountable m → j ≡ min d processorLimit → firstArrived + j < length m
 arrived-place-there m d j h e = omega (arith, h .marks, e)
 
 -- by the number of processors and one mark
-module _ (m : List ℕ) (q d j : ℕ) (h : Counted m) (small : q < 4294967296) (wraps : (d + 1) % 18446744073709551616 ≡ q) (large : d < 18446744073709551616) (least : j ≡ min d processorLimit) where
+module _ (m : List ℕ) (q d j : ℕ) (h : MarksCountable m) (small : q < 4294967296) (wraps : (d + 1) % 18446744073709551616 ≡ q) (large : d < 18446744073709551616) (least : j ≡ min d processorLimit) where
   -- one that is among the processors
   there : j < processorCount m → q ≡ j + 1
   there l = omega (arith, h .processors, small, wraps, large, least)
@@ -141,7 +142,7 @@ module _ (m : List ℕ) (q d j : ℕ) (h : Counted m) (small : q < 4294967296) (
       go (no l) = rw (le-ltb j (processorCount m) (omega arith), absent (omega arith))
 
 -- the flags of both
-pub processor-flagged : (m : List ℕ) (q d j n x y : ℕ) → Counted m → Fits w32 q → Fits w64 d → (d + 1) % 2 ^ 64 ≡ q → j ≡ min d processorLimit
+pub processor-flagged : (m : List ℕ) (q d j n x y : ℕ) → MarksCountable m → Fits w32 q → Fits w64 d → (d + 1) % 2 ^ 64 ≡ q → j ≡ min d processorLimit
     → (n ≡ processorCount m) × (n < 256) → x ≡ cond (ltb j n) 1 0 → y ≡ cond (eqb (getD m (firstArrived + j) 0) 0) 1 0 → x * y ≡ cond (mayAct (seen m) q) 1 0
 processor-flagged m q d j n x y h fq fd wraps least count ex ey =
     both (ltb j n) (eqb (getD m (firstArrived + j) 0) 0) x y ex ey

@@ -9,12 +9,12 @@ use borrow.Author.Tests.{le-leb}
 use Rattle.limits.specs.Limits.{pageLimit, processorLimit}
 use Rattle.rules.specs.InOrder.{present}
 use Rattle.rules.specs.State.{dirtyAt, holder, hasArrived}
-use Rattle.memory.specs.Areas.{stateIn}
-use Rattle.memory.specs.Marks.{processorCount, arrivedMark, holderMark, dirtyMark}
-use Rattle.memory.specs.Needed.{LockMark}
-use Rattle.memory.proofs.MarkLaws.{arrived-read, holder-read}
-use Rattle.memory.proofs.PageLaws.{dirty-read}
-use Rattle.refusals.specs.Parts.{seen}
+use Rattle.layout.specs.Areas.{stateIn}
+use Rattle.layout.specs.inner.Marks.{processorCount, arrivedMark, holderMark, dirtyMark}
+use Rattle.layout.specs.inner.Needed.{LockMark}
+use Rattle.layout.proofs.MarkLaws.{arrived-read, holder-read}
+use Rattle.layout.proofs.PageLaws.{dirty-read}
+use Rattle.refusals.specs.inner.Parts.{seen}
 
 -- ---- processors
 

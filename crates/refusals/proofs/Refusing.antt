@@ -10,15 +10,15 @@ use borrow.Author.Needs.{needs}
 use Rattle.rules.specs.InOrder.{present, presentHolder, dirtyPages}
 use Rattle.rules.specs.Refusals.{Step, stepOf, Action, Read, Write, Acquire, Release, Arrive, Want, Unknown, actionOf, knownKind, objectBound, usesValue, fits, lateRefusal, refusalBy, refusalInOrder}
 use Rattle.rules.specs.State.{mainframe, dirtyAt, State, own, holder, hasArrived}
-use Rattle.rules.proofs.Accepted.{present-says}
-use Rattle.rules.proofs.KindsOfSteps.{by-kind, known-says}
-use Rattle.memory.specs.Areas.{pagesIn, recordsIn, stateIn}
-use Rattle.memory.specs.Marks.{arrivedMark}
-use Rattle.memory.specs.Needed.{MarksOf, Ready}
-use Rattle.refusals.specs.Parts.{seen, boundOf, fieldsFit, mayAct, stepFits, earlyOfFields, earlyOfKnown, earlyRefusal, refusalOfKind}
-use Rattle.refusals.specs.Needed.{Counted, KnownKind, KnownStep, FittingStep}
+use Rattle.rules.proofs.inorder.Accepted.{present-says}
+use Rattle.rules.proofs.inorder.KindsOfSteps.{by-kind, known-says}
+use Rattle.layout.specs.Areas.{pagesIn, recordsIn, stateIn}
+use Rattle.layout.specs.inner.Marks.{arrivedMark}
+use Rattle.layout.specs.inner.Needed.{MarksOf, Ready}
+use Rattle.refusals.specs.inner.Parts.{seen, boundOf, fieldsFit, mayAct, stepFits, earlyOfFields, earlyOfKnown, earlyRefusal, refusalOfKind}
+use Rattle.refusals.specs.inner.Needed.{MarksCountable, KnownKind, KnownStep, FittingStep}
 use Rattle.refusals.proofs.Marked.{nobody-absent, count-decides, arrived-seen}
-use Rattle.refusals.proofs.Counting.{counting-begins, counting-next, counting-more, counting-ends, few-counted, records-to-come-are, product-fits, sum-fits, marks-decide-room}
+use Rattle.refusals.proofs.Counting.{counting-begins, counting-next, counting-more, counting-ends, few-counted, records-to-come-are, product-fits, room-sum-fits, marks-decide-room}
 use Rattle.refusals.proofs.ByKind.{zero-unknown, last-decides, words-fit, words-bound, locks-bound, no-bound, value-used, object-absent, any-value, no-value, word-there, lock-there, page-of-word, counted-of-write, dirty-takes-stores, no-interval-left, no-room-left, write-has-space, write-has-ample-space, lock-free, lock-held, holder-releases, not-the-holder, write-of-kind, lock-of-acquire, lock-of-release, write-decides, acquire-decides, release-decides, other-kinds-pass}
 use Rattle.refusals.proofs.Fitting.{flags-fit, object-bound-there, value-bound-there, fields-flagged, arrived-place-there, processor-flagged, fits-by-flags, bounds-long}
 
@@ -66,7 +66,7 @@ module _ (m : List ℕ) (k p o v : ℕ) (b : Bool) (there : b ≡ present (seen 
   fields-decide r t e = rw (← there, t) e
 
 -- the counts
-pub counted-of-kind : (m : List ℕ) (k : ℕ) → KnownKind m k → Counted m
+pub counted-of-kind : (m : List ℕ) (k : ℕ) → KnownKind m k → MarksCountable m
 counted-of-kind m k h = h .counted
 
 -- what the rows from 5 on ask for
@@ -90,7 +90,7 @@ module _ (m : List ℕ) (k p o v : ℕ) (b : Bool) (is : b ≡ knownKind k) wher
   known-decides r t e = rw (← is, t) e
 
   -- what the rows from 4 on ask for
-  pub kind-known : Counted m → not b ≡ false → KnownKind m k
+  pub kind-known : MarksCountable m → not b ≡ false → KnownKind m k
   kind-known h t = let both = known-says k (sym is ∙ not-false b t) in record { counted = h; first = both .0; last = both .1 }
 
 -- ---- the whole table
@@ -154,7 +154,7 @@ module _ (s : State) (k p o v : ℕ) where
 
 module _ (m : List ℕ) (k p o v : ℕ) where
   -- what the rows from 7 on ask for
-  pub fitting-step : Counted m → stepFits (seen m) k p o v ≡ true → FittingStep m k p o
+  pub fitting-step : MarksCountable m → stepFits (seen m) k p o v ≡ true → FittingStep m k p o
   unfolding stepFits mayAct seen stateIn
   fitting-step h e =
       let kind-and-fields = and-eq-true-iff (knownKind k && fieldsFit (seen m) k o v) (mayAct (seen m) p) .0 e in
@@ -180,7 +180,7 @@ module _ (m : List ℕ) (k p o v : ℕ) where
       passes = early-passes (seen m) k p o v (sym early ∙ none)
 
       -- what the rows from 7 on ask for
-      pub step-fits : Counted m → FittingStep m k p o
+      pub step-fits : MarksCountable m → FittingStep m k p o
       step-fits h = fitting-step h passes
 
       -- then the kind decides
@@ -190,7 +190,7 @@ module _ (m : List ℕ) (k p o v : ℕ) where
 -- ---- the state in lent memory
 
 -- a state in order has its counts in range, and nothing absent is dirty
-pub counted-when-ready : (c w r m : List ℕ) → Ready c w r m → Counted m
+pub counted-when-ready : (c w r m : List ℕ) → Ready c w r m → MarksCountable m
 unfolding stateIn pagesIn mainframe seen presentHolder present dirtyAt
 counted-when-ready c w r m h =
     record {
@@ -246,4 +246,4 @@ module _ (c w r m : List ℕ) where
   unfolding refusalInOrder
   table-decides t n x e i = e ∙ sym (table-by-marks t n) ∙ ap (λ (j : ℕ). refusalBy mainframe (stateIn mainframe c w r m) j t) i
 
-pub ruleset refusal-laws = (nobody-absent, count-decides, counting-begins, counting-next, counting-more, counting-ends, few-counted, records-to-come-are, product-fits, sum-fits, marks-decide-room, zero-unknown, last-decides, words-fit, words-bound, locks-bound, no-bound, value-used, object-absent, any-value, no-value, page-of-word, counted-of-write, dirty-takes-stores, no-interval-left, no-room-left, write-has-space, write-has-ample-space, lock-free, lock-held, holder-releases, not-the-holder, write-of-kind, lock-of-acquire, lock-of-release, write-decides, acquire-decides, release-decides, other-kinds-pass, kind-of-step, marks-of-step, fields-refused, arrived-refused, fields-pass, processor-refused, fields-decide, counted-of-kind, step-known, kind-refused, known-decides, kind-known, early-decides, step-fits, kind-decides, flags-fit, object-bound-there, value-bound-there, fields-flagged, arrived-place-there, processor-flagged, fits-by-flags, bounds-long, needs)
+pub ruleset refusal-laws = (nobody-absent, count-decides, counting-begins, counting-next, counting-more, counting-ends, few-counted, records-to-come-are, product-fits, room-sum-fits, marks-decide-room, zero-unknown, last-decides, words-fit, words-bound, locks-bound, no-bound, value-used, object-absent, any-value, no-value, page-of-word, counted-of-write, dirty-takes-stores, no-interval-left, no-room-left, write-has-space, write-has-ample-space, lock-free, lock-held, holder-releases, not-the-holder, write-of-kind, lock-of-acquire, lock-of-release, write-decides, acquire-decides, release-decides, other-kinds-pass, kind-of-step, marks-of-step, fields-refused, arrived-refused, fields-pass, processor-refused, fields-decide, counted-of-kind, step-known, kind-refused, known-decides, kind-known, early-decides, step-fits, kind-decides, flags-fit, object-bound-there, value-bound-there, fields-flagged, arrived-place-there, processor-flagged, fits-by-flags, bounds-long, needs)

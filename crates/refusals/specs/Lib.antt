@@ -1,3 +1,1 @@
-pub mod Parts
-pub mod Bounds
-pub mod Needed
+pub mod inner

@@ -5,16 +5,25 @@ ghost use mathlib.Core.Path.{_≡_};
 ghost use mathlib.Core.Bool.{cond};
 ghost use Prim.Native.Nat.{_≤_, min};
 ghost use lib.ListN.{length};
-ghost use Rattle.limits.specs.Sizes.{boundArea, copyLimit};
+ghost use Rattle.limits.specs.inner.Sizes.{boundArea, copyLimit};
 ghost use Rattle.rules.specs.State.{mainframe};
 ghost use Rattle.rules.specs.InOrder.{present, dirtyPages};
 ghost use Rattle.rules.specs.Refusals.{Write, Acquire, Release, knownKind, usesValue, lateRefusal};
-ghost use Rattle.memory.specs.Needed.{LockMark};
-ghost use Rattle.refusals.specs.Parts.{seen, boundOf, fieldsFit, mayAct, stepFits, earlyRefusal, earlyOfKnown, earlyOfFields, refusalOfKind, recordsToCome, roomIfAllDirty};
-ghost use Rattle.refusals.specs.Bounds.{inBounds};
-ghost use Rattle.refusals.specs.Needed.{Counted, BoundsOf, KnownKind, KnownStep, FittingStep, WriteOf};
+ghost use Rattle.layout.specs.inner.Needed.{LockMark};
+ghost use Rattle.refusals.specs.inner.Parts.{seen, boundOf, fieldsFit, mayAct, stepFits, earlyRefusal, earlyOfKnown, earlyOfFields, refusalOfKind, recordsToCome, roomIfAllDirty};
+ghost use Rattle.refusals.specs.inner.Bounds.{inBounds};
+ghost use Rattle.refusals.specs.inner.Needed.{MarksCountable, BoundsOf, KnownKind, KnownStep, FittingStep, WriteOf};
 use clock::PageId;
 use clock::ProcessorId;
+use layout::flag;
+use layout::marks::has_arrived;
+use layout::marks::holder_of;
+use layout::marks::is_dirty;
+use layout::marks::lock_count;
+use layout::marks::page_count;
+use layout::marks::processor_count;
+use layout::marks::standing_count;
+use layout::wide;
 use limits::COPY_LIMIT;
 use limits::FIRST_ARRIVED;
 use limits::FIRST_DIRTY;
@@ -24,15 +33,6 @@ use limits::LAST_INTERVAL;
 use limits::PAGE_WIDTH;
 use limits::PROCESSOR_LIMIT;
 use limits::RECORD_LIMIT;
-use memory::flag;
-use memory::marks::has_arrived;
-use memory::marks::holder_of;
-use memory::marks::is_dirty;
-use memory::marks::lock_count;
-use memory::marks::page_count;
-use memory::marks::processor_count;
-use memory::marks::standing_count;
-use memory::wide;
 
 // Whether no row from 3 to 6 refuses a step, as one test: by the bounds of the kinds, flags multiplied.
 pub fn fits(
@@ -43,7 +43,7 @@ pub fn fits(
     marks: &[u8],
     bounds: &[u32],
 ) -> bool
-    requires { ⌜ Counted (now marks) ⌝ }
+    requires { ⌜ MarksCountable (now marks) ⌝ }
     requires { ⌜ BoundsOf (now marks) (now bounds) ⌝ }
     ensures { λ r. ⌜ r ≡ stepFits (seen (now (marks .entry))) kind processor object value ⌝ }
 {
@@ -62,7 +62,7 @@ fn fields_flag(kind: u32, object: u32, value: u32, bounds: &[u32]) -> u8
 // Rows 4 and 6: 1 where a processor is present and has not arrived. Nobody's number less 1 wraps to a large one; behind the last
 // processor's mark stands another, which does not count, since no processor is there.
 fn processor_flag(processor: u32, marks: &[u8]) -> u8
-    requires { ⌜ Counted (now marks) ⌝ }
+    requires { ⌜ MarksCountable (now marks) ⌝ }
     ensures { λ r. ⌜ r ≡ cond (mayAct (seen (now (marks .entry))) processor) 1 0 ⌝ }
 {
     let k = least(
@@ -84,7 +84,7 @@ fn least(a: usize, b: usize) -> usize
 
 // The number of the row from 3 to 6 that refuses a step, or 0: row 3, then the others.
 pub fn early_refusal(kind: u32, processor: u32, object: u32, value: u32, marks: &[u8]) -> u8
-    requires { ⌜ Counted (now marks) ⌝ }
+    requires { ⌜ MarksCountable (now marks) ⌝ }
     ensures { λ r. ⌜ r ≡ earlyRefusal (seen (now (marks .entry))) kind processor object value ⌝ }
 {
     if !is_known(kind) {
@@ -122,7 +122,7 @@ fn early_of_known(kind: u32, processor: ProcessorId, object: usize, value: u32, 
 
 // Row 4: whether a processor is one of those that the opening gave.
 fn is_present(processor: ProcessorId, marks: &[u8]) -> bool
-    requires { ⌜ Counted (now marks) ⌝ }
+    requires { ⌜ MarksCountable (now marks) ⌝ }
     ensures { λ r. ⌜ r ≡ present (seen (now (marks .entry))) (processor .0) ⌝ }
 {
     if processor.0 == 0 {
@@ -243,7 +243,7 @@ fn refusal_of_write(processor: ProcessorId, word: usize, own: u8, marks: &[u8]) 
 
 // Whether one record more has room whatever is dirty. Three marks say so, and mostly it is so: then no dirty page is counted.
 fn room_if_all_dirty(marks: &[u8]) -> bool
-    requires { ⌜ Counted (now marks) ⌝ }
+    requires { ⌜ MarksCountable (now marks) ⌝ }
     ensures { λ r. ⌜ r ≡ roomIfAllDirty (seen (now (marks .entry))) ⌝ }
 {
     standing_count(marks) + processor_count(marks) * page_count(marks) < RECORD_LIMIT
@@ -251,7 +251,7 @@ fn room_if_all_dirty(marks: &[u8]) -> bool
 
 // The records that stand and those that closing may make: one for each dirty page.
 fn records_to_come(marks: &[u8]) -> usize
-    requires { ⌜ Counted (now marks) ⌝ }
+    requires { ⌜ MarksCountable (now marks) ⌝ }
     ensures { λ r. ⌜ r ≡ recordsToCome (seen (now (marks .entry))) ⌝ }
 {
     standing_count(marks) + dirty_pages(marks)
@@ -260,7 +260,7 @@ fn records_to_come(marks: &[u8]) -> usize
 // The dirty pages of all processors: every mark is looked at, those of absent processors and pages too, which are 0. One loop without a
 // branch, and a byte as its sum, so that it becomes vector code.
 fn dirty_pages(marks: &[u8]) -> usize
-    requires { ⌜ Counted (now marks) ⌝ }
+    requires { ⌜ MarksCountable (now marks) ⌝ }
     ensures { λ r. ⌜ r ≡ dirtyPages (seen (now (marks .entry))) ⌝ }
     ensures { λ r. ⌜ r ≤ copyLimit ⌝ }
 {

@@ -17,13 +17,13 @@ use Rattle.rules.specs.Steps.{pageOfWord, wordOf}
 use Rattle.rules.specs.Refusals.{Step, Answer, next}
 use Rattle.rules.specs.Runs.{answers, stateAfter, answersInOrder, stateInOrder}
 use Rattle.rules.specs.Order.{events, eventAt, isArrival, countedOff, groupsBefore, rounds}
-use Rattle.rules.proofs.InOrderSays.{in-order-says}
+use Rattle.rules.proofs.inorder.InOrderSays.{in-order-says}
 use Rattle.rules.proofs.InOrderRuns.{state-in-order}
-use Rattle.rules.proofs.Listing.{writes, acquires, releases, arrives, start, answering}
-use Rattle.rules.proofs.BenchFaults.{stepsC, computed-C, computed-clock-of-3}
-use Rattle.rules.proofs.FromStart.{answers-from-start, state-from-start}
-use Rattle.rules.proofs.NoInterval.{NoInterval, store-and-release}
-use Rattle.rules.proofs.StoredCases.{StoredValues, accepted, stepsB, case-B, stepsUnderLock, answersUnderLock, case-D, case-E}
+use Rattle.rules.proofs.runs.Listing.{writes, acquires, releases, arrives, start, answering}
+use Rattle.rules.proofs.runs.BenchFaults.{stepsC, computed-C, computed-clock-of-3}
+use Rattle.rules.proofs.runs.FromStart.{answers-from-start, state-from-start}
+use Rattle.rules.proofs.runs.NoInterval.{NoInterval, store-and-release}
+use Rattle.rules.proofs.runs.StoredCases.{StoredValues, accepted, stepsB, case-B, stepsUnderLock, answersUnderLock, case-D, case-E}
 
 -- "storing 0 over 0 and releasing"
 unfoldable pub stepsF : List Step

@@ -17,17 +17,17 @@ use Rattle.rules.specs.Steps.{pageOfWord, offsetOfWord, wordOf, read}
 use Rattle.rules.specs.Refusals.{Step, Read}
 use Rattle.rules.specs.Order.{Event, Took}
 use Rattle.rules.specs.Demand.{lastWritten, Synchronized, Judged, DemandThree}
-use Rattle.rules.proofs.OpenedInOrder.{opened-in-order, opening-counts}
+use Rattle.rules.proofs.inorder.OpenedInOrder.{opened-in-order, opening-counts}
 use Rattle.rules.proofs.InOrderRuns.{answers-in-order}
-use Rattle.rules.proofs.Timeline.{Timeline, counts-stay}
-use Rattle.rules.proofs.Ghosts.{ghostAt}
-use Rattle.rules.proofs.ActionKinds.{read-no-acquire}
-use Rattle.rules.proofs.Allowed.{took-allowed, took-read-page}
-use Rattle.rules.proofs.NumbersFollow.{knows-all-writes, last-is-last-written}
-use Rattle.rules.proofs.WeakHalf.{weak-half}
-use Rattle.rules.proofs.InvOverTime.{offset-in-page, inv-at}
-use Rattle.rules.proofs.StrongHalf.{reads-last}
-use Rattle.rules.proofs.ListRuns.{eventsOf, timeline, read-answer}
+use Rattle.rules.proofs.order.Timeline.{Timeline, counts-stay}
+use Rattle.rules.proofs.order.Ghosts.{ghostAt}
+use Rattle.rules.proofs.order.ActionKinds.{read-no-acquire}
+use Rattle.rules.proofs.order.Allowed.{took-allowed, took-read-page}
+use Rattle.rules.proofs.order.NumbersFollow.{knows-all-writes, last-is-last-written}
+use Rattle.rules.proofs.demand.WeakHalf.{weak-half}
+use Rattle.rules.proofs.invariant.InvOverTime.{offset-in-page, inv-at}
+use Rattle.rules.proofs.demand.StrongHalf.{reads-last}
+use Rattle.rules.proofs.demand.ListRuns.{eventsOf, timeline, read-answer}
 
 module _ (lim : Limits) (c : Counts) (es : List Event) (r : Timeline lim c es) where
   strong-half : (j p w : ℕ) → Took es j p (Read w) → Synchronized (c .processors) es w j → read lim (r .state j) p w .value ≡ lastWritten es w j

@@ -10,13 +10,13 @@ use mathlib.Core.List.{List, []}
 use lib.ListN.{length}
 use lib.Dec.{leb, ltb, eqb}
 use borrow.Author.Tests.{ltb-true, ltb-false, leb-true, le-ltb, eq-eqb, ne-eqb}
+use Rattle.lists.specs.Tables.{select, sortBy}
+use Rattle.lists.proofs.Selected.{each-always, select-none, count-sort, length-sort, Sorted, Sorts, sorted-sort}
 use Rattle.clock.specs.Clocks.{covered, entryOf}
-use Rattle.rules.specs.Tables.{select, sortBy}
 use Rattle.rules.specs.State.{Limits, Processor, Applied, Clocks, clockOf, withClock, Record, State, clock, standing}
 use Rattle.rules.specs.Fetch.{isPending, sumAt, earlier, due, fetched, fetchCount}
-use Rattle.rules.proofs.Selected.{each-always, select-none, count-sort, length-sort, Sorted, Sorts, sorted-sort}
-use Rattle.rules.proofs.Everywhere.{covered-entries}
-use Rattle.rules.proofs.FetchedWord.{fetched-current, fetched-applied-elsewhere}
+use Rattle.rules.proofs.inorder.Everywhere.{covered-entries}
+use Rattle.rules.proofs.word.FetchedWord.{fetched-current, fetched-applied-elsewhere}
 
 -- ---- the order in which records are applied: by sum, then processor, then interval
 

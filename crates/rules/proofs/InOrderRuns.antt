@@ -9,10 +9,10 @@ use Rattle.rules.specs.State.{Limits, State}
 use Rattle.rules.specs.InOrder.{inOrder}
 use Rattle.rules.specs.Refusals.{Step, actionOf, refusalInOrder, effect, Answer, answerInOrder, nextInOrder, refusal, answer, next}
 use Rattle.rules.specs.Runs.{answers, stateAfter, answersInOrder, stateInOrder}
-use Rattle.rules.proofs.Facts.{InOrder}
-use Rattle.rules.proofs.InOrderSays.{in-order-says}
-use Rattle.rules.proofs.InOrderWhen.{in-order-when}
-use Rattle.rules.proofs.Kept.{next-keeps-order}
+use Rattle.rules.proofs.inorder.Facts.{InOrder}
+use Rattle.rules.proofs.inorder.InOrderSays.{in-order-says}
+use Rattle.rules.proofs.inorder.InOrderWhen.{in-order-when}
+use Rattle.rules.proofs.inorder.Kept.{next-keeps-order}
 
 -- ---- theorem 2: steps and order
 

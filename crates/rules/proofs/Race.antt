@@ -1,20 +1,22 @@
 -- A run with a race, computed: two processors read different values of one word, and the premise of demand 3 fails for both readings.
--- Assumes nothing.
-use Prim.Native.Nat.{ℕ, zero, suc, _≤_, _<_}
+-- What demand 3 promises all the same. Rests on Edges and JudgedRuns. Assumes nothing.
+use Prim.Native.Nat.{ℕ, _≤_}
 use native.Mathlib.Omega.{arith}
-use mathlib.Core.Path.{_≡_, refl, ap}
-use mathlib.Core.Bool.{false≢true}
+use mathlib.Core.Path.{_≡_, refl}
+use mathlib.Core.Bool.{not}
 use mathlib.Core.Logic.{_⊎_, inl, inr}
 use mathlib.Core.List.{List, [], _∷_}
+use lib.Dec.{eqb}
 use Rattle.rules.specs.State.{mainframe}
-use Rattle.rules.specs.Fetch.{earlier}
-use Rattle.rules.specs.Refusals.{Step, Action, Acquire}
+use Rattle.rules.specs.Refusals.{Step}
 use Rattle.rules.specs.Runs.{answersInOrder}
-use Rattle.rules.specs.Order.{Event, events, eventAt, Took, isArrival, countedOff, groupsBefore, rounds, Before, program, lock, round, chain, Ordered}
-use Rattle.rules.specs.Demand.{EarlierWrite, Synchronized}
-use Rattle.rules.proofs.Listing.{reads, writes, arrives, start, answering}
-use Rattle.rules.proofs.ClosingFirst.{closes}
-use Rattle.rules.proofs.StoredCases.{accepted}
+use Rattle.rules.specs.Order.{Event, events, eventAt, Before, Ordered}
+use Rattle.rules.specs.Demand.{EarlierWrite, Synchronized, Judged}
+use Rattle.rules.proofs.StrictOrder.{before-goes-forward}
+use Rattle.rules.proofs.order.Edges.{noEdge, closedUnder, not-before}
+use Rattle.rules.proofs.runs.Listing.{reads, writes, arrives, start, answering}
+use Rattle.rules.proofs.runs.JudgedRuns.{Among, value-left, allAccepted}
+use Rattle.rules.proofs.runs.StoredCases.{accepted}
 
 -- processors 1 and 2 write word 0 with nothing that orders the two, both arrive, and both read it
 unfoldable pub race : List Step
@@ -33,33 +35,10 @@ raceEvents = events race (answersInOrder mainframe (start 2 1 1) race)
 
 -- ---- the premise fails
 
--- what a step can be after stands at place 2 or later, behind the two writes
-program-late : (i j p : ℕ) (a b : Action) → Took raceEvents i p a → Took raceEvents j p b → i < j → 2 ≤ j
-unfolding raceEvents race events eventAt start
-program-late i zero p a b t u h = absurd (omega (arith, h))
-program-late zero (suc zero) p a b t u h = absurd (omega (arith, t .processor, u .processor))
-program-late (suc i) (suc zero) p a b t u h = absurd (omega (arith, h))
-program-late zero (suc (suc j)) p a b t u h = omega arith
-program-late (suc i) (suc (suc j)) p a b t u h = omega arith
-
-acquire-late : (j q l : ℕ) → Took raceEvents j q (Acquire l) → 2 ≤ j
-unfolding raceEvents race events eventAt start closes
-acquire-late zero q l u = absurd (false≢true (ap closes (u .action)))
-acquire-late (suc zero) q l u = absurd (false≢true (ap closes (u .action)))
-acquire-late (suc (suc j)) q l u = omega arith
-
-round-late : (i j : ℕ) → rounds 2 raceEvents i < rounds 2 raceEvents j → 2 ≤ j
-unfolding raceEvents race events eventAt start rounds groupsBefore countedOff isArrival
-round-late i zero h = absurd (omega (arith, h))
-round-late i (suc zero) h = absurd (omega (arith, h))
-round-late i (suc (suc j)) h = omega arith
-
--- nothing is before the writes
-nothing-before-writes : (i j : ℕ) → Before 2 raceEvents i j → 2 ≤ j
-nothing-before-writes i j (program p a b t u h) = program-late i j p a b t u h
-nothing-before-writes i j (lock p q l t u h) = acquire-late j q l u
-nothing-before-writes i j (round p q b t u h) = round-late i j h
-nothing-before-writes i j (chain k h₁ h₂) = nothing-before-writes k j h₂
+-- no edge leads to the second write, so the first is not before it
+first-not-before : Before 2 raceEvents 0 1 → ⊥
+unfolding raceEvents race events start closedUnder noEdge
+first-not-before = not-before 2 raceEvents 0 1 (λ k. not (eqb k 1)) refl refl refl
 
 -- so at no later place is there a premise for word 0
 pub race-not-synchronized : (j : ℕ) → 2 ≤ j → Synchronized 2 raceEvents 0 j → ⊥
@@ -73,5 +52,25 @@ race-not-synchronized j h sync = go (sync .ordered 0 1 1 2 5 6 first second (λ 
     second = unfold raceEvents race events eventAt start in record { wrote = record { accepted = refl; processor = refl; action = refl }; earlier = omega arith }
 
     go : Before 2 raceEvents 0 1 ⊎ Before 2 raceEvents 1 0 → ⊥
-    go (inl b) = omega (arith, nothing-before-writes 0 1 b)
-    go (inr b) = omega (arith, nothing-before-writes 1 0 b)
+    go (inl b) = first-not-before b
+    go (inr b) = omega (arith, before-goes-forward 2 raceEvents 1 0 b)
+
+-- ---- what is promised all the same
+
+-- in a race too a read answers 0 or what one of the earlier writes stored, whatever the order
+pub race-leaves : (x : ℕ) → Judged 2 raceEvents 0 4 x → (x ≡ 0) ⊎ Among x (6 ∷ 5 ∷ [])
+unfolding raceEvents race events start allAccepted
+race-leaves x judged = value-left 2 raceEvents 0 4 x judged
+
+-- 1 writes word 0 and 2 word 1; absent processor 3 writes word 0; 2 reads it; 1 writes it once more
+unfoldable pub otherWrites : List Step
+otherWrites = writes 1 0 5 ∷ writes 2 1 6 ∷ writes 3 0 7 ∷ reads 2 0 ∷ writes 1 0 8 ∷ []
+
+pub other-writes-answers : answersInOrder mainframe (start 2 1 1) otherWrites ≡ accepted ∷ accepted ∷ answering 4 0 0 ∷ accepted ∷ accepted ∷ []
+unfolding start otherWrites
+other-writes-answers = refl
+
+-- neither another word's value, nor that of a refused write, nor one that is stored later
+pub other-writes-leave : (x : ℕ) → Judged 2 (events otherWrites (answersInOrder mainframe (start 2 1 1) otherWrites)) 0 3 x → (x ≡ 0) ⊎ Among x (5 ∷ [])
+unfolding otherWrites events start allAccepted
+other-writes-leave x judged = value-left 2 (events otherWrites (answersInOrder mainframe (start 2 1 1) otherWrites)) 0 3 x judged

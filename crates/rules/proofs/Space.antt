@@ -12,12 +12,12 @@ use Rattle.rules.specs.InOrder.{present, dirtyPages}
 use Rattle.rules.specs.Close.{anyChanged, ticked, recorded}
 use Rattle.rules.specs.Steps.{pageOfWord, allFetched, emptied, collected}
 use Rattle.rules.specs.Refusals.{Step, Write, actionOf, knownKind, objectBound, usesValue, fits, lateRefusal, refusalBy, refusalInOrder}
-use Rattle.rules.proofs.KindsOfSteps.{kindOf, kind-of, objectIn, object-in}
-use Rattle.rules.proofs.Facts.{InOrder}
-use Rattle.rules.proofs.KeptParts.{ownIn, parts-of}
-use Rattle.rules.proofs.KeptRounds.{entry-all-cleared}
-use Rattle.rules.proofs.KeptNewRecords.{recorded-below}
-use Rattle.rules.proofs.KeptClose.{changed-has-interval, closing-ready}
+use Rattle.rules.proofs.inorder.KindsOfSteps.{kindOf, kind-of, objectIn, object-in}
+use Rattle.rules.proofs.inorder.Facts.{InOrder}
+use Rattle.rules.proofs.inorder.KeptParts.{ownIn, parts-of}
+use Rattle.rules.proofs.inorder.KeptRounds.{entry-all-cleared}
+use Rattle.rules.proofs.inorder.KeptNewRecords.{recorded-below}
+use Rattle.rules.proofs.inorder.KeptClose.{changed-has-interval, closing-ready}
 
 -- a write of v to word w that no row above 9 refuses
 pub record WriteSoFar (lim : Limits) (s : State) (t : Step) (w v : ℕ) : Type 0 where

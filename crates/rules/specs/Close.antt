@@ -4,8 +4,8 @@ use mathlib.Core.Bool.{Bool, true, false, cond, not, _&&_, _||_}
 use mathlib.Core.List.{List, [], _∷_, map}
 use lib.ListN.{getD}
 use lib.Dec.{eqb}
+use Rattle.lists.specs.Tables.{put, any}
 use Rattle.diff.specs.Format.{written}
-use Rattle.rules.specs.Tables.{put, any}
 use Rattle.rules.specs.State.{Processor, Interval, Clocks, withClock, Pages, copyOf, twinOf, dirtyAt, Record, Records, appended, State, withClocks, withPages, withRecords, clock, own}
 
 -- "compare twin and copy": whether any word differs

@@ -4,9 +4,9 @@ use mathlib.Core.Bool.{Bool, cond, not, _&&_}
 use mathlib.Core.List.{List, [], _∷_}
 use lib.ListN.{length}
 use lib.Dec.{leb, ltb, eqb}
+use Rattle.lists.specs.Tables.{putCell, select, sortBy}
 use Rattle.clock.specs.Clocks.{entryOf, sumOf}
 use Rattle.diff.specs.Reading.{applied}
-use Rattle.rules.specs.Tables.{putCell, select, sortBy}
 use Rattle.rules.specs.State.{Limits, Processor, Applied, Interval, Clocks, clockOf, withClock, Pages, copyOf, Record, State, withClocks, withPages, clock, standing}
 
 -- "records of g by another card q, with interval above q's entry in the applied clock and not above q's entry in p's clock"

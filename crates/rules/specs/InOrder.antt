@@ -4,10 +4,10 @@ use mathlib.Core.Bool.{Bool, true, cond, not, _&&_, _||_}
 use mathlib.Core.List.{List, [], _∷_}
 use lib.ListN.{length, getD}
 use lib.Dec.{leb, ltb, eqb}
+use Rattle.lists.specs.Tables.{every, any, total}
 use Rattle.limits.specs.Limits.{slotHead}
 use Rattle.clock.specs.Clocks.{covered, entryOf}
 use Rattle.diff.specs.Reading.{readRefusal}
-use Rattle.rules.specs.Tables.{every, any, total}
 use Rattle.rules.specs.State.{Limits, Counts, Holder, Processor, Lock, Barrier, Applied, Interval, clockOf, copyOf, twinOf, dirtyAt, Record, recordIn, State, clock, own, holder, hasArrived}
 
 -- a present processor: "Cards numbered from 1; 0 means nobody"
@@ -87,12 +87,14 @@ unfoldable pub allZero : List ℕ → Bool
 allZero [] = true
 allZero (x ∷ l) = eqb x 0 && allZero l
 
--- clocks of absent holders and entries of absent processors; words and dirty marks of absent pages; arrived marks; holders
+-- clocks of absent holders and entries of absent processors; words (of copies and of twins) and dirty marks of absent pages; arrived marks;
+-- holders
 unfoldable pub absentZero : Limits → State → Bool
 absentZero lim s =
     everyHolder lim (λ h. presentHolder s h || allZero (clockOf (s .clocks) h))
     && everyHolder lim (λ h. everyProcessor lim (λ q. present s q || eqb (entryOf (clockOf (s .clocks) h) q) 0))
     && everyPage lim (λ p g. presentHolder s (Applied p g) || allZero (copyOf (s .pages) p g))
+    && everyPage lim (λ p g. presentHolder s (Applied p g) || allZero (twinOf (s .pages) p g))
     && everyPage lim (λ p g. presentHolder s (Applied p g) || not (dirtyAt (s .pages) p g))
     && everyProcessor lim (λ p. present s p || not (hasArrived s p))
     && every (lim .locks) (λ l. presentHolder s (Lock l) || eqb (holder s l) 0)

@@ -5,9 +5,9 @@ use mathlib.Core.Bool.{Bool, not}
 use mathlib.Core.List.{List, [], _∷_, _++_, map}
 use lib.ListN.{length, getD, take, drop}
 use lib.Dec.{eqb}
+use Rattle.lists.specs.Tables.{put, cell, putCell}
 use Rattle.limits.specs.Limits.{processorLimit, pageLimit, pageWidth, lockLimit, recordLimit, intervalLimit, slotHead}
 use Rattle.clock.specs.Clocks.{entryOf}
-use Rattle.rules.specs.Tables.{put, cell, putCell}
 
 -- how many processors, pages, words of a page, locks, records and intervals of a processor there can be
 pub record Limits : Type 0 where

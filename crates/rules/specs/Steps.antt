@@ -4,8 +4,8 @@ use mathlib.Core.Bool.{Bool, cond, not}
 use mathlib.Core.List.{[], map}
 use lib.ListN.{getD, set}
 use lib.Dec.{eqb}
+use Rattle.lists.specs.Tables.{put, putCell, every}
 use Rattle.clock.specs.Clocks.{joined}
-use Rattle.rules.specs.Tables.{put, putCell, every}
 use Rattle.rules.specs.State.{Limits, Holder, Processor, Lock, Barrier, Clocks, clockOf, withClock, cleared, Pages, copyOf, dirtyAt, Marks, withArrived, withWanted, State, withClocks, withPages, withRecords, withMarks, hasArrived}
 use Rattle.rules.specs.Close.{closed}
 use Rattle.rules.specs.Fetch.{withCopy, fetched, fetchCount}

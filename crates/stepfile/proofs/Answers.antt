@@ -8,17 +8,17 @@ use lib.ListN.{drop, length, replicate, take, take-append-drop}
 use lib.Seq.{length-take-le, sets, sets-eq}
 use borrow.Author.Tests.{not-false, not-true}
 use borrow.Author.Needs.{needs}
-use Rattle.limits.specs.Limits.{fileRecordWidth}
-use Rattle.memory.specs.Areas.{Areas}
-use Rattle.checking.specs.Areas.{OrderIs}
-use Rattle.passing.specs.Bytes.{bytesTaken}
-use Rattle.passing.proofs.Bytes.{taken-stopped}
-use Rattle.passing.proofs.Passing.{kept-all}
+use Rattle.limits.specs.Files.{fileRecordWidth}
+use Rattle.layout.specs.Areas.{Areas}
+use Rattle.inorder.specs.Areas.{OrderIs}
+use Rattle.file_chunk.specs.Bytes.{bytesTaken}
+use Rattle.file_chunk.proofs.Bytes.{taken-stopped}
+use Rattle.file_chunk.proofs.Passing.{rest-kept-all}
 use Rattle.stepfile.specs.Feeding.{after}
-use Rattle.stepfile.specs.Promises.{FedAs, Started, feedAnswer, feedAreas, feedLines, feedable, notTaken, progressOf, standing}
+use Rattle.stepfile.specs.Promises.{FedAs, Started, feedAnswer, feedAreas, feedLines, feedable, notTaken, progressOf, feedAt}
 use Rattle.stepfile.specs.declared.Progress.{Progress}
 use Rattle.stepfile.specs.declared.Taken.{Taken}
-use Rattle.stepfile.specs.Needed.{ChunkFed, Feedable, FeedableIs, Holding, takenAs}
+use Rattle.stepfile.specs.inner.Needed.{ChunkFed, Feedable, FeedableIs, Holding, takenAs}
 use Rattle.stepfile.proofs.Cutting.{cut-lines, cut-reached, started}
 use Rattle.stepfile.proofs.Sound.{few-held, few-records, holding-there, room-there}
 
@@ -56,14 +56,14 @@ module _ (p : Progress) (chunk out : List ℕ) (a : Areas) (b : Bool) (e : Feeda
     fed-there = sym (e .is) ∙ not-false b z
 
     -- the chunk is fed
-    pub fed-as : (t : Taken) (out′ : List ℕ) (a′ : Areas) → ChunkFed (bytesTaken (standing p a) chunk) 0 out t out′ a′ → FedAs p chunk out a t out′ a′
+    pub fed-as : (t : Taken) (out′ : List ℕ) (a′ : Areas) → ChunkFed (bytesTaken (feedAt p a) chunk) 0 out t out′ a′ → FedAs p chunk out a t out′ a′
     unfolding feedAnswer feedLines feedAreas takenAs
     fed-as t out′ a′ d =
-        let progress : t .progress ≡ progressOf (bytesTaken (standing p a) chunk) = ap (λ (x : Taken). x .progress) (d .answer) in
-        let written : t .written ≡ length (bytesTaken (standing p a) chunk .lines) = ap (λ (x : Taken). x .written) (d .answer) in
+        let progress : t .progress ≡ progressOf (bytesTaken (feedAt p a) chunk) = ap (λ (x : Taken). x .progress) (d .answer) in
+        let written : t .written ≡ length (bytesTaken (feedAt p a) chunk .lines) = ap (λ (x : Taken). x .written) (d .answer) in
         record {
           answer = d .answer ∙ sym (rw fed-there refl);
-          lines = stored-front out out′ (bytesTaken (standing p a) chunk .lines) (d .kept .within) (d .lines) (d .kept .rest) ∙ sym (rw fed-there refl);
+          lines = stored-front out out′ (bytesTaken (feedAt p a) chunk .lines) (d .kept .within) (d .lines) (d .kept .rest) ∙ sym (rw fed-there refl);
           areas = d .areas ∙ sym (rw fed-there refl);
           within = omega (arith, written, d .kept .within, d .kept .long);
           cut = λ a₀ before u r. rw (progress, d .areas) (cut-reached a₀ a before chunk p r);
@@ -79,18 +79,18 @@ module _ (p : Progress) (chunk out : List ℕ) (a : Areas) (b : Bool) (e : Feeda
 module _ (p : Progress) (chunk out : List ℕ) (e : FeedableIs true p (length chunk) (length out)) where
   -- a run that has stopped is left as it is
   pub fed-stopped : (a : Areas) → length (p .bytes) ≡ fileRecordWidth → p .stopped ≡ true
-      → ChunkFed (bytesTaken (standing p a) chunk) 0 out (record { progress = p; fed = true; written = 0 }) out a
-  unfolding standing progressOf takenAs
+      → ChunkFed (bytesTaken (feedAt p a) chunk) 0 out (record { progress = p; fed = true; written = 0 }) out a
+  unfolding feedAt progressOf takenAs
   fed-stopped a long s =
-      rw (taken-stopped (standing p a) chunk s)
+      rw (taken-stopped (feedAt p a) chunk s)
       (record {
         answer = ap (λ (x : Progress). record { progress = x; fed = true; written = 0 }) (again p (holding-there p (length chunk) (length out) (sym (e .is)) long));
         areas = refl;
         lines = refl;
-        kept = kept-all out 0 (omega arith);
+        kept = rest-kept-all out 0 (omega arith);
       })
     where
-      again : (q : Progress) → Holding (q .held) (q .bytes) → q ≡ progressOf (standing q a)
+      again : (q : Progress) → Holding (q .held) (q .bytes) → q ≡ progressOf (feedAt q a)
       again q h =
           let l : length (take (q .held) (q .bytes)) ≡ q .held = length-take-le (q .held) (q .bytes) (omega (arith, h .few, h .long)) in
           sym (rw (l, ← h .zeros, take-append-drop (q .held) (q .bytes)))

@@ -5,22 +5,22 @@ use mathlib.Core.Path.{_≡_, refl, sym, ap, _∙_}
 use mathlib.Core.Bool.{true}
 use mathlib.Core.List.{List, [], _∷_, _++_}
 use lib.ListN.{drop, replicate}
-use Rattle.limits.specs.Limits.{fileRecordWidth, stepLimit}
-use Rattle.limits.specs.Sizes.{clockArea, markArea, recordArea, wordArea}
+use Rattle.limits.specs.Files.{fileRecordWidth, stepLimit}
+use Rattle.limits.specs.inner.Sizes.{clockArea, markArea, recordArea, wordArea}
 use Rattle.rules.specs.InOrder.{slotSize, inRange, countsInRange}
 use Rattle.rules.specs.Opening.{openingRefusal}
 use Rattle.rules.specs.Refusals.{Step, Answer}
 use Rattle.rules.specs.Runs.{answers}
 use Rattle.rules.specs.State.{mainframe, State}
-use Rattle.rules.proofs.Listing.{start, listing}
-use Rattle.rules.proofs.FromStart.{listing-a}
-use Rattle.memory.specs.Areas.{clockRows, wordRows, markPlaces, sizesRight, Areas, areas, rightSizes}
+use Rattle.rules.proofs.runs.Listing.{start, listing}
+use Rattle.rules.proofs.runs.FromStart.{listing-a}
+use Rattle.layout.specs.Areas.{clockRows, wordRows, markPlaces, sizesRight, Areas, areas, rightSizes}
 use Rattle.opening.specs.Promises.{openingOf, openRefusal, areasOpened}
-use Rattle.records.specs.Records.{stepFrom, stepsIn}
+use Rattle.step_record.specs.Records.{stepFrom, stepsIn}
 use Rattle.lines.specs.Decimal.{digitsWithin, digits}
 use Rattle.lines.specs.Lines.{lineBytes}
-use Rattle.taking.specs.Records.{refusalLine, openingTaken, recordTaken}
-use Rattle.passing.specs.Bytes.{heldOn, byteTaken, bytesTaken}
+use Rattle.file_record.specs.Records.{refusalLine, openingTaken, recordTaken}
+use Rattle.file_chunk.specs.Bytes.{heldOn, byteTaken, bytesTaken}
 use Rattle.stepfile.specs.Files.{answerLines, stepCount, endLine, openedBy, stepLines, fileLines}
 use Rattle.stepfile.specs.Feeding.{begun, after, lastLine}
 use Rattle.stepfile.specs.Promises.{progressOf, finishLine}

@@ -8,13 +8,14 @@ use lib.ListN.{length, replicate, length-append}
 use lib.Seq.{take-append-seam, drop-append-seam}
 use lib.Dec.{leb, eqb}
 use borrow.Author.Tests.{le-leb, lt-ltb, leb-true, eqb-false}
-use Rattle.limits.specs.Limits.{fileRecordWidth, stepLimit}
-use Rattle.memory.specs.Areas.{Areas}
-use Rattle.taking.specs.Records.{Feed, openingTaken, stepTaken, tooManyTaken, recordTaken}
-use Rattle.passing.specs.Bytes.{heldOn, byteTaken, bytesTaken}
-use Rattle.passing.proofs.Bytes.{taken-together}
+use Rattle.limits.specs.Files.{fileRecordWidth, stepLimit}
+use Rattle.rules.specs.InOrder.{allZero}
+use Rattle.layout.specs.Areas.{Areas}
+use Rattle.file_record.specs.Records.{Feed, openingTaken, stepTaken, tooManyTaken, recordTaken}
+use Rattle.file_chunk.specs.Bytes.{heldOn, byteTaken, bytesTaken}
+use Rattle.file_chunk.proofs.Bytes.{taken-together}
 use Rattle.stepfile.specs.Feeding.{begun, after}
-use Rattle.stepfile.specs.Promises.{allZero, sound, progressOf, standing, Reached}
+use Rattle.stepfile.specs.Promises.{sound, progressOf, feedAt, Reached}
 use Rattle.stepfile.specs.declared.Progress.{Progress}
 
 -- ---- lines are only appended
@@ -126,8 +127,8 @@ after-sound a xs = fed-sound (after a xs) (after-fed a xs)
 -- ---- from a progress on
 
 -- what stands at the progress of what stands
-pub standing-again : (f : Feed) → standing (progressOf f) (f .areas) ≡ unprinted f
-unfolding standing progressOf unprinted
+pub standing-again : (f : Feed) → feedAt (progressOf f) (f .areas) ≡ unprinted f
+unfolding feedAt progressOf unprinted
 standing-again f = rw (take-append-seam (f .held) (replicate (fileRecordWidth - length (f .held)) 0))
 
 -- no byte has been fed
@@ -137,24 +138,24 @@ started a₀ = record { progress = refl; areas = refl }
 
 module _ (a₀ a : Areas) (before chunk : List ℕ) (p : Progress) (h : Reached a₀ before p a) where
   -- what stands before the chunk
-  there : standing p a ≡ unprinted (after a₀ before)
+  there : feedAt p a ≡ unprinted (after a₀ before)
   there =
-      ap (λ (q : Progress). standing q a) (h .progress) ∙ ap (λ (b : Areas). standing (progressOf (after a₀ before)) b) (h .areas)
+      ap (λ (q : Progress). feedAt q a) (h .progress) ∙ ap (λ (b : Areas). feedAt (progressOf (after a₀ before)) b) (h .areas)
       ∙ standing-again (after a₀ before)
 
   -- what stands behind it
-  pub cut-taken : after a₀ (before ++ chunk) ≡ behind (after a₀ before .lines) (bytesTaken (standing p a) chunk)
+  pub cut-taken : after a₀ (before ++ chunk) ≡ behind (after a₀ before .lines) (bytesTaken (feedAt p a) chunk)
   unfolding after
   cut-taken =
       taken-together (begun a₀) before chunk ∙ taken-unprinted (after a₀ before) chunk
       ∙ ap (λ (g : Feed). behind (after a₀ before .lines) (bytesTaken g chunk)) (sym there)
 
   -- the chunk leads to what all bytes so far lead to
-  pub cut-reached : Reached a₀ (before ++ chunk) (progressOf (bytesTaken (standing p a) chunk)) (bytesTaken (standing p a) chunk .areas)
+  pub cut-reached : Reached a₀ (before ++ chunk) (progressOf (bytesTaken (feedAt p a) chunk)) (bytesTaken (feedAt p a) chunk .areas)
   unfolding behind progressOf
   cut-reached = record { progress = ap (λ (g : Feed). progressOf g) (sym cut-taken); areas = ap (λ (g : Feed). g .areas) (sym cut-taken) }
 
   -- and adds its lines
-  pub cut-lines : after a₀ (before ++ chunk) .lines ≡ after a₀ before .lines ++ bytesTaken (standing p a) chunk .lines
+  pub cut-lines : after a₀ (before ++ chunk) .lines ≡ after a₀ before .lines ++ bytesTaken (feedAt p a) chunk .lines
   unfolding behind
   cut-lines = ap (λ (g : Feed). g .lines) cut-taken

@@ -9,15 +9,15 @@ use lib.Seq.{length-take-le, sets}
 use lib.Dec.{eqb, ltb}
 use borrow.Author.Tests.{eq-eqb, eqb-true, le-ltb, lt-ltb, ne-eqb, not-false, not-true}
 use borrow.Author.Needs.{needs}
-use Rattle.limits.specs.Limits.{fileRecordWidth, lineLimit}
+use Rattle.limits.specs.Files.{fileRecordWidth, lineLimit}
 use Rattle.lines.specs.Lines.{lineBytes}
-use Rattle.lines.specs.Needed.{Room}
-use Rattle.taking.specs.Records.{refusalLine}
-use Rattle.taking.specs.Needed.{LinePut}
+use Rattle.lines.specs.inner.Needed.{Room}
+use Rattle.file_record.specs.Records.{refusalLine}
+use Rattle.file_record.specs.inner.Needed.{LinePut}
 use Rattle.stepfile.specs.Feeding.{after, lastLine}
 use Rattle.stepfile.specs.Promises.{FinishedAs, feedable, finishAnswer, finishLine, finishLines, notTaken}
 use Rattle.stepfile.specs.declared.Progress.{Progress}
-use Rattle.stepfile.specs.Needed.{EndsShort, FeedableIs}
+use Rattle.stepfile.specs.inner.Needed.{EndsShort, FeedableIs}
 use Rattle.stepfile.proofs.Answers.{stored-front}
 use Rattle.stepfile.proofs.Sound.{few-held, room-there}
 use Rattle.stepfile.proofs.Whole.{whole-lines}

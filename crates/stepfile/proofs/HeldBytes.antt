@@ -10,22 +10,22 @@ use lib.Seq.{drop-cons, drop-drop, drop-set-lt, take-suc-set}
 use lib.Dec.{eqb}
 use borrow.Author.Tests.{eq-eqb, eqb-true, le-ltb, lt-ltb, ne-eqb}
 use borrow.Author.Needs.{needs}
-use Rattle.limits.specs.Limits.{fileRecordWidth}
-use Rattle.stepfile.specs.Promises.{allZero}
-use Rattle.stepfile.specs.Needed.{HeldAll, Holdable, Holding, Holds, ZerosBehind}
+use Rattle.limits.specs.Files.{fileRecordWidth}
+use Rattle.rules.specs.InOrder.{allZero}
+use Rattle.stepfile.specs.inner.Needed.{HeldAll, Holdable, Holding, HeldTogether, ZerosBehind}
 
 -- ---- bytes taken behind those held
 
 -- none is taken yet
-pub holds-begin : (held : ℕ) (bytes chunk : List ℕ) (from : ℕ) → Holdable held bytes chunk from → Holds held bytes chunk from held bytes from
+pub holds-begin : (held : ℕ) (bytes chunk : List ℕ) (from : ℕ) → Holdable held bytes chunk from → HeldTogether held bytes chunk from held bytes from
 holds-begin held bytes chunk from h = record { holding = h .holding; within = h .within; counted = omega arith; same = refl }
 
-module _ (held : ℕ) (bytes chunk : List ℕ) (from count : ℕ) (kept : List ℕ) (i : ℕ) (h : Holds held bytes chunk from count kept i) where
+module _ (held : ℕ) (bytes chunk : List ℕ) (from count : ℕ) (kept : List ℕ) (i : ℕ) (h : HeldTogether held bytes chunk from count kept i) where
   pub place-held : count < fileRecordWidth → count < length kept
   place-held l = omega (arith, l, h .holding .long)
 
   -- one more
-  pub holds-more : i < length chunk → count < fileRecordWidth → Holds held bytes chunk from (count + 1) (set kept count (getD chunk i 0)) (i + 1)
+  pub holds-more : i < length chunk → count < fileRecordWidth → HeldTogether held bytes chunk from (count + 1) (set kept count (getD chunk i 0)) (i + 1)
   holds-more l m =
       record {
         holding =

@@ -8,16 +8,16 @@ use mathlib.Core.List.{List, _++_}
 use lib.ListN.{length, take, drop}
 use lib.Dec.{eqb}
 use borrow.Author.Tests.{le-ltb, eq-eqb}
-use Rattle.limits.specs.Limits.{fileRecordWidth, stepLimit}
+use Rattle.limits.specs.Files.{fileRecordWidth, stepLimit}
 use Rattle.rules.specs.Demand.{ReadsJudged, DemandThree}
 use Rattle.rules.specs.Opening.{openingRefusal}
 use Rattle.rules.specs.Runs.{answers}
 use Rattle.rules.specs.State.{mainframe}
 use Rattle.rules.proofs.DemandThree.{demand-three}
-use Rattle.memory.specs.Areas.{Areas, rightSizes}
+use Rattle.layout.specs.Areas.{Areas, rightSizes}
 use Rattle.opening.specs.Promises.{openingOf}
-use Rattle.records.specs.Records.{stepsIn}
-use Rattle.taking.specs.Records.{refusalLine}
+use Rattle.step_record.specs.Records.{stepsIn}
+use Rattle.file_record.specs.Records.{refusalLine}
 use Rattle.stepfile.specs.Files.{answerLines, stepCount, endLine, openedBy, stepLines, fileLines}
 use Rattle.stepfile.specs.Feeding.{after}
 use Rattle.stepfile.specs.Promises.{finishLine, Reached}

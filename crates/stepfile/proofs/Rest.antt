@@ -8,19 +8,19 @@ use mathlib.Core.List.{List, [], _++_, append-nil}
 use lib.ListN.{drop, drop-of-length-le, length, length-drop, replicate, take, take-append-drop}
 use lib.Seq.{length-take-le}
 use borrow.Author.Needs.{needs}
-use Rattle.limits.specs.Limits.{fileRecordWidth}
-use Rattle.memory.specs.Areas.{Areas, areas}
-use Rattle.taking.specs.Records.{Feed}
-use Rattle.taking.specs.Needed.{standsAt}
-use Rattle.taking.specs.declared.Stand.{Stand}
-use Rattle.passing.specs.Bytes.{bytesTaken, heldOn}
-use Rattle.passing.specs.Needed.{Passes}
-use Rattle.passing.proofs.Bytes.{taken-held, taken-stopped}
+use Rattle.limits.specs.Files.{fileRecordWidth}
+use Rattle.layout.specs.Areas.{Areas, areas}
+use Rattle.file_record.specs.Records.{Feed}
+use Rattle.file_record.specs.declared.Stand.{Stand}
+use Rattle.file_record.specs.inner.Needed.{standsAt}
+use Rattle.file_chunk.specs.Bytes.{bytesTaken, heldOn}
+use Rattle.file_chunk.specs.inner.Needed.{AllPassed}
+use Rattle.file_chunk.proofs.Bytes.{taken-held, taken-stopped}
 use Rattle.stepfile.specs.Promises.{progressOf}
 use Rattle.stepfile.specs.declared.Progress.{Progress}
 use Rattle.stepfile.specs.declared.Taken.{Taken}
 use Rattle.stepfile.specs.declared.Held.{Held}
-use Rattle.stepfile.specs.Needed.{ChunkFed, Endable, Ended, HeldAll, Holdable, Holding, takenAs}
+use Rattle.stepfile.specs.inner.Needed.{ChunkFed, Endable, Ended, HeldAll, Holdable, Holding, takenAs}
 
 -- the progress with bytes held
 pub held-progress : (f : Feed) (count : ℕ) (kept : List ℕ) → Holding count kept
@@ -84,7 +84,7 @@ module _ (s : Stand) (chunk : List ℕ) (from : ℕ) (h : Endable s chunk from) 
       }
 
 module _ (s : Stand) (chunk : List ℕ) (from : ℕ) (out c w r m : List ℕ) (s′ : Stand) (i : ℕ) (out′ c′ w′ r′ m′ : List ℕ)
-    (h : Passes s chunk from out c w r m s′ i out′ c′ w′ r′ m′) where
+    (h : AllPassed s chunk from out c w r m s′ i out′ c′ w′ r′ m′) where
   -- what the end asks of the last stand
   pub endable : Endable s′ chunk i
   endable = record { within = h .passing .able .within; few-left = h .few-left }

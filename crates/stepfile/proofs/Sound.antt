@@ -7,11 +7,12 @@ use lib.ListN.{drop, length}
 use lib.Dec.{leb, ltb}
 use borrow.Author.Tests.{le-leb, le-ltb, leb-true, lt-leb, lt-ltb, ltb-true}
 use borrow.Author.Needs.{needs}
-use Rattle.limits.specs.Limits.{fileRecordWidth, lineLimit, stepLimit}
-use Rattle.limits.specs.Sizes.{fileRecordLimit}
-use Rattle.stepfile.specs.Promises.{allZero, feedable, sound}
+use Rattle.limits.specs.Files.{fileRecordWidth, lineLimit, stepLimit}
+use Rattle.limits.specs.inner.Sizes.{fileRecordLimit}
+use Rattle.rules.specs.InOrder.{allZero}
+use Rattle.stepfile.specs.Promises.{feedable, sound}
 use Rattle.stepfile.specs.declared.Progress.{Progress}
-use Rattle.stepfile.specs.Needed.{FeedableIs, Holding, ZerosBehind}
+use Rattle.stepfile.specs.inner.Needed.{FeedableIs, Holding, ZerosBehind}
 use Rattle.stepfile.proofs.HeldBytes.{holding-of}
 
 module _ (p : Progress) (chunk room : ℕ) where

@@ -1,5 +1,5 @@
 -- A file fed byte by byte prints the lines of the whole file: those of its opening, of its steps as the rules answer them, and of its end.
--- Rests on Carried and on passing's laws of bytes. Assumes nothing.
+-- Rests on Carried and on file_chunk's laws of bytes. Assumes nothing.
 use Prim.Native.Nat.{ℕ, zero, suc, _+_, _-_, _*_, _%_, _≤_, _<_, min}
 use native.Mathlib.Omega.{arith}
 use mathlib.Core.Path.{_≡_, refl, sym, ap, _∙_}
@@ -9,26 +9,26 @@ use lib.ListN.{length, take, drop, replicate, length-drop}
 use lib.Seq.{take-append-seam, length-take-le}
 use lib.Dec.{ltb, leb, eqb}
 use borrow.Author.Tests.{ltb-true, ltb-false, eqb-true, eqb-false, le-leb, lt-leb, lt-ltb, le-ltb, ne-eqb}
-use Rattle.limits.specs.Limits.{fileRecordWidth, stepLimit}
+use Rattle.limits.specs.Files.{fileRecordWidth, stepLimit}
 use Rattle.rules.specs.InOrder.{countsInRange}
 use Rattle.rules.specs.Opening.{openingRefusal}
 use Rattle.rules.specs.Refusals.{Step, Answer, answer, next}
 use Rattle.rules.specs.Runs.{answers}
 use Rattle.rules.specs.State.{mainframe, State}
-use Rattle.memory.specs.Areas.{Areas, holding, rightSizes}
+use Rattle.layout.specs.Areas.{Areas, holding, rightSizes}
 use Rattle.opening.specs.Promises.{openingOf, openRefusal, areasOpened}
 use Rattle.engine.specs.Promises.{answerOf, areasAfter}
-use Rattle.records.specs.Records.{stepFrom, stepsIn}
+use Rattle.engine.proofs.Carried.{Carried, opened-carried, next-carried, carried-answer, carried-after}
+use Rattle.step_record.specs.Records.{stepFrom, stepsIn}
 use Rattle.lines.specs.Lines.{lineBytes}
-use Rattle.taking.specs.Records.{Feed, refusalLine, openingTaken, stepTaken, tooManyTaken, recordTaken}
-use Rattle.passing.specs.Bytes.{heldOn, bytesTaken}
-use Rattle.passing.proofs.Bytes.{taken-stopped, taken-held, eight-first}
-use Rattle.passing.proofs.Records.{step-of-eight}
+use Rattle.file_record.specs.Records.{Feed, refusalLine, openingTaken, stepTaken, tooManyTaken, recordTaken}
+use Rattle.file_chunk.specs.Bytes.{heldOn, bytesTaken}
+use Rattle.file_chunk.proofs.Bytes.{taken-stopped, taken-held, eight-first}
+use Rattle.file_chunk.proofs.Records.{step-of-eight}
 use Rattle.stepfile.specs.Files.{answerLines, stepCount, endLine, openedBy, stepLines, fileLines}
 use Rattle.stepfile.specs.Feeding.{begun, after, lastLine}
 use Rattle.stepfile.specs.Promises.{progressOf, finishLine, Reached}
 use Rattle.stepfile.specs.declared.Progress.{Progress}
-use Rattle.stepfile.proofs.Carried.{Carried, opened-carried, next-carried, carried-answer, carried-after}
 
 -- ---- what stands between two records, and the lines at the end
 

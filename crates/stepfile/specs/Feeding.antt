@@ -3,9 +3,9 @@ use Prim.Native.Nat.{ℕ}
 use mathlib.Core.Bool.{Bool, false, cond}
 use mathlib.Core.List.{List, [], _∷_}
 use lib.Dec.{eqb}
-use Rattle.memory.specs.Areas.{Areas}
-use Rattle.taking.specs.Records.{Feed, refusalLine}
-use Rattle.passing.specs.Bytes.{bytesTaken}
+use Rattle.layout.specs.Areas.{Areas}
+use Rattle.file_record.specs.Records.{Feed, refusalLine}
+use Rattle.file_chunk.specs.Bytes.{bytesTaken}
 
 -- before the first byte
 unfoldable pub begun : Areas → Feed

@@ -4,15 +4,15 @@ use mathlib.Core.Bool.{cond}
 use mathlib.Core.List.{List, [], _∷_, _++_}
 use lib.ListN.{length, take, drop}
 use lib.Dec.{ltb, eqb}
-use Rattle.limits.specs.Limits.{fileRecordWidth, stepLimit}
+use Rattle.limits.specs.Files.{fileRecordWidth, stepLimit}
 use Rattle.rules.specs.Opening.{openingRefusal, opened}
 use Rattle.rules.specs.Refusals.{Answer}
 use Rattle.rules.specs.Runs.{answers}
 use Rattle.rules.specs.State.{mainframe, State}
 use Rattle.opening.specs.Promises.{openingOf}
-use Rattle.records.specs.Records.{stepsIn}
+use Rattle.step_record.specs.Records.{stepsIn}
 use Rattle.lines.specs.Lines.{lineBytes}
-use Rattle.taking.specs.Records.{refusalLine}
+use Rattle.file_record.specs.Records.{refusalLine}
 
 -- "a line a record": the lines of answers, numbered from n on
 unfoldable pub answerLines : ℕ → List Answer → List ℕ

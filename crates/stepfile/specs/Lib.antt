@@ -1,4 +1,4 @@
 pub mod Files
 pub mod Feeding
 pub mod Promises
-pub mod Needed
+pub mod inner

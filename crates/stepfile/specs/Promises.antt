@@ -3,23 +3,19 @@
 use Prim.Native.Nat.{ℕ, _+_, _-_, _/_, _≤_}
 use mathlib.Core.Path.{_≡_}
 use mathlib.Core.Bool.{Bool, true, false, cond, _&&_}
-use mathlib.Core.List.{List, [], _∷_, _++_}
+use mathlib.Core.List.{List, [], _++_}
 use lib.ListN.{length, take, drop, replicate}
 use lib.Seq.{sets}
-use lib.Dec.{ltb, leb, eqb}
-use Rattle.limits.specs.Limits.{fileRecordWidth, lineLimit, stepLimit}
-use Rattle.memory.specs.Areas.{Areas, rightSizes}
-use Rattle.taking.specs.Records.{Feed}
-use Rattle.passing.specs.Bytes.{bytesTaken}
+use lib.Dec.{ltb, leb}
+use Rattle.limits.specs.Files.{fileRecordWidth, lineLimit, stepLimit}
+use Rattle.rules.specs.InOrder.{allZero}
+use Rattle.layout.specs.Areas.{Areas, rightSizes}
+use Rattle.file_record.specs.Records.{Feed}
+use Rattle.file_chunk.specs.Bytes.{bytesTaken}
 use Rattle.stepfile.specs.Files.{fileLines}
 use Rattle.stepfile.specs.Feeding.{after, lastLine}
 use Rattle.stepfile.specs.declared.Progress.{Progress}
 use Rattle.stepfile.specs.declared.Taken.{Taken}
-
--- whether all numbers of a list are 0
-unfoldable pub allZero : List ℕ → Bool
-allZero [] = true
-allZero (b ∷ rest) = eqb b 0 && allZero rest
 
 -- a progress that feeding makes: at most 1,000,001 as the next number, fewer than eight bytes held, and zeros behind them
 unfoldable pub sound : Progress → Bool
@@ -30,8 +26,8 @@ unfoldable pub progressOf : Feed → Progress
 progressOf f = record { number = f .number; stopped = f .stopped; held = length (f .held); bytes = f .held ++ replicate (fileRecordWidth - length (f .held)) 0 }
 
 -- what stands at a progress with these areas, with nothing printed yet
-unfoldable pub standing : Progress → Areas → Feed
-standing p a = record { number = p .number; held = take (p .held) (p .bytes); stopped = p .stopped; areas = a; lines = [] }
+unfoldable pub feedAt : Progress → Areas → Feed
+feedAt p a = record { number = p .number; held = take (p .held) (p .bytes); stopped = p .stopped; areas = a; lines = [] }
 
 -- whether a chunk of so many bytes is fed: the progress is sound, and there is room for the longest line, of 44 bytes, for each record that
 -- the chunk can complete
@@ -45,16 +41,16 @@ notTaken p = record { progress = p; fed = false; written = 0 }
 -- what `feed` answers
 unfoldable pub feedAnswer : Progress → List ℕ → ℕ → Areas → Taken
 feedAnswer p chunk room a =
-    let f = bytesTaken (standing p a) chunk in
+    let f = bytesTaken (feedAt p a) chunk in
     cond (feedable p (length chunk) room) (record { progress = progressOf f; fed = true; written = length (f .lines) }) (notTaken p)
 
 -- the bytes lent for lines after `feed`: the lines of the records that the chunk completes, and behind them all as it was
 unfoldable pub feedLines : Progress → List ℕ → List ℕ → Areas → List ℕ
-feedLines p chunk out a = cond (feedable p (length chunk) (length out)) (sets out 0 (bytesTaken (standing p a) chunk .lines)) out
+feedLines p chunk out a = cond (feedable p (length chunk) (length out)) (sets out 0 (bytesTaken (feedAt p a) chunk .lines)) out
 
 -- the areas after `feed`
 unfoldable pub feedAreas : Progress → List ℕ → ℕ → Areas → Areas
-feedAreas p chunk room a = cond (feedable p (length chunk) room) (bytesTaken (standing p a) chunk .areas) a
+feedAreas p chunk room a = cond (feedable p (length chunk) room) (bytesTaken (feedAt p a) chunk .areas) a
 
 -- the first bytes of a file, fed from areas a₀ on, have led to this progress and these areas
 pub record Reached (a₀ : Areas) (before : List ℕ) (p : Progress) (a : Areas) : Type 0 where

@@ -1,18 +1,18 @@
 // A step file fed in parts, cut anywhere: the lines of its records, as for the whole file.
 ghost use mathlib.Core.Bool.{true};
 ghost use lib.ListN.{length, take, drop};
-ghost use Rattle.limits.specs.Limits.{fileRecordWidth};
-ghost use Rattle.memory.specs.Areas.{areas};
-ghost use Rattle.taking.specs.Records.{recordTaken};
-ghost use Rattle.taking.specs.Needed.{standsAt, Took};
-ghost use Rattle.passing.specs.Bytes.{bytesTaken};
-ghost use Rattle.passing.specs.Needed.{Passable};
-ghost use Rattle.stepfile.specs.Promises.{standing, Started, FedAs, FinishedAs};
-ghost use Rattle.stepfile.specs.Needed.{ZerosBehind, FeedableIs, EndsShort, Holdable, HeldAll, Feedable, Completes, BegunPassable, Endable, Ended, ChunkFed};
+ghost use Rattle.limits.specs.Files.{fileRecordWidth};
+ghost use Rattle.layout.specs.Areas.{areas};
+ghost use Rattle.file_record.specs.Records.{recordTaken};
+ghost use Rattle.file_record.specs.inner.Needed.{standsAt, RecordTaken};
+ghost use Rattle.file_chunk.specs.Bytes.{bytesTaken};
+ghost use Rattle.file_chunk.specs.inner.Needed.{Passable};
+ghost use Rattle.stepfile.specs.Promises.{feedAt, Started, FedAs, FinishedAs};
+ghost use Rattle.stepfile.specs.inner.Needed.{ZerosBehind, FeedableIs, EndsShort, Holdable, HeldAll, Feedable, Completes, BegunPassable, Endable, Ended, ChunkFed};
+use file_record::Stand;
 use limits::FILE_RECORD_LIMIT;
 use limits::FILE_RECORD_WIDTH;
 use limits::LINE_LIMIT;
-use taking::Stand;
 
 // How far a file has been fed.
 pub struct Progress {
@@ -92,7 +92,7 @@ pub fn finish(progress: Progress, lines: &mut [u8]) -> Taken
             written: 0,
         };
     }
-    let written = taking::put_line(lines, 0, progress.number, 15, 0, 0);
+    let written = file_record::put_record_line(lines, 0, progress.number, 15, 0, 0);
     Taken {
         progress,
         fed: true,
@@ -155,7 +155,7 @@ fn feed_sound(
     marks: &mut [u8],
 ) -> Taken
     requires { ⌜ FeedableIs true progress (length (now chunk)) (length (now lines)) ⌝ }
-    ensures { λ r. ⌜ ChunkFed (bytesTaken (standing progress (areas (now (clocks .entry)) (now (words .entry)) (now (records .entry)) (now (marks .entry)))) (now (chunk .entry))) 0 (now (lines .entry)) r (now (lines .exit)) (areas (now (clocks .exit)) (now (words .exit)) (now (records .exit)) (now (marks .exit))) ⌝ }
+    ensures { λ r. ⌜ ChunkFed (bytesTaken (feedAt progress (areas (now (clocks .entry)) (now (words .entry)) (now (records .entry)) (now (marks .entry)))) (now (chunk .entry))) 0 (now (lines .entry)) r (now (lines .exit)) (areas (now (clocks .exit)) (now (words .exit)) (now (records .exit)) (now (marks .exit))) ⌝ }
 {
     if progress.stopped {
         return Taken {
@@ -164,7 +164,7 @@ fn feed_sound(
             written: 0,
         };
     }
-    let ready = checking::in_order(clocks, words, records, marks);
+    let ready = inorder::in_order(clocks, words, records, marks);
     let stand = Stand {
         number: progress.number,
         stopped: false,
@@ -186,7 +186,7 @@ fn feed_on(
     marks: &mut [u8],
 ) -> Taken
     requires { ⌜ Feedable progress stand (now chunk) (now lines) (now clocks) (now words) (now records) (now marks) ⌝ }
-    ensures { λ r. ⌜ ChunkFed (bytesTaken (standing progress (areas (now (clocks .entry)) (now (words .entry)) (now (records .entry)) (now (marks .entry)))) (now (chunk .entry))) 0 (now (lines .entry)) r (now (lines .exit)) (areas (now (clocks .exit)) (now (words .exit)) (now (records .exit)) (now (marks .exit))) ⌝ }
+    ensures { λ r. ⌜ ChunkFed (bytesTaken (feedAt progress (areas (now (clocks .entry)) (now (words .entry)) (now (records .entry)) (now (marks .entry)))) (now (chunk .entry))) 0 (now (lines .entry)) r (now (lines .exit)) (areas (now (clocks .exit)) (now (words .exit)) (now (records .exit)) (now (marks .exit))) ⌝ }
 {
     if progress.held == 0 {
         return take_rest(stand, chunk, 0, lines, clocks, words, records, marks);
@@ -260,7 +260,7 @@ fn feed_begun(
     marks: &mut [u8],
 ) -> Taken
     requires { ⌜ Completes progress stand first (now chunk) (now lines) (now clocks) (now words) (now records) (now marks) ⌝ }
-    ensures { λ r. ⌜ ChunkFed (bytesTaken (standing progress (areas (now (clocks .entry)) (now (words .entry)) (now (records .entry)) (now (marks .entry)))) (now (chunk .entry))) 0 (now (lines .entry)) r (now (lines .exit)) (areas (now (clocks .exit)) (now (words .exit)) (now (records .exit)) (now (marks .exit))) ⌝ }
+    ensures { λ r. ⌜ ChunkFed (bytesTaken (feedAt progress (areas (now (clocks .entry)) (now (words .entry)) (now (records .entry)) (now (marks .entry)))) (now (chunk .entry))) 0 (now (lines .entry)) r (now (lines .exit)) (areas (now (clocks .exit)) (now (words .exit)) (now (records .exit)) (now (marks .exit))) ⌝ }
 {
     let bytes = first.bytes;
     let behind = take_begun(stand, bytes, lines, clocks, words, records, marks);
@@ -287,9 +287,9 @@ fn take_begun(
     marks: &mut [u8],
 ) -> Stand
     requires { ⌜ BegunPassable stand bytes (now lines) (now clocks) (now words) (now records) (now marks) ⌝ }
-    ensures { λ r. ⌜ Took (recordTaken (standsAt stand (now (lines .entry)) (areas (now (clocks .entry)) (now (words .entry)) (now (records .entry)) (now (marks .entry)))) (take fileRecordWidth bytes)) stand (now (lines .entry)) r (now (lines .exit)) (now (clocks .exit)) (now (words .exit)) (now (records .exit)) (now (marks .exit)) ⌝ }
+    ensures { λ r. ⌜ RecordTaken (recordTaken (standsAt stand (now (lines .entry)) (areas (now (clocks .entry)) (now (words .entry)) (now (records .entry)) (now (marks .entry)))) (take fileRecordWidth bytes)) stand (now (lines .entry)) r (now (lines .exit)) (now (clocks .exit)) (now (words .exit)) (now (records .exit)) (now (marks .exit)) ⌝ }
 {
-    let one = passing::take_whole(stand, &bytes, 0, lines, clocks, words, records, marks);
+    let one = file_chunk::take_whole(stand, &bytes, 0, lines, clocks, words, records, marks);
     one.stand
 }
 
@@ -307,7 +307,7 @@ fn take_rest(
     requires { ⌜ Passable stand (now chunk) from (now lines) (now clocks) (now words) (now records) (now marks) ⌝ }
     ensures { λ r. ⌜ ChunkFed (bytesTaken (standsAt stand (now (lines .entry)) (areas (now (clocks .entry)) (now (words .entry)) (now (records .entry)) (now (marks .entry)))) (drop from (now (chunk .entry)))) (stand .at) (now (lines .entry)) r (now (lines .exit)) (areas (now (clocks .exit)) (now (words .exit)) (now (records .exit)) (now (marks .exit))) ⌝ }
 {
-    let passed = passing::take_whole(stand, chunk, from, lines, clocks, words, records, marks);
+    let passed = file_chunk::take_whole(stand, chunk, from, lines, clocks, words, records, marks);
     let last = passed.stand;
     hold_rest(last, chunk, passed.next)
 }

@@ -1,6 +1,6 @@
 -- `lay_copies` meets its contract: the first k parts are laid. Assumes nothing.
 use Prim.Native.Nat.{_-_}
-use Rattle.limits.specs.Sizes.{partLimit}
+use Rattle.limits.specs.inner.Sizes.{partLimit}
 use Rattle.opening.proofs.Opening.{CopiesLaid, laying-laws}
 use Rattle.opening.proofs.lay_copies.Statement.{statement}
 use Rattle.opening.proofs.lay_copies.Tie as tie

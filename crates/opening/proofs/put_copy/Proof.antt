@@ -1,7 +1,7 @@
 -- `put_copy` meets its contract: the words from i on are still to be laid into the part. Assumes nothing.
 use Prim.Native.Nat.{_-_}
-use Rattle.limits.specs.Sizes.{wordLimit}
-use Rattle.memory.proofs.Rows.{RowWritten, row-laws}
+use Rattle.limits.specs.inner.Sizes.{wordLimit}
+use Rattle.layout.proofs.Rows.{RowWritten, row-laws}
 use Rattle.opening.proofs.put_copy.Statement.{statement}
 use Rattle.opening.proofs.put_copy.Tie as tie
 

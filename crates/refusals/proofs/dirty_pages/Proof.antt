@@ -1,6 +1,6 @@
 -- `dirty_pages` meets its contract: one mark after the other. Assumes nothing.
 use Prim.Native.Nat.{_-_}
-use Rattle.limits.specs.Sizes.{copyLimit}
+use Rattle.limits.specs.inner.Sizes.{copyLimit}
 use Rattle.refusals.proofs.Counting.{MarksCounted}
 use Rattle.refusals.proofs.Refusing.{refusal-laws}
 use Rattle.refusals.proofs.dirty_pages.Statement.{statement}

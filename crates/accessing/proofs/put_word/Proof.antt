@@ -1,9 +1,0 @@
--- `put_word` meets its contract. Assumes nothing.
-use Rattle.accessing.proofs.Storing.{store-laws}
-use Rattle.accessing.proofs.put_word.Statement.{statement}
-use Rattle.accessing.proofs.put_word.Tie as tie
-
-pub put-word-spec : {M : Type 1} → statement M
-put-word-spec =
-    tie.close
-    (tie.spec (λ c κs. search store-laws) (λ c. search store-laws) (λ c. search store-laws) (λ c. search store-laws) (λ c. search store-laws))

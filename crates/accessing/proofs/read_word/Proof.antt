@@ -1,9 +1,0 @@
--- `read_word` meets its contract. Assumes nothing.
-use Rattle.accessing.proofs.Accessing.{access-laws}
-use Rattle.accessing.proofs.read_word.Statement.{statement}
-use Rattle.accessing.proofs.read_word.Tie as tie
-
-pub read-word-spec : {M : Type 1} → statement M
-read-word-spec =
-    tie.close
-    (tie.spec (λ c κs. search access-laws) (λ c κs. search access-laws) (λ c. search access-laws) (λ c. search access-laws) (λ c. search access-laws) (λ c. search access-laws))

@@ -1,9 +1,0 @@
--- `write_word` meets its contract. Assumes nothing.
-use Rattle.accessing.proofs.Accessing.{access-laws}
-use Rattle.accessing.proofs.write_word.Statement.{statement}
-use Rattle.accessing.proofs.write_word.Tie as tie
-
-pub write-word-spec : {M : Type 1} → statement M
-write-word-spec =
-    tie.close
-    (tie.spec (λ c κs. search access-laws) (λ c κs. search access-laws) (λ c. search access-laws) (λ c. search access-laws) (λ c. search access-laws) (λ c. search access-laws) (λ c. search access-laws))

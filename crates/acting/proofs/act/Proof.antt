@@ -1,9 +1,0 @@
--- `act` meets its contract. Assumes nothing.
-use Rattle.acting.proofs.Acting.{acting-laws}
-use Rattle.acting.proofs.act.Statement.{statement}
-use Rattle.acting.proofs.act.Tie as tie
-
-pub act-spec : {M : Type 1} → statement M
-act-spec =
-    tie.close
-    (tie.spec (λ c κs. search acting-laws) (λ c. search acting-laws) (λ c. search acting-laws) (λ c. search acting-laws) (λ c. search acting-laws) (λ c. search acting-laws) (λ c. search acting-laws) (λ c κs. search acting-laws) (λ c. search acting-laws) (λ c. search acting-laws) (λ c. search acting-laws) (λ c. search acting-laws) (λ c. search acting-laws) (λ c κs. search acting-laws) (λ c. search acting-laws) (λ c. search acting-laws) (λ c. search acting-laws) (λ c. search acting-laws) (λ c. search acting-laws) (λ c. search acting-laws))

@@ -1,9 +1,0 @@
--- `complete_round` meets its contract. Assumes nothing.
-use Rattle.barrier.proofs.Completing.{complete-laws}
-use Rattle.barrier.proofs.complete_round.Statement.{statement}
-use Rattle.barrier.proofs.complete_round.Tie as tie
-
-pub complete-round-spec : {M : Type 1} → statement M
-complete-round-spec =
-    tie.close
-    (tie.spec (λ c κs. search complete-laws) (λ c κs. search complete-laws) (λ c. search complete-laws) (λ c. search complete-laws) (λ c. search complete-laws) (λ c κs. search complete-laws) (λ c. search complete-laws) (λ c. search complete-laws) (λ c. search complete-laws) (λ c. search complete-laws) (λ c. search complete-laws))

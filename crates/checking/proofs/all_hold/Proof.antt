@@ -1,9 +1,0 @@
--- `all_hold` meets its contract, area by area. Assumes nothing.
-use Rattle.checking.proofs.AreaTests.{areas-checked}
-use Rattle.checking.proofs.all_hold.Statement.{statement}
-use Rattle.checking.proofs.all_hold.Tie as tie
-
-pub all-hold-spec : {M : Type 1} → statement M
-all-hold-spec =
-    tie.close
-    (tie.spec (λ c κs. search areas-checked) (λ c. search areas-checked) (λ c κs. search areas-checked) (λ c. search areas-checked) (λ c κs. search areas-checked) (λ c. search areas-checked) (λ c κs. search areas-checked) (λ c. search areas-checked))

@@ -1,9 +1,0 @@
--- `copies_of` meets its contract. Assumes nothing.
-use Rattle.checking.proofs.WordTests.{words-checked}
-use Rattle.checking.proofs.copies_of.Statement.{statement}
-use Rattle.checking.proofs.copies_of.Tie as tie
-
-pub copies-of-spec : {M : Type 1} → statement M
-copies-of-spec =
-    tie.close
-    (tie.spec (λ c κs. search words-checked) (λ c. search words-checked) (λ c. search words-checked) (λ c. search words-checked) (λ c. search words-checked) (λ c. search words-checked) (λ c κs. search words-checked) (λ c. search words-checked))

@@ -1,9 +1,0 @@
--- `counts_hold` meets its contract, count by count. Assumes nothing.
-use Rattle.checking.proofs.AreaTests.{areas-checked}
-use Rattle.checking.proofs.counts_hold.Statement.{statement}
-use Rattle.checking.proofs.counts_hold.Tie as tie
-
-pub counts-hold-spec : {M : Type 1} → statement M
-counts-hold-spec =
-    tie.close
-    (tie.spec (λ c. search areas-checked) (λ c. search areas-checked) (λ c. search areas-checked) (λ c. search areas-checked) (λ c. search areas-checked) (λ c. search areas-checked) (λ c. search areas-checked))

@@ -1,3 +1,0 @@
-pub mod Areas
-pub mod Tests
-pub mod Needed

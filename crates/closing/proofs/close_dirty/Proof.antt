@@ -1,9 +1,0 @@
--- `close_dirty` meets its contract. Assumes nothing.
-use Rattle.closing.proofs.Closing.{close-laws}
-use Rattle.closing.proofs.close_dirty.Statement.{statement}
-use Rattle.closing.proofs.close_dirty.Tie as tie
-
-pub close-dirty-spec : {M : Type 1} → statement M
-close-dirty-spec =
-    tie.close
-    (tie.spec (λ c κs. search close-laws) (λ c κs. search close-laws) (λ c κs. search close-laws) (λ c. search close-laws) (λ c. search close-laws) (λ c. search close-laws) (λ c. search close-laws) (λ c. search close-laws) (λ c. search close-laws) (λ c. search close-laws) (λ c. search close-laws))

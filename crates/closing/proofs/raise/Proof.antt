@@ -1,9 +1,0 @@
--- `raise` meets its contract. Assumes nothing.
-use Rattle.closing.proofs.Ticks.{tick-laws}
-use Rattle.closing.proofs.raise.Statement.{statement}
-use Rattle.closing.proofs.raise.Tie as tie
-
-pub raise-spec : {M : Type 1} → statement M
-raise-spec =
-    tie.close
-    (tie.spec (λ c. search tick-laws) (λ c. search tick-laws) (λ c. search tick-laws) (λ c. search tick-laws) (λ c. search tick-laws))

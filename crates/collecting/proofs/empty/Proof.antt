@@ -1,9 +1,0 @@
--- `empty` meets its contract. Assumes nothing.
-use Rattle.collecting.proofs.Emptying.{empty-laws}
-use Rattle.collecting.proofs.empty.Statement.{statement}
-use Rattle.collecting.proofs.empty.Tie as tie
-
-pub empty-spec : {M : Type 1} → statement M
-empty-spec =
-    tie.close
-    (tie.spec (λ c κs. search empty-laws) (λ c κs. search empty-laws) (λ c κs. search empty-laws) (λ c κs. search empty-laws) (λ c. search empty-laws) (λ c. search empty-laws) (λ c. search empty-laws))

@@ -1,0 +1,3 @@
+pub mod InState
+pub mod Comparing
+pub mod Fetching

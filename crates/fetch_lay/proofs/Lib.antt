@@ -1,0 +1,9 @@
+pub mod Ordering
+pub mod Picking
+pub mod Done
+pub mod Listing
+pub mod News
+pub mod Laying
+pub mod Applying
+pub mod Pending
+pub mod Bringing

@@ -1,0 +1,4 @@
+-- what functions and proofs say of one another: no reader need believe it
+pub mod Due
+pub mod Listing
+pub mod Needed

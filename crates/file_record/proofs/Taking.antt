@@ -1,0 +1,170 @@
+-- A line behind those before it, and the opening taken. One law for each way of the code, and `taking-laws`. Assumes nothing.
+use Prim.Native.Nat.{_+_, _-_, _≤_, ℕ}
+use native.Mathlib.Omega.{arith}
+use mathlib.Core.Path.{_∙_, _≡_, ap, refl, sym}
+use mathlib.Core.Bool.{Bool, _&&_, false, not, true}
+use mathlib.Core.List.{List, [], _++_}
+use lib.ListN.{drop, length, length-append, take}
+use lib.Seq.{drop-at, length-sets, length-take-le, sets, sets-eq, take-at}
+use lib.Dec.{eqb}
+use mir.Syntax.{w32}
+use mir.Val.{Fits}
+use borrow.Author.Tests.{eq-eqb, ne-eqb}
+use borrow.Author.Needs.{needs}
+use Rattle.limits.specs.Files.{fileRecordWidth, lineLimit}
+use Rattle.rules.specs.InOrder.{inOrder}
+use Rattle.rules.specs.State.{mainframe}
+use Rattle.rules.proofs.inorder.InOrderWhen.{in-order-when}
+use Rattle.layout.specs.Areas.{stateIn, Areas, areas}
+use Rattle.layout.specs.inner.Needed.{Ready}
+use Rattle.layout.proofs.Encoding.{lent-right}
+use Rattle.inorder.specs.Areas.{areasInOrder}
+use Rattle.inorder.specs.Areas.{OrderIs}
+use Rattle.opening.specs.Promises.{areasOpened, openRefusal}
+use Rattle.opening.proofs.Following.{opened-ready}
+use Rattle.step_act.specs.Telling.{outcomeCount, outcomeRefusal, outcomeValue, told}
+use Rattle.step_act.specs.declared.Outcome.{Outcome}
+use Rattle.step_act.specs.declared.Outcome.the-variants.{Done, Refused}
+use Rattle.lines.specs.Lines.{lineBytes}
+use Rattle.lines.specs.inner.Needed.{Room}
+use Rattle.lines.proofs.Lines.{at-most-44-bytes}
+use Rattle.file_record.specs.Records.{openingTaken, refusalLine}
+use Rattle.file_record.specs.declared.Stand.{Stand}
+use Rattle.file_record.specs.inner.Needed.{RestKept, LinePut, OpenedAs, Takeable, RecordTaken, outcomeLine, standsAt}
+
+-- ---- a line behind those before it
+
+module _ (out : List ℕ) (at : ℕ) (line : List ℕ) (h : at + length line ≤ length out) where
+  front-long : length (take at out ++ line) ≡ at + length line
+  front-long = length-append (take at out) line ∙ omega (arith, length-take-le at out (omega (arith, h)))
+
+  line-kept : RestKept out at (sets out at line) (at + length line)
+  line-kept =
+      record {
+        on = omega arith;
+        within = h;
+        long = length-sets out at line;
+        rest =
+            ap (λ (l : List ℕ). drop (at + length line) l) (sets-eq line out at h)
+            ∙ drop-at (take at out ++ line) (drop (at + length line) out) (at + length line) front-long;
+      }
+
+  line-behind : take (at + length line) (sets out at line) ≡ take at out ++ line
+  line-behind =
+      ap (λ (l : List ℕ). take (at + length line) l) (sets-eq line out at h)
+      ∙ take-at (take at out ++ line) (drop (at + length line) out) (at + length line) front-long
+
+-- a line stored from a place on
+pub line-put : (out : List ℕ) (at n f v k : ℕ) (out′ : List ℕ) (end : ℕ) → Room out at lineLimit → Fits w32 n → Fits w32 f → Fits w32 v → Fits w32 k
+    → end ≡ at + length (lineBytes n f v k) → out′ ≡ sets out at (lineBytes n f v k)
+    → LinePut out at (lineBytes n f v k) out′ end
+line-put out at n f v k out′ end room fn ff fv fk e s =
+    let short = at-most-44-bytes n f v k (fn .fits) (ff .fits) (fv .fits) (fk .fits) in
+    let fits : at + length (lineBytes n f v k) ≤ length out = omega (arith, short, room .room) in
+    rw (e, s)
+    (record {
+      kept = line-kept out at (lineBytes n f v k) fits;
+      near = omega (arith, short);
+      lines = line-behind out at (lineBytes n f v k) fits;
+    })
+
+module _ (out : List ℕ) (at number : ℕ) (out′ : List ℕ) (end : ℕ) where
+  -- the line of a step that was done
+  pub done-line : (o : Outcome) (value count : ℕ) → o ≡ Done value count → LinePut out at (lineBytes number 0 value count) out′ end
+      → LinePut out at (outcomeLine number o) out′ end
+  unfolding outcomeLine told outcomeRefusal outcomeValue outcomeCount
+  done-line o value count e h = rw e h
+
+  -- of one that was refused
+  pub refused-line : (o : Outcome) (refusal n : ℕ) → o ≡ Refused refusal → (n ≡ refusal) × (n ≤ 255) → LinePut out at (lineBytes number n 0 0) out′ end
+      → LinePut out at (outcomeLine number o) out′ end
+  unfolding outcomeLine told outcomeRefusal outcomeValue outcomeCount
+  refused-line o refusal n e f h = rw (e, ← f .0) h
+
+-- ---- the order of the areas
+
+-- memory that is ready is in order
+pub ready-order : (c w r m : List ℕ) → Ready c w r m → OrderIs true c w r m
+unfolding areasInOrder
+ready-order c w r m h =
+    record {
+      is =
+          sym
+          (ap (λ (b : Bool). b && inOrder mainframe (stateIn mainframe c w r m)) (lent-right c w r m (h .lent))
+          ∙ in-order-when mainframe (stateIn mainframe c w r m) (h .in-order));
+    }
+
+-- areas that are the same are in the same order
+same-order : (b : Bool) (c w r m c′ w′ r′ m′ : List ℕ) → OrderIs b c w r m → areas c′ w′ r′ m′ ≡ areas c w r m → OrderIs b c′ w′ r′ m′
+unfolding areas
+same-order b c w r m c′ w′ r′ m′ h e =
+    record { is = h .is ∙ ap (λ (a : Areas). areasInOrder (a .clocks) (a .words) (a .records) (a .marks)) (sym e) }
+
+-- ---- what stands after a record
+
+-- the stand, its lines and its areas by their parts
+pub stands : (number : ℕ) (stopped ready : Bool) (end : ℕ) (out : List ℕ) (a : Areas) (lines : List ℕ) (b : Areas) → take end out ≡ lines → a ≡ b
+    → standsAt (record { number = number; stopped = stopped; ready = ready; at = end }) out a
+    ≡ record { number = number; held = []; stopped = stopped; areas = b; lines = lines }
+unfolding standsAt
+stands number stopped ready end out a lines b e f =
+    ap (λ (l : List ℕ). record { number = number; held = []; stopped = stopped; areas = a; lines = l }) e
+    ∙ ap (λ (x : Areas). record { number = number; held = []; stopped = stopped; areas = x; lines = lines }) f
+
+module _ (s : Stand) (bytes : List ℕ) (from : ℕ) (out c w r m : List ℕ) where
+  -- a refused opening: nothing is laid
+  module _ (n : ℕ) (c′ w′ r′ m′ : List ℕ) (k : ℕ) (out′ : List ℕ) (end : ℕ) (h : Takeable s bytes from out c w r m)
+      (o : OpenedAs (take fileRecordWidth (drop from bytes)) c w r m n c′ w′ r′ m′) (e : (k ≡ n) × (k ≤ 255)) (p : LinePut out (s .at) (lineBytes 0 k 0 0) out′ end) where
+    opening-line : take end out′ ≡ take (s .at) out ++ refusalLine 0 (openRefusal (take fileRecordWidth (drop from bytes)) (areas c w r m))
+    unfolding refusalLine
+    opening-line = p .lines ∙ ap (λ (j : ℕ). take (s .at) out ++ lineBytes 0 j 0 0) (e .0 ∙ o .refusal)
+
+    pub refused-opening-taken : (n ≡ 0 → ⊥)
+        → RecordTaken (openingTaken (standsAt s out (areas c w r m)) (take fileRecordWidth (drop from bytes))) s out (record { number = 1; stopped = true; ready = s .ready; at = end }) out′ c′ w′ r′ m′
+    unfolding openingTaken standsAt areasOpened
+    refused-opening-taken z =
+        let no : eqb (openRefusal (take fileRecordWidth (drop from bytes)) (areas c w r m)) 0 ≡ false = ne-eqb _ 0 (λ q. z (o .refusal ∙ q)) in
+        record {
+          is =
+              stands 1 true (s .ready) end out′ (areas c′ w′ r′ m′) _ _ opening-line (o .laid)
+              ∙ ap (λ (b : Bool). record { number = 1; held = []; stopped = not b; areas = areasOpened (take fileRecordWidth (drop from bytes)) (areas c w r m); lines = take (s .at) out ++ refusalLine 0 (openRefusal (take fileRecordWidth (drop from bytes)) (areas c w r m)) })
+              (sym no);
+          few = omega arith;
+          kept = p .kept;
+          near = p .near;
+          order = same-order (s .ready) c w r m c′ w′ r′ m′ (h .order) (o .laid ∙ rw no refl);
+        }
+
+    pub accepted-opening-taken : n ≡ 0
+        → RecordTaken (openingTaken (standsAt s out (areas c w r m)) (take fileRecordWidth (drop from bytes))) s out (record { number = 1; stopped = false; ready = true; at = end }) out′ c′ w′ r′ m′
+    unfolding openingTaken standsAt
+    accepted-opening-taken z =
+        let yes : eqb (openRefusal (take fileRecordWidth (drop from bytes)) (areas c w r m)) 0 ≡ true = eq-eqb _ 0 (sym (o .refusal) ∙ z) in
+        record {
+          is =
+              stands 1 false true end out′ (areas c′ w′ r′ m′) _ _ opening-line (o .laid)
+              ∙ ap (λ (b : Bool). record { number = 1; held = []; stopped = not b; areas = areasOpened (take fileRecordWidth (drop from bytes)) (areas c w r m); lines = take (s .at) out ++ refusalLine 0 (openRefusal (take fileRecordWidth (drop from bytes)) (areas c w r m)) })
+              (sym yes);
+          few = omega arith;
+          kept = p .kept;
+          near = p .near;
+          order = ready-order c′ w′ r′ m′ (opened-ready (take fileRecordWidth (drop from bytes)) c w r m c′ w′ r′ m′ (sym (o .refusal) ∙ z) (o .laid));
+        }
+
+  -- what the ways ask
+  pub room-for-line : Takeable s bytes from out c w r m → Room out (s .at) lineLimit
+  room-for-line h = record { room = h .room }
+
+-- the eight bytes of an opening, as a part of the bytes
+pub opened-as : (bytes : List ℕ) (from : ℕ) (c w r m : List ℕ) (n : ℕ) (c′ w′ r′ m′ : List ℕ)
+    → n ≡ openRefusal (take (from + fileRecordWidth - from) (drop from bytes)) (areas c w r m)
+    → areas c′ w′ r′ m′ ≡ areasOpened (take (from + fileRecordWidth - from) (drop from bytes)) (areas c w r m)
+    → OpenedAs (take fileRecordWidth (drop from bytes)) c w r m n c′ w′ r′ m′
+opened-as bytes from c w r m n c′ w′ r′ m′ e f =
+    let k : from + fileRecordWidth - from ≡ fileRecordWidth = omega arith in
+    record {
+      refusal = e ∙ ap (λ (j : ℕ). openRefusal (take j (drop from bytes)) (areas c w r m)) k;
+      laid = f ∙ ap (λ (j : ℕ). areasOpened (take j (drop from bytes)) (areas c w r m)) k;
+    }
+
+pub ruleset taking-laws = (line-put, done-line, refused-line, refused-opening-taken, accepted-opening-taken, room-for-line, opened-as, needs)

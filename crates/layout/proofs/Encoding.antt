@@ -1,0 +1,275 @@
+-- The areas hold their state and nothing else: the state that they hold, laid out again, is the areas themselves; and its tables have the
+-- sizes of the mainframe's. Assumes nothing.
+use Prim.Native.Nat.{ℕ, suc, _+_, _*_, _≤_}
+use native.Mathlib.Omega.{arith}
+use mathlib.Core.Path.{_≡_, refl, sym, ap, _∙_}
+use mathlib.Core.Bool.{true, _&&_, and-eq-true-iff}
+use mathlib.Core.List.{List, [], _∷_, _++_}
+use lib.ListN.{length, getD, take, drop}
+use lib.Seq.{take-all, take-add}
+use lib.Dec.{eqb}
+use borrow.Author.Tests.{eqb-true, eq-eqb}
+use Rattle.limits.specs.Limits.{intervalLimit, lockLimit, pageLimit, pageWidth, processorLimit, recordLimit}
+use Rattle.limits.specs.Places.{firstArrived}
+use Rattle.limits.specs.inner.Sizes.{clockArea, clockWidth, copyLimit, firstAppliedRow, firstDirty, firstHolder, firstIntervalRow, firstLockRow, markArea, recordArea, slotWidth, wordArea, wordLimit}
+use Rattle.diff.specs.Reading.{applied}
+use Rattle.rules.specs.InOrder.{slotSize}
+use Rattle.rules.specs.State.{mainframe, Processor, Lock, Applied, Interval, State, clockOf}
+use Rattle.rules.proofs.inorder.Facts.{Sized}
+use Rattle.layout.specs.Layout.{rowOf, tabulate, perProcessor, joinRows}
+use Rattle.layout.specs.Areas.{lockRow, appliedRow, intervalRow, clockRow, clockRows, copyRow, twinRow, wordRows, arrivedPlace, holderPlace, dirtyPlace, markPlaces, clocksIn, pagesIn, recordsIn, marksIn, stateIn, clockBytes, pageWords, recordBytes, markBytes, sizesRight, areas, holding, standingCount}
+use Rattle.layout.specs.inner.Needed.{Lent, Holds}
+use Rattle.layout.specs.inner.Marks.{lockCount, pageCount, processorCount, wishMark}
+use Rattle.layout.proofs.RowLaws.{length-row, length-tabulate, length-per-processor, get-nobody, get-per-processor}
+use Rattle.layout.proofs.ClockLaws.{holder-row-there, clock-read}
+use Rattle.layout.proofs.PageLaws.{copy-row-there, twin-row-there, copy-read, twin-read}
+use Rattle.layout.proofs.SlotLaws.{slot-there, slot-read}
+use Rattle.layout.proofs.Joins.{join-rows, join-per-processor, join-tables, tabulate-part}
+
+-- ---- the clocks
+
+module _ (c : List ℕ) where
+  joined-processor-clocks : joinRows (clocksIn mainframe c .processors) ≡ take (clockWidth * processorLimit) (drop clockWidth c)
+  unfolding clocksIn mainframe clockRow rowOf
+  joined-processor-clocks =
+      join-per-processor processorLimit (λ p. rowOf clockWidth c p)
+      ∙ join-rows processorLimit clockWidth clockWidth c (λ k. rowOf clockWidth c (suc k)) (λ k b. ap (λ (j : ℕ). take clockWidth (drop j c)) (at k))
+    where
+      at : (k : ℕ) → clockWidth * suc k ≡ clockWidth + clockWidth * k
+      at k = omega arith
+
+  joined-lock-clocks : joinRows (clocksIn mainframe c .locks) ≡ take (clockWidth * lockLimit) (drop (clockWidth * firstLockRow) c)
+  unfolding clocksIn mainframe clockRow lockRow rowOf
+  joined-lock-clocks = join-rows lockLimit clockWidth (clockWidth * firstLockRow) c (λ k. rowOf clockWidth c (lockRow mainframe k)) (λ k b. ap (λ (j : ℕ). take clockWidth (drop j c)) (at k))
+    where
+      at : (k : ℕ) → clockWidth * lockRow mainframe k ≡ (clockWidth * firstLockRow) + clockWidth * k
+      at k = omega arith
+
+  joined-applied-clocks : joinRows (joinRows (clocksIn mainframe c .applied)) ≡ take (clockWidth * copyLimit) (drop (clockWidth * firstAppliedRow) c)
+  unfolding clocksIn mainframe clockRow appliedRow rowOf
+  joined-applied-clocks =
+      join-tables processorLimit (λ p. tabulate pageLimit (λ g. rowOf clockWidth c (appliedRow mainframe p g)))
+      ∙ join-rows processorLimit (clockWidth * pageLimit) (clockWidth * firstAppliedRow) c (λ k. joinRows (tabulate pageLimit (λ g. rowOf clockWidth c (appliedRow mainframe (suc k) g))))
+      (λ k b.
+      join-rows pageLimit clockWidth ((clockWidth * firstAppliedRow) + clockWidth * pageLimit * k) c (λ g. rowOf clockWidth c (appliedRow mainframe (suc k) g)) (λ g d. ap (λ (j : ℕ). take clockWidth (drop j c)) (at k g)))
+    where
+      at : (k g : ℕ) → clockWidth * appliedRow mainframe (suc k) g ≡ (clockWidth * firstAppliedRow) + clockWidth * pageLimit * k + clockWidth * g
+      at k g = omega arith
+
+  joined-interval-clocks : joinRows (joinRows (clocksIn mainframe c .intervals)) ≡ take (clockWidth * (processorLimit * intervalLimit)) (drop (clockWidth * firstIntervalRow) c)
+  unfolding clocksIn mainframe clockRow intervalRow rowOf
+  joined-interval-clocks =
+      join-tables processorLimit (λ p. perProcessor intervalLimit (λ i. rowOf clockWidth c (intervalRow mainframe p i)))
+      ∙ join-rows processorLimit (clockWidth * intervalLimit) (clockWidth * firstIntervalRow) c (λ k. joinRows (perProcessor intervalLimit (λ i. rowOf clockWidth c (intervalRow mainframe (suc k) i))))
+      (λ k b.
+      join-per-processor intervalLimit (λ i. rowOf clockWidth c (intervalRow mainframe (suc k) i))
+      ∙ join-rows intervalLimit clockWidth ((clockWidth * firstIntervalRow) + (clockWidth * intervalLimit) * k) c (λ i. rowOf clockWidth c (intervalRow mainframe (suc k) (suc i))) (λ i d. ap (λ (j : ℕ). take clockWidth (drop j c)) (at k i)))
+    where
+      at : (k i : ℕ) → clockWidth * intervalRow mainframe (suc k) (suc i) ≡ (clockWidth * firstIntervalRow) + (clockWidth * intervalLimit) * k + clockWidth * i
+      at k i = omega arith
+
+  barrier-clock : clocksIn mainframe c .barrier ≡ take clockWidth c
+  unfolding clocksIn mainframe clockRow rowOf
+  barrier-clock = refl
+
+  -- the clocks laid out again are their area
+  clock-bytes : length c ≡ clockArea → clockBytes (clocksIn mainframe c) ≡ c
+  unfolding clockBytes
+  clock-bytes h =
+      rw (barrier-clock, joined-processor-clocks, joined-lock-clocks, joined-applied-clocks, joined-interval-clocks)
+      (ap (λ (r : List ℕ). r ++ take (clockWidth * lockLimit) (drop (clockWidth * firstLockRow) c) ++ take (clockWidth * copyLimit) (drop (clockWidth * firstAppliedRow) c) ++ take (clockWidth * (processorLimit * intervalLimit)) (drop (clockWidth * firstIntervalRow) c)) (sym (take-add clockWidth (clockWidth * processorLimit) c))
+      ∙ ap (λ (r : List ℕ). r ++ take (clockWidth * copyLimit) (drop (clockWidth * firstAppliedRow) c) ++ take (clockWidth * (processorLimit * intervalLimit)) (drop (clockWidth * firstIntervalRow) c)) (sym (take-add (clockWidth * firstLockRow) (clockWidth * lockLimit) c))
+      ∙ ap (λ (r : List ℕ). r ++ take (clockWidth * (processorLimit * intervalLimit)) (drop (clockWidth * firstIntervalRow) c)) (sym (take-add (clockWidth * firstAppliedRow) (clockWidth * copyLimit) c))
+      ∙ sym (take-add (clockWidth * firstIntervalRow) (clockWidth * (processorLimit * intervalLimit)) c)
+      ∙ take-all clockArea c (omega arith))
+
+-- ---- the pages
+
+module _ (w m : List ℕ) where
+  joined-copies : joinRows (joinRows (pagesIn mainframe w m .copies)) ≡ take (pageWidth * copyLimit) w
+  unfolding pagesIn mainframe copyRow rowOf
+  joined-copies =
+      join-tables processorLimit (λ p. tabulate pageLimit (λ g. rowOf pageWidth w (copyRow mainframe p g)))
+      ∙ join-rows processorLimit wordLimit 0 w (λ k. joinRows (tabulate pageLimit (λ g. rowOf pageWidth w (copyRow mainframe (suc k) g))))
+      (λ k b.
+      join-rows pageLimit pageWidth (0 + wordLimit * k) w (λ g. rowOf pageWidth w (copyRow mainframe (suc k) g)) (λ g d. ap (λ (j : ℕ). take pageWidth (drop j w)) (at k g)))
+    where
+      at : (k g : ℕ) → pageWidth * copyRow mainframe (suc k) g ≡ 0 + wordLimit * k + pageWidth * g
+      at k g = omega arith
+
+  joined-twins : joinRows (joinRows (pagesIn mainframe w m .twins)) ≡ take (pageWidth * copyLimit) (drop (pageWidth * copyLimit) w)
+  unfolding pagesIn mainframe twinRow copyRow rowOf
+  joined-twins =
+      join-tables processorLimit (λ p. tabulate pageLimit (λ g. rowOf pageWidth w (twinRow mainframe p g)))
+      ∙ join-rows processorLimit wordLimit (pageWidth * copyLimit) w (λ k. joinRows (tabulate pageLimit (λ g. rowOf pageWidth w (twinRow mainframe (suc k) g))))
+      (λ k b.
+      join-rows pageLimit pageWidth ((pageWidth * copyLimit) + wordLimit * k) w (λ g. rowOf pageWidth w (twinRow mainframe (suc k) g)) (λ g d. ap (λ (j : ℕ). take pageWidth (drop j w)) (at k g)))
+    where
+      at : (k g : ℕ) → pageWidth * twinRow mainframe (suc k) g ≡ (pageWidth * copyLimit) + wordLimit * k + pageWidth * g
+      at k g = omega arith
+
+  -- the copies and twins laid out again are their area
+  page-words : length w ≡ wordArea → pageWords (pagesIn mainframe w m) ≡ w
+  unfolding pageWords
+  page-words h = rw (joined-copies, joined-twins) (sym (take-add (pageWidth * copyLimit) (pageWidth * copyLimit) w) ∙ take-all wordArea w (omega arith))
+
+-- ---- the records
+
+-- the slots laid out again are their area
+record-bytes : (r m : List ℕ) → length r ≡ recordArea → recordBytes (recordsIn mainframe r m) ≡ r
+unfolding recordBytes recordsIn mainframe slotSize rowOf
+record-bytes r m h =
+    join-rows recordLimit slotWidth 0 r (λ k. rowOf slotWidth r k) (λ k b. ap (λ (j : ℕ). take slotWidth (drop j r)) (at k)) ∙ take-all recordArea r (omega arith)
+  where
+    at : (k : ℕ) → slotWidth * k ≡ 0 + slotWidth * k
+    at k = omega arith
+
+-- ---- the marks
+
+module _ (m : List ℕ) (h : length m ≡ markArea) where
+  arrived-marks : drop 1 (marksIn mainframe m .arrived) ≡ take processorLimit (drop firstArrived m)
+  unfolding marksIn mainframe arrivedPlace
+  arrived-marks =
+      tabulate-part processorLimit firstArrived m 0 (λ k. getD m (arrivedPlace mainframe (suc k)) 0) (omega arith) (λ k b. ap (λ (j : ℕ). getD m j 0) (at k))
+    where
+      at : (k : ℕ) → arrivedPlace mainframe (suc k) ≡ firstArrived + k
+      at k = omega arith
+
+  holder-marks : marksIn mainframe m .holders ≡ take lockLimit (drop firstHolder m)
+  unfolding marksIn mainframe holderPlace
+  holder-marks = tabulate-part lockLimit firstHolder m 0 (λ k. getD m (holderPlace mainframe k) 0) (omega arith) (λ k b. refl)
+
+  dirty-marks : (w : List ℕ) → joinRows (pagesIn mainframe w m .dirty) ≡ take copyLimit (drop firstDirty m)
+  unfolding pagesIn mainframe dirtyPlace
+  dirty-marks w =
+      join-per-processor processorLimit (λ p. tabulate pageLimit (λ g. getD m (dirtyPlace mainframe p g) 0))
+      ∙ join-rows processorLimit pageLimit firstDirty m (λ k. tabulate pageLimit (λ g. getD m (dirtyPlace mainframe (suc k) g) 0))
+      (λ k b.
+      tabulate-part pageLimit (firstDirty + pageLimit * k) m 0 (λ g. getD m (dirtyPlace mainframe (suc k) g) 0) (omega arith) (λ g d. ap (λ (j : ℕ). getD m j 0) (at k g)))
+    where
+      at : (k g : ℕ) → dirtyPlace mainframe (suc k) g ≡ firstDirty + pageLimit * k + g
+      at k g = omega arith
+
+  first-marks : processorCount m ∷ pageCount m ∷ lockCount m ∷ standingCount m ∷ wishMark m ∷ [] ≡ take firstArrived m
+  unfolding tabulate standingCount
+  first-marks = tabulate-part firstArrived 0 m 0 (λ k. getD m k 0) (omega arith) (λ k b. ap (λ (j : ℕ). getD m j 0) (at k))
+    where
+      at : (k : ℕ) → k ≡ 0 + k
+      at k = omega arith
+
+  -- the marks laid out again are their area
+  mark-bytes : (c w r : List ℕ) → markBytes (stateIn mainframe c w r m) ≡ m
+  unfolding markBytes stateIn recordsIn marksIn standingCount
+  mark-bytes c w r =
+      rw (dirty-marks w, arrived-marks, holder-marks)
+      (ap (λ (s : List ℕ). s ++ take processorLimit (drop firstArrived m) ++ take lockLimit (drop firstHolder m) ++ take copyLimit (drop firstDirty m)) first-marks
+      ∙ ap (λ (s : List ℕ). s ++ take lockLimit (drop firstHolder m) ++ take copyLimit (drop firstDirty m)) (sym (take-add firstArrived processorLimit m))
+      ∙ ap (λ (s : List ℕ). s ++ take copyLimit (drop firstDirty m)) (sym (take-add firstHolder lockLimit m))
+      ∙ sym (take-add firstDirty copyLimit m)
+      ∙ take-all markArea m (omega arith))
+
+-- ---- all four areas
+
+-- the state that four areas hold, laid out again, is the areas
+pub encoded : (c w r m : List ℕ) → Lent c w r m
+    → (clockBytes (clocksIn mainframe c) ≡ c)
+    × (pageWords (pagesIn mainframe w m) ≡ w)
+    × (recordBytes (recordsIn mainframe r m) ≡ r)
+    × (markBytes (stateIn mainframe c w r m) ≡ m)
+encoded c w r m lent =
+    (clock-bytes c (lent .clocks), page-words w m (lent .words), record-bytes r m (lent .records), mark-bytes m (lent .marks) c w r)
+
+-- the tables of the state that the areas hold have the mainframe's sizes
+pub lent-sized : (c w r m : List ℕ) → Lent c w r m → standingCount m ≤ recordLimit → Sized mainframe (stateIn mainframe c w r m)
+unfolding stateIn clocksIn pagesIn recordsIn marksIn mainframe slotSize clockOf
+lent-sized c w r m lent few =
+    record {
+      processors = length-per-processor processorLimit (λ p. rowOf clockWidth c (clockRow mainframe (Processor p)));
+      nobody-clock = ap length (get-nobody processorLimit (λ p. rowOf clockWidth c (clockRow mainframe (Processor p))) []);
+      locks = length-tabulate lockLimit (λ l. rowOf clockWidth c (clockRow mainframe (Lock l)));
+      applied = length-per-processor processorLimit applied-clocks;
+      nobody-applied = ap length (get-nobody processorLimit applied-clocks []);
+      applied-row = λ p h k. ap length (get-per-processor processorLimit applied-clocks p [] h k) ∙ length-tabulate pageLimit (λ g. rowOf clockWidth c (clockRow mainframe (Applied p g)));
+      intervals = length-per-processor processorLimit interval-clocks;
+      nobody-interval = ap length (get-nobody processorLimit interval-clocks []);
+      interval-row =
+          λ p h k. ap length (get-per-processor processorLimit interval-clocks p [] h k) ∙ length-per-processor intervalLimit (λ i. rowOf clockWidth c (clockRow mainframe (Interval p i)));
+      no-interval =
+          λ p h k.
+          ap (λ (t : List (List ℕ)). length (getD t 0 [])) (get-per-processor processorLimit interval-clocks p [] h k)
+          ∙ ap length (get-nobody intervalLimit (λ i. rowOf clockWidth c (clockRow mainframe (Interval p i))) []);
+      clocks =
+          λ h b. ap length (clock-read c h b) ∙ length-row clockWidth c (clockRow mainframe h) (omega (arith, holder-row-there h b, lent .clocks));
+      copies = length-per-processor processorLimit copies;
+      nobody-copy = ap length (get-nobody processorLimit copies []);
+      copies-row = λ p h k. ap length (get-per-processor processorLimit copies p [] h k) ∙ length-tabulate pageLimit (λ g. rowOf pageWidth w (copyRow mainframe p g));
+      copy =
+          λ p g h k b.
+          ap length (copy-read w m p g h k b) ∙ length-row pageWidth w (copyRow mainframe p g) (omega (arith, copy-row-there p g h k b, lent .words));
+      twins = length-per-processor processorLimit twins;
+      nobody-twin = ap length (get-nobody processorLimit twins []);
+      twins-row = λ p h k. ap length (get-per-processor processorLimit twins p [] h k) ∙ length-tabulate pageLimit (λ g. rowOf pageWidth w (twinRow mainframe p g));
+      twin =
+          λ p g h k b.
+          ap length (twin-read w m p g h k b) ∙ length-row pageWidth w (twinRow mainframe p g) (omega (arith, twin-row-there p g h k b, lent .words));
+      dirty = length-per-processor processorLimit dirty;
+      nobody-dirty = ap length (get-nobody processorLimit dirty []);
+      dirty-row = λ p h k. ap length (get-per-processor processorLimit dirty p [] h k) ∙ length-tabulate pageLimit (λ g. getD m (dirtyPlace mainframe p g) 0);
+      slots = length-tabulate recordLimit (λ i. rowOf slotWidth r i);
+      slot = λ i b. ap length (slot-read r m i b) ∙ length-row slotWidth r i (omega (arith, slot-there i b, lent .records));
+      few-standing = few;
+      holders = length-tabulate lockLimit (λ l. getD m (holderPlace mainframe l) 0);
+      arrived = ap suc (length-tabulate processorLimit (λ k. getD m (arrivedPlace mainframe (suc k)) 0));
+    }
+  where
+    applied-clocks : ℕ → List (List ℕ)
+    applied-clocks p = tabulate pageLimit (λ g. rowOf clockWidth c (clockRow mainframe (Applied p g)))
+
+    interval-clocks : ℕ → List (List ℕ)
+    interval-clocks p = perProcessor intervalLimit (λ i. rowOf clockWidth c (clockRow mainframe (Interval p i)))
+
+    copies : ℕ → List (List ℕ)
+    copies p = tabulate pageLimit (λ g. rowOf pageWidth w (copyRow mainframe p g))
+
+    twins : ℕ → List (List ℕ)
+    twins p = tabulate pageLimit (λ g. rowOf pageWidth w (twinRow mainframe p g))
+
+    dirty : ℕ → List ℕ
+    dirty p = tabulate pageLimit (λ g. getD m (dirtyPlace mainframe p g) 0)
+
+-- ---- the size
+
+-- areas of the fixed sizes pass the test of sizes
+pub lent-right : (c w r m : List ℕ) → Lent c w r m → sizesRight mainframe c w r m ≡ true
+unfolding sizesRight clockRows wordRows markPlaces slotSize mainframe
+lent-right c w r m lent =
+    rw (eq-eqb (length c) clockArea (lent .clocks), eq-eqb (length w) wordArea (lent .words), eq-eqb (length r) recordArea (lent .records), eq-eqb (length m) markArea (lent .marks))
+
+-- and areas that pass it have them
+pub right-lent : (c w r m : List ℕ) → sizesRight mainframe c w r m ≡ true → Lent c w r m
+unfolding sizesRight clockRows wordRows markPlaces slotSize mainframe
+right-lent c w r m e =
+    let three = and-eq-true-iff (eqb (length c) clockArea && eqb (length w) wordArea && eqb (length r) recordArea) (eqb (length m) markArea) .0 e in
+    let two = and-eq-true-iff (eqb (length c) clockArea && eqb (length w) wordArea) (eqb (length r) recordArea) .0 (three .0) in
+    let one = and-eq-true-iff (eqb (length c) clockArea) (eqb (length w) wordArea) .0 (two .0) in
+    record {
+      clocks = eqb-true (length c) clockArea (one .0);
+      words = eqb-true (length w) wordArea (one .1);
+      records = eqb-true (length r) recordArea (two .1);
+      marks = eqb-true (length m) markArea (three .1);
+    }
+
+-- ---- the areas as one
+
+-- areas of the right sizes are the areas that hold their state
+pub held-again : (c w r m : List ℕ) → Lent c w r m → holding (stateIn mainframe c w r m) ≡ areas c w r m
+unfolding holding stateIn
+held-again c w r m h =
+    ap (λ (x : List ℕ). areas x (pageWords (pagesIn mainframe w m)) (recordBytes (recordsIn mainframe r m)) (markBytes (stateIn mainframe c w r m))) (clock-bytes c (h .clocks))
+    ∙ ap (λ (x : List ℕ). areas c x (recordBytes (recordsIn mainframe r m)) (markBytes (stateIn mainframe c w r m))) (page-words w m (h .words))
+    ∙ ap (λ (x : List ℕ). areas c w x (markBytes (stateIn mainframe c w r m))) (record-bytes r m (h .records))
+    ∙ ap (λ (x : List ℕ). areas c w r x) (mark-bytes m (h .marks) c w r)
+
+-- areas that hold a state are the areas that the state gives
+pub holding-is : (c w r m : List ℕ) (s : State) → Holds c w r m s → areas c w r m ≡ holding s
+holding-is c w r m s h = sym (held-again c w r m (h .lent)) ∙ ap (λ (x : State). holding x) (h .is)

@@ -1,0 +1,173 @@
+-- The four areas as a state, and a state as the four areas. Assumes nothing.
+use Prim.Native.Nat.{ℕ, suc, _+_, _-_, _*_}
+use mathlib.Core.Bool.{Bool, _&&_}
+use mathlib.Core.List.{List, _∷_, _++_}
+use lib.ListN.{length, getD, drop}
+use lib.Dec.{eqb}
+use Rattle.limits.specs.Places.{processorsPlace, pagesPlace, locksPlace, standingPlace, wantedPlace, firstArrived}
+use Rattle.rules.specs.InOrder.{slotSize}
+use Rattle.rules.specs.State.{Limits, mainframe, Holder, Processor, Lock, Barrier, Applied, Interval, Clocks, Pages, Records, Marks, State, standing}
+use Rattle.layout.specs.Layout.{rowOf, tabulate, perProcessor, joinRows}
+
+-- ---- which row a clock has: the barrier's first, then the processors', the locks', the applied clocks and the intervals'
+
+-- behind the processors
+unfoldable pub lockRow : Limits → ℕ → ℕ
+lockRow lim l = lim .processors + 1 + l
+
+-- behind the locks, a row for each page of each processor
+unfoldable pub appliedRow : Limits → ℕ → ℕ → ℕ
+appliedRow lim p g = lim .processors + 1 + lim .locks + (p - 1) * lim .pages + g
+
+-- behind the applied clocks, a row for each interval of each processor
+unfoldable pub intervalRow : Limits → ℕ → ℕ → ℕ
+intervalRow lim p i = lim .processors + 1 + lim .locks + lim .processors * lim .pages + (p - 1) * lim .intervals + (i - 1)
+
+-- the row of any holder's clock
+unfoldable pub clockRow : Limits → Holder → ℕ
+clockRow lim Barrier = 0
+clockRow lim (Processor p) = p
+clockRow lim (Lock l) = lockRow lim l
+clockRow lim (Applied p g) = appliedRow lim p g
+clockRow lim (Interval p i) = intervalRow lim p i
+
+-- all rows of clocks
+unfoldable pub clockRows : Limits → ℕ
+clockRows lim = lim .processors + 1 + lim .locks + lim .processors * lim .pages + lim .processors * lim .intervals
+
+-- ---- which row of words a page has: the copies, then the twins
+
+-- a row for each page of each processor
+unfoldable pub copyRow : Limits → ℕ → ℕ → ℕ
+copyRow lim p g = (p - 1) * lim .pages + g
+
+-- the same behind the copies
+unfoldable pub twinRow : Limits → ℕ → ℕ → ℕ
+twinRow lim p g = lim .processors * lim .pages + copyRow lim p g
+
+-- all rows of words
+unfoldable pub wordRows : Limits → ℕ
+wordRows lim = lim .processors * lim .pages + lim .processors * lim .pages
+
+-- ---- where a mark stands: processors, pages, locks, records standing, collection wanted, arrived, holders, dirty
+
+-- the arrived mark of processor p
+unfoldable pub arrivedPlace : Limits → ℕ → ℕ
+arrivedPlace lim p = firstArrived + (p - 1)
+
+-- the holder of lock l
+unfoldable pub holderPlace : Limits → ℕ → ℕ
+holderPlace lim l = firstArrived + lim .processors + l
+
+-- the dirty mark of page g of processor p
+unfoldable pub dirtyPlace : Limits → ℕ → ℕ → ℕ
+dirtyPlace lim p g = firstArrived + lim .processors + lim .locks + (p - 1) * lim .pages + g
+
+-- all marks
+unfoldable pub markPlaces : Limits → ℕ
+markPlaces lim = firstArrived + lim .processors + lim .locks + lim .processors * lim .pages
+
+-- how many records stand
+unfoldable pub standingCount : List ℕ → ℕ
+standingCount m = getD m standingPlace 0
+
+-- ---- decode: the state that the areas hold
+
+-- the clocks by holder
+unfoldable pub clocksIn : Limits → List ℕ → Clocks
+clocksIn lim c =
+    record {
+      processors = perProcessor (lim .processors) (λ p. rowOf (lim .processors) c (clockRow lim (Processor p)));
+      locks = tabulate (lim .locks) (λ l. rowOf (lim .processors) c (clockRow lim (Lock l)));
+      barrier = rowOf (lim .processors) c (clockRow lim Barrier);
+      applied = perProcessor (lim .processors) (λ p. tabulate (lim .pages) (λ g. rowOf (lim .processors) c (clockRow lim (Applied p g))));
+      intervals = perProcessor (lim .processors) (λ p. perProcessor (lim .intervals) (λ i. rowOf (lim .processors) c (clockRow lim (Interval p i))));
+    }
+
+-- copies and twins from the words, dirty marks from the marks
+unfoldable pub pagesIn : Limits → List ℕ → List ℕ → Pages
+pagesIn lim w m =
+    record {
+      copies = perProcessor (lim .processors) (λ p. tabulate (lim .pages) (λ g. rowOf (lim .words) w (copyRow lim p g)));
+      twins = perProcessor (lim .processors) (λ p. tabulate (lim .pages) (λ g. rowOf (lim .words) w (twinRow lim p g)));
+      dirty = perProcessor (lim .processors) (λ p. tabulate (lim .pages) (λ g. getD m (dirtyPlace lim p g) 0));
+    }
+
+-- the slots from the records, their number from the marks
+unfoldable pub recordsIn : Limits → List ℕ → List ℕ → Records
+recordsIn lim r m = record { standing = standingCount m; slots = tabulate (lim .records) (λ i. rowOf (slotSize lim) r i) }
+
+-- holders, arrived marks and the wish
+unfoldable pub marksIn : Limits → List ℕ → Marks
+marksIn lim m =
+    record {
+      holders = tabulate (lim .locks) (λ l. getD m (holderPlace lim l) 0);
+      arrived = 0 ∷ tabulate (lim .processors) (λ k. getD m (arrivedPlace lim (suc k)) 0);
+      wanted = getD m wantedPlace 0;
+    }
+
+-- the whole state
+unfoldable pub stateIn : Limits → List ℕ → List ℕ → List ℕ → List ℕ → State
+stateIn lim c w r m =
+    record {
+      counts = record { processors = getD m processorsPlace 0; pages = getD m pagesPlace 0; locks = getD m locksPlace 0 };
+      clocks = clocksIn lim c;
+      pages = pagesIn lim w m;
+      records = recordsIn lim r m;
+      marks = marksIn lim m;
+    }
+
+-- ---- encode: the areas that hold a state
+
+-- the clocks, row by row
+unfoldable pub clockBytes : Clocks → List ℕ
+clockBytes c = c .barrier ++ joinRows (c .processors) ++ joinRows (c .locks) ++ joinRows (joinRows (c .applied)) ++ joinRows (joinRows (c .intervals))
+
+-- the copies, then the twins
+unfoldable pub pageWords : Pages → List ℕ
+pageWords m = joinRows (joinRows (m .copies)) ++ joinRows (joinRows (m .twins))
+
+-- the slots, one after the other
+unfoldable pub recordBytes : Records → List ℕ
+recordBytes r = joinRows (r .slots)
+
+-- the marks in their order
+unfoldable pub markBytes : State → List ℕ
+markBytes s =
+    s .counts .processors ∷ s .counts .pages ∷ s .counts .locks ∷ s .records .standing ∷ s .marks .wanted ∷ drop 1 (s .marks .arrived) ++ s .marks .holders
+    ++ joinRows (s .pages .dirty)
+
+-- ---- "its size is the fixed one"
+
+-- each area has the size of its rows
+unfoldable pub sizesRight : Limits → List ℕ → List ℕ → List ℕ → List ℕ → Bool
+sizesRight lim c w r m =
+    eqb (length c) (lim .processors * clockRows lim)
+    && eqb (length w) (lim .words * wordRows lim)
+    && eqb (length r) (slotSize lim * lim .records)
+    && eqb (length m) (markPlaces lim)
+
+-- ---- the four areas of the mainframe as one
+
+-- the four lent areas
+pub record Areas : Type 0 where
+  pub clocks : List ℕ
+  pub words : List ℕ
+  pub records : List ℕ
+  pub marks : List ℕ
+
+-- the areas of these contents
+unfoldable pub areas : List ℕ → List ℕ → List ℕ → List ℕ → Areas
+areas c w r m = record { clocks = c; words = w; records = r; marks = m }
+
+-- the state that areas of the right sizes hold
+unfoldable pub heldBy : Areas → State
+heldBy a = stateIn mainframe (a .clocks) (a .words) (a .records) (a .marks)
+
+-- the areas that hold a state
+unfoldable pub holding : State → Areas
+holding s = areas (clockBytes (s .clocks)) (pageWords (s .pages)) (recordBytes (s .records)) (markBytes s)
+
+-- whether each of them has its fixed size
+unfoldable pub rightSizes : Areas → Bool
+rightSizes a = sizesRight mainframe (a .clocks) (a .words) (a .records) (a .marks)

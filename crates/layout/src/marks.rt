@@ -1,0 +1,161 @@
+// The marks by name: counts, the records that stand, the wish, who has arrived, who holds a lock, which pages are dirty.
+// Every contract is an equation over the list of the marks, with a definition of specs/Areas.antt.
+ghost use mathlib.Core.Path.{_≡_};
+ghost use mathlib.Core.Bool.{not};
+ghost use Prim.Native.Nat.{_<_, _≤_};
+ghost use lib.ListN.{length, set, replicate};
+ghost use lib.Seq.{sets};
+ghost use lib.Dec.{eqb};
+ghost use Rattle.limits.specs.Limits.{pageLimit, processorLimit, recordLimit};
+ghost use Rattle.limits.specs.Places.{firstArrived, wantedPlace};
+ghost use Rattle.limits.specs.inner.Sizes.{markArea};
+ghost use Rattle.rules.specs.State.{mainframe};
+ghost use Rattle.layout.specs.Areas.{standingCount, arrivedPlace, holderPlace, dirtyPlace};
+ghost use Rattle.layout.specs.inner.Marks.{processorCount, pageCount, lockCount, withStanding, wishMark, arrivedMark, holderMark, dirtyMark};
+ghost use Rattle.layout.specs.inner.Needed.{OnPage, MarksOf, LockMark, PageMark};
+use crate::clear;
+use crate::wide;
+use clock::PageId;
+use clock::ProcessorId;
+use limits::FIRST_ARRIVED;
+use limits::FIRST_DIRTY;
+use limits::FIRST_HOLDER;
+use limits::LOCKS_PLACE;
+use limits::PAGE_LIMIT;
+use limits::PAGES_PLACE;
+use limits::PROCESSORS_PLACE;
+use limits::STANDING_PLACE;
+use limits::WANTED_PLACE;
+
+// How many processors the opening gave.
+pub fn processor_count(marks: &[u8]) -> usize
+    requires { ⌜ length (now marks) ≡ markArea ⌝ }
+    ensures { λ r. ⌜ (r ≡ processorCount (now (marks .entry))) × (r < 256) ⌝ }
+{
+    wide(marks[PROCESSORS_PLACE])
+}
+
+// How many pages.
+pub fn page_count(marks: &[u8]) -> usize
+    requires { ⌜ length (now marks) ≡ markArea ⌝ }
+    ensures { λ r. ⌜ (r ≡ pageCount (now (marks .entry))) × (r < 256) ⌝ }
+{
+    wide(marks[PAGES_PLACE])
+}
+
+// How many locks.
+pub fn lock_count(marks: &[u8]) -> usize
+    requires { ⌜ length (now marks) ≡ markArea ⌝ }
+    ensures { λ r. ⌜ (r ≡ lockCount (now (marks .entry))) × (r < 256) ⌝ }
+{
+    wide(marks[LOCKS_PLACE])
+}
+
+// How many records stand.
+pub fn standing_count(marks: &[u8]) -> usize
+    requires { ⌜ length (now marks) ≡ markArea ⌝ }
+    ensures { λ r. ⌜ (r ≡ standingCount (now (marks .entry))) × (r < 65536) ⌝ }
+{
+    wide(marks[STANDING_PLACE])
+}
+
+// So many records stand.
+pub fn put_standing_count(marks: &mut [u8], n: usize)
+    requires { ⌜ (length (now marks) ≡ markArea) × (n ≤ recordLimit) ⌝ }
+    ensures { λ _. ⌜ now (marks .exit) ≡ withStanding (now (marks .entry)) n ⌝ }
+{
+    marks[STANDING_PLACE] = (n % 256) as u8;
+}
+
+// Whether collection is wanted.
+pub fn is_wanted(marks: &[u8]) -> bool
+    requires { ⌜ length (now marks) ≡ markArea ⌝ }
+    ensures { λ r. ⌜ r ≡ not (eqb (wishMark (now (marks .entry))) 0) ⌝ }
+{
+    marks[WANTED_PLACE] != 0
+}
+
+// The wish becomes a given mark.
+pub fn put_wanted(marks: &mut [u8], mark: u8)
+    requires { ⌜ length (now marks) ≡ markArea ⌝ }
+    ensures { λ _. ⌜ now (marks .exit) ≡ set (now (marks .entry)) wantedPlace mark ⌝ }
+{
+    marks[WANTED_PLACE] = mark;
+}
+
+// Whether a processor has arrived in the open round.
+pub fn has_arrived(marks: &[u8], p: ProcessorId) -> bool
+    requires { ⌜ MarksOf (now marks) (p .0) ⌝ }
+    ensures { λ r. ⌜ r ≡ not (eqb (arrivedMark (now (marks .entry)) (p .0)) 0) ⌝ }
+{
+    marks[FIRST_ARRIVED + (p.0 - 1)] != 0
+}
+
+// A processor is marked as arrived.
+pub fn mark_arrived(marks: &mut [u8], p: ProcessorId)
+    requires { ⌜ MarksOf (now marks) (p .0) ⌝ }
+    ensures { λ _. ⌜ now (marks .exit) ≡ set (now (marks .entry)) (arrivedPlace mainframe (p .0)) 1 ⌝ }
+{
+    marks[FIRST_ARRIVED + (p.0 - 1)] = 1;
+}
+
+// The arrived marks of all processors become 0.
+pub fn clear_arrived(marks: &mut [u8])
+    requires { ⌜ length (now marks) ≡ markArea ⌝ }
+    ensures { λ _. ⌜ now (marks .exit) ≡ sets (now (marks .entry)) firstArrived (replicate processorLimit 0) ⌝ }
+{
+    clear(&mut marks[FIRST_ARRIVED..FIRST_HOLDER]);
+}
+
+// The holder of a lock; 0 is nobody.
+pub fn holder_of(marks: &[u8], lock: usize) -> ProcessorId
+    requires { ⌜ LockMark (now marks) lock ⌝ }
+    ensures { λ r. ⌜ r .0 ≡ holderMark (now (marks .entry)) lock ⌝ }
+{
+    ProcessorId(wide(marks[FIRST_HOLDER + lock]))
+}
+
+// A processor, or nobody, becomes the holder of a lock.
+pub fn put_holder(marks: &mut [u8], lock: usize, p: ProcessorId)
+    requires { ⌜ LockMark (now marks) lock × (p .0 ≤ processorLimit) ⌝ }
+    ensures { λ _. ⌜ now (marks .exit) ≡ set (now (marks .entry)) (holderPlace mainframe lock) (p .0) ⌝ }
+{
+    marks[FIRST_HOLDER + lock] = (p.0 % 256) as u8;
+}
+
+// Whether a processor's copy of a page is dirty.
+pub fn is_dirty(marks: &[u8], p: ProcessorId, g: PageId) -> bool
+    requires { ⌜ PageMark (now marks) (p .0) (g .0) ⌝ }
+    ensures { λ r. ⌜ r ≡ not (eqb (dirtyMark (now (marks .entry)) (p .0) (g .0)) 0) ⌝ }
+{
+    let place = dirty_place(p, g);
+    marks[place] != 0
+}
+
+// A processor's copy of a page is marked as dirty.
+pub fn mark_dirty(marks: &mut [u8], p: ProcessorId, g: PageId)
+    requires { ⌜ PageMark (now marks) (p .0) (g .0) ⌝ }
+    ensures { λ _. ⌜ now (marks .exit) ≡ set (now (marks .entry)) (dirtyPlace mainframe (p .0) (g .0)) 1 ⌝ }
+{
+    let place = dirty_place(p, g);
+    marks[place] = 1;
+}
+
+// The place of the mark that says whether a processor's copy of a page is dirty.
+pub fn dirty_place(p: ProcessorId, g: PageId) -> usize
+    requires { ⌜ OnPage (p .0) (g .0) ⌝ }
+    ensures { λ r. ⌜ r ≡ dirtyPlace mainframe (p .0) (g .0) ⌝ }
+    ensures { λ r. ⌜ r < markArea ⌝ }
+{
+    FIRST_DIRTY + PAGE_LIMIT * (p.0 - 1) + g.0
+}
+
+// Every page of a processor becomes clean.
+pub fn clean_pages(marks: &mut [u8], p: ProcessorId)
+    requires { ⌜ MarksOf (now marks) (p .0) ⌝ }
+    ensures { λ _. ⌜ now (marks .exit) ≡ sets (now (marks .entry)) (dirtyPlace mainframe (p .0) 0) (replicate pageLimit 0) ⌝ }
+{
+    let from = dirty_place(p, PageId(0));
+    let to = from + PAGE_LIMIT;
+    clear(&mut marks[from..to]);
+}

@@ -1,0 +1,14 @@
+-- The numbers of a step file and of its lines. The code has the same names in capitals. Assumes nothing.
+use Prim.Native.Nat.{ℕ}
+
+-- "Records of eight bytes"
+abbrev pub fileRecordWidth : ℕ
+fileRecordWidth = 8
+
+-- "the 1,000,000th step record"
+abbrev pub stepLimit : ℕ
+stepLimit = 1000000
+
+-- the bytes of the longest line: four numbers of ten digits, each with a byte behind it
+abbrev pub lineLimit : ℕ
+lineLimit = 44

@@ -1,0 +1,6 @@
+pub mod Conditions
+pub mod Tables
+pub mod Selected
+pub mod Sorting
+pub mod Passing
+pub mod Stores

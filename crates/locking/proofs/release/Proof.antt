@@ -1,9 +1,0 @@
--- `release` meets its contract. Assumes nothing.
-use Rattle.locking.proofs.Acting.{act-laws}
-use Rattle.locking.proofs.release.Statement.{statement}
-use Rattle.locking.proofs.release.Tie as tie
-
-pub release-spec : {M : Type 1} → statement M
-release-spec =
-    tie.close
-    (tie.spec (λ c κs. search act-laws) (λ c κs. search act-laws) (λ c. search act-laws) (λ c. search act-laws) (λ c. search act-laws) (λ c. search act-laws))

@@ -1,9 +1,0 @@
--- `dirty_place` meets its contract. Assumes nothing.
-use Rattle.memory.proofs.Rows.{row-laws}
-use Rattle.memory.proofs.marks.dirty_place.Statement.{statement}
-use Rattle.memory.proofs.marks.dirty_place.Tie as tie
-
-pub dirty-place-spec : {M : Type 1} → statement M
-dirty-place-spec =
-    tie.close
-    (tie.spec (λ c. search row-laws) (λ c. search row-laws) (λ c. search row-laws) (λ c. search row-laws) (λ c. search row-laws))

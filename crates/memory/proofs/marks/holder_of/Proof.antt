@@ -1,9 +1,0 @@
--- `holder_of` meets its contract. Assumes nothing.
-use Rattle.memory.proofs.MarkFunctions.{mark-laws}
-use Rattle.memory.proofs.marks.holder_of.Statement.{statement}
-use Rattle.memory.proofs.marks.holder_of.Tie as tie
-
-pub holder-of-spec : {M : Type 1} → statement M
-holder-of-spec =
-    tie.close
-    (tie.spec (λ c. search mark-laws) (λ c. search mark-laws) (λ c κs. search mark-laws) (λ c. search mark-laws))

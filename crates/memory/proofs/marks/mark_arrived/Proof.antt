@@ -1,9 +1,0 @@
--- `mark_arrived` meets its contract. Assumes nothing.
-use Rattle.memory.proofs.MarkFunctions.{mark-laws}
-use Rattle.memory.proofs.marks.mark_arrived.Statement.{statement}
-use Rattle.memory.proofs.marks.mark_arrived.Tie as tie
-
-pub mark-arrived-spec : {M : Type 1} → statement M
-mark-arrived-spec =
-    tie.close
-    (tie.spec (λ c. search mark-laws) (λ c. search mark-laws) (λ c. search mark-laws) (λ c. search mark-laws) (λ c. search mark-laws))

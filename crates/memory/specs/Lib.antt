@@ -1,4 +1,0 @@
-pub mod Layout
-pub mod Areas
-pub mod Marks
-pub mod Needed

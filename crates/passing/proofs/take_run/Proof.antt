@@ -1,9 +1,0 @@
--- `take_run` meets its contract. Assumes nothing.
-use Rattle.passing.proofs.Runs.{run-laws}
-use Rattle.passing.proofs.take_run.Statement.{statement}
-use Rattle.passing.proofs.take_run.Tie as tie
-
-pub take-run-spec : {M : Type 1} → statement M
-take-run-spec =
-    tie.close
-    (tie.spec (λ c. search run-laws) (λ c. search run-laws) (λ c κs. search run-laws) (λ c κs. search run-laws) (λ c. search run-laws) (λ c. search run-laws) (λ c κs. search run-laws) (λ c. search run-laws) (λ c. search run-laws) (λ c. search run-laws) (λ c. search run-laws) (λ c. search run-laws) (λ c. search run-laws))

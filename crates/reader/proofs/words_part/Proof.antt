@@ -1,9 +1,0 @@
--- `words_part` meets its contract. Assumes nothing.
-use Rattle.reader.proofs.Pairs.{pair-laws}
-use Rattle.reader.proofs.words_part.Statement.{statement}
-use Rattle.reader.proofs.words_part.Tie as tie
-
-pub words-part-spec : {M : Type 1} → statement M
-words-part-spec =
-    tie.close
-    (tie.spec (λ c. search pair-laws) (λ c. search pair-laws) (λ c. search pair-laws) (λ c. search pair-laws) (λ c. search pair-laws) (λ c. search pair-laws))

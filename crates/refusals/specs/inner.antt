@@ -1,0 +1,4 @@
+-- what functions and proofs say of one another: no reader need believe it
+pub mod Parts
+pub mod Bounds
+pub mod Needed

@@ -1,0 +1,58 @@
+-- The parts of the table of refusals that the crate's functions answer, in the words of the rules. No row from 3 to 10 looks at words, at
+-- slots or, but for the own entry, at clocks, so the parts are those of the state that the marks alone show. Assumes nothing.
+use Prim.Native.Nat.{ℕ, _+_, _*_}
+use mathlib.Core.Bool.{Bool, cond, not, _&&_, _||_}
+use mathlib.Core.List.{List, []}
+use lib.Dec.{leb, ltb, eqb}
+use Rattle.rules.specs.State.{mainframe, State, hasArrived}
+use Rattle.rules.specs.InOrder.{present, dirtyPages}
+use Rattle.rules.specs.Refusals.{Write, Acquire, Release, knownKind, usesValue, lateRefusal}
+use Rattle.layout.specs.Areas.{stateIn}
+
+-- the state of the mainframe with these marks, its clocks, words and slots left out
+unfoldable pub seen : List ℕ → State
+seen marks = stateIn mainframe [] [] [] marks
+
+-- of 5: below which number the object of a known kind is
+unfoldable pub boundOf : State → ℕ → ℕ
+boundOf s kind = cond (leb kind 2) (s .counts .pages * mainframe .words) (cond (leb kind 4) (s .counts .locks) 1)
+
+-- 5: whether object and value fit a known kind
+unfoldable pub fieldsFit : State → ℕ → ℕ → ℕ → Bool
+fieldsFit s kind object value = ltb object (boundOf s kind) && (usesValue kind || eqb value 0)
+
+-- the rows 7 to 10, by the step's kind; none looks at the value, and 7 and 8 not at the own entry
+unfoldable pub refusalOfKind : State → ℕ → ℕ → ℕ → ℕ → ℕ
+refusalOfKind s own kind processor object =
+    cond (eqb kind 2) (lateRefusal mainframe s own processor (Write object 0))
+    (cond (eqb kind 3) (lateRefusal mainframe s 0 0 (Acquire object))
+    (cond (eqb kind 4) (lateRefusal mainframe s 0 processor (Release object))
+    0))
+
+-- 4 and 6: whether a processor is present and has not arrived
+unfoldable pub mayAct : State → ℕ → Bool
+mayAct s processor = present s processor && not (hasArrived s processor)
+
+-- whether no row from 3 to 6 refuses
+unfoldable pub stepFits : State → ℕ → ℕ → ℕ → ℕ → Bool
+stepFits s kind processor object value = knownKind kind && fieldsFit s kind object value && mayAct s processor
+
+-- the rows 5 and 6; 0 where neither refuses
+unfoldable pub earlyOfFields : State → ℕ → ℕ → ℕ → ℕ → ℕ
+earlyOfFields s kind processor object value = cond (not (fieldsFit s kind object value)) 5 (cond (hasArrived s processor) 6 0)
+
+-- the rows 4 to 6
+unfoldable pub earlyOfKnown : State → ℕ → ℕ → ℕ → ℕ → ℕ
+earlyOfKnown s kind processor object value = cond (not (present s processor)) 4 (earlyOfFields s kind processor object value)
+
+-- the rows 3 to 6
+unfoldable pub earlyRefusal : State → ℕ → ℕ → ℕ → ℕ → ℕ
+earlyRefusal s kind processor object value = cond (not (knownKind kind)) 3 (earlyOfKnown s kind processor object value)
+
+-- the records that stand, and one for each dirty page
+unfoldable pub recordsToCome : State → ℕ
+recordsToCome s = s .records .standing + dirtyPages s
+
+-- whether one record more has room even if every page of every processor is dirty
+unfoldable pub roomIfAllDirty : State → Bool
+roomIfAllDirty s = ltb (s .records .standing + s .counts .processors * s .counts .pages) (mainframe .records)

@@ -1,0 +1,86 @@
+-- Happens-before-1 pinned from above: runs in which an order larger than document 01's would put one step before another; where these are 1's
+-- store of 5 and 2's read, the read answers 0. Rests on Edges and JudgedRuns. Assumes nothing.
+use Prim.Native.Nat.{ℕ}
+use mathlib.Core.Path.{_≡_, refl, _∙_, subst}
+use mathlib.Core.Bool.{true}
+use mathlib.Core.List.{List, [], _∷_}
+use Rattle.rules.specs.State.{mainframe, Counts}
+use Rattle.rules.specs.InOrder.{inRange, countsInRange}
+use Rattle.rules.specs.Opening.{openingRefusal, opened}
+use Rattle.rules.specs.Refusals.{Step, Answer}
+use Rattle.rules.specs.Runs.{answers, answersInOrder}
+use Rattle.rules.specs.Order.{events, Before}
+use Rattle.rules.proofs.InOrderRuns.{answers-in-order}
+use Rattle.rules.proofs.inorder.OpenedInOrder.{opened-in-order}
+use Rattle.rules.proofs.order.Edges.{apart, apart-not-before}
+use Rattle.rules.proofs.runs.Listing.{reads, writes, acquires, releases, arrives, start, answering}
+use Rattle.rules.proofs.runs.StoredCases.{accepted}
+use Rattle.rules.proofs.runs.JudgedRuns.{counting, openingWith, in-range-accepted, eventsFrom, allAccepted}
+
+-- a run from an accepted opening with its answers, in which the step at place i is not before the step at place j
+pub record NotBefore (c : Counts) (ts : List Step) (answered : List Answer) (i j : ℕ) : Type 0 where
+  pub opening : openingRefusal mainframe (openingWith c) ≡ 0
+  pub answers-are : answers mainframe (opened mainframe c) ts ≡ answered
+  pub not-before : Before (c .processors) (eventsFrom c ts) i j → ⊥
+
+-- the answers and the test are computed
+shown : {c : Counts} {ts : List Step} {answered : List Answer} {i j : ℕ} → countsInRange mainframe c ≡ true
+    → answersInOrder mainframe (opened mainframe c) ts ≡ answered → apart (c .processors) (events ts answered) i j ≡ true → NotBefore c ts answered i j
+shown {c} {ts} {answered} {i} {j} in-range computed test =
+    let answers-are : answers mainframe (opened mainframe c) ts ≡ answered =
+    answers-in-order mainframe (opened mainframe c) ts (opened-in-order mainframe c in-range) ∙ computed in
+    record {
+      opening = in-range-accepted c in-range;
+      answers-are = answers-are;
+      not-before = λ x. apart-not-before (c .processors) (events ts answered) i j test (subst (λ (l : List Answer). Before (c .processors) (events ts l) i j) answers-are x);
+    }
+
+-- a refused step
+abbrev refused : ℕ → Answer
+refused r = answering r 0 0
+
+-- ---- the theorem
+
+-- Each run has processors and locks, its steps, their answers, and the places of the two steps
+pub record NothingMore : Type 0 where
+  -- "that lock": 1 frees lock 0, 2 takes lock 1
+  pub other-lock : NotBefore (counting 2 2) (acquires 1 0 ∷ writes 1 0 5 ∷ releases 1 0 ∷ acquires 2 1 ∷ reads 2 0 ∷ [])
+      (accepted ∷ accepted ∷ accepted ∷ accepted ∷ accepted ∷ []) 1 4
+  -- "every later acquire": 2 has taken the lock before 1 frees it
+  pub earlier-acquire : NotBefore (counting 2 1) (acquires 2 0 ∷ releases 2 0 ∷ acquires 1 0 ∷ writes 1 0 5 ∷ releases 1 0 ∷ reads 2 0 ∷ [])
+      (accepted ∷ accepted ∷ accepted ∷ accepted ∷ accepted ∷ accepted ∷ []) 3 5
+  -- "a refused one has no place in the order": 1 frees a lock that it does not hold
+  pub refused-release : NotBefore (counting 2 1) (writes 1 0 5 ∷ releases 1 0 ∷ acquires 2 0 ∷ reads 2 0 ∷ [])
+      (accepted ∷ refused 8 ∷ accepted ∷ accepted ∷ []) 0 3
+  -- 2 asks for a lock that 3 holds
+  pub refused-acquire : NotBefore (counting 3 1) (acquires 1 0 ∷ writes 1 0 5 ∷ releases 1 0 ∷ acquires 3 0 ∷ acquires 2 0 ∷ reads 2 0 ∷ [])
+      (accepted ∷ accepted ∷ accepted ∷ accepted ∷ refused 7 ∷ accepted ∷ []) 1 5
+  -- 1 arrives a second time in its round
+  pub refused-arrival : NotBefore (counting 2 1) (writes 1 0 5 ∷ arrives 1 ∷ arrives 1 ∷ reads 2 0 ∷ [])
+      (accepted ∷ accepted ∷ refused 6 ∷ accepted ∷ []) 0 3
+  -- "every arrival of a completed round": of three processors two have arrived
+  pub round-not-complete : NotBefore (counting 3 1) (writes 1 0 5 ∷ arrives 1 ∷ arrives 3 ∷ reads 2 0 ∷ [])
+      (accepted ∷ accepted ∷ accepted ∷ accepted ∷ []) 0 3
+  -- one round is complete, 1 has arrived in the next
+  pub round-before : NotBefore (counting 2 1) (arrives 1 ∷ arrives 2 ∷ writes 1 0 5 ∷ arrives 1 ∷ reads 2 0 ∷ [])
+      (accepted ∷ accepted ∷ accepted ∷ accepted ∷ accepted ∷ []) 2 4
+  -- "after that round's last arrival": the last arrival itself is not after the others
+  pub last-arrival : NotBefore (counting 2 1) (writes 1 0 5 ∷ arrives 1 ∷ arrives 2 ∷ []) (accepted ∷ accepted ∷ accepted ∷ []) 1 2
+  -- "each release before every later acquire": neither an acquire before a release or an acquire, nor a release before a release. No run has these
+  -- steps accepted in this order; it is said of the list alone
+  pub other-pairs : Before 2 (allAccepted (writes 1 0 5 ∷ acquires 1 0 ∷ acquires 2 0 ∷ releases 1 0 ∷ releases 2 0 ∷ reads 2 0 ∷ [])) 0 5 → ⊥
+
+pub nothing-more : NothingMore
+unfolding start events apart allAccepted countsInRange inRange
+nothing-more =
+    record {
+      other-lock = shown refl refl refl;
+      earlier-acquire = shown refl refl refl;
+      refused-release = shown refl refl refl;
+      refused-acquire = shown refl refl refl;
+      refused-arrival = shown refl refl refl;
+      round-not-complete = shown refl refl refl;
+      round-before = shown refl refl refl;
+      last-arrival = shown refl refl refl;
+      other-pairs = apart-not-before 2 (allAccepted (writes 1 0 5 ∷ acquires 1 0 ∷ acquires 2 0 ∷ releases 1 0 ∷ releases 2 0 ∷ reads 2 0 ∷ [])) 0 5 refl;
+    }

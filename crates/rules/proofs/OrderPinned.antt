@@ -1,0 +1,236 @@
+-- Happens-before-1 pinned from below: for each of its edges a real run in which demand 3 judges a read, and in which every derivation that a
+-- write is before the read has that edge in it. An order without the edge, or with one that never holds, has no such run. Rests on Edges,
+-- JudgedRuns and PremisesMet. Assumes nothing.
+use Prim.Native.Nat.{ℕ}
+use native.Mathlib.Omega.{arith}
+use mathlib.Core.Path.{_≡_, refl, sym, _∙_, subst}
+use mathlib.Core.Bool.{Bool, true, not, _||_}
+use mathlib.Core.List.{List, [], _∷_}
+use lib.Dec.{eqb}
+use borrow.Author.Tests.{eq-eqb, not-true}
+use Rattle.lists.specs.Tables.{every}
+use Rattle.lists.proofs.Tables.{every-at}
+use Rattle.lists.proofs.Conditions.{conjoined, conjoined-at}
+use Rattle.rules.specs.State.{mainframe, Counts}
+use Rattle.rules.specs.InOrder.{inRange, countsInRange}
+use Rattle.rules.specs.Opening.{openingRefusal, opened}
+use Rattle.rules.specs.Refusals.{Step, Read, Write}
+use Rattle.rules.specs.Runs.{answers, answersInOrder}
+use Rattle.rules.specs.Order.{Event, events, eventAt, Took, Before, chain}
+use Rattle.rules.specs.Demand.{isWriteTo, lastWritten, EarlierWrite, Synchronized, Judged, valueAt}
+use Rattle.rules.proofs.order.ActionKinds.{writesTo, took-write}
+use Rattle.rules.proofs.order.Edges.{Edge, ByProgram, ByLock, ByRound, ByChain, just, has, joins, joins-before, closedUnder, only-by, only-chained}
+use Rattle.rules.proofs.runs.Listing.{reads, writes, acquires, releases, arrives, start}
+use Rattle.rules.proofs.runs.BenchFaults.{stepsC}
+use Rattle.rules.proofs.runs.JudgedRuns.{synchronized, openingWith, in-range-accepted, eventsFrom, events-computed, read-judged, allAccepted, counting}
+use Rattle.rules.proofs.PremisesMet.{read-taken, read-is-synchronized, computed-events}
+
+-- ---- what a run shows of an edge
+
+-- every derivation that an earlier write to w is before place j has the edge e in it
+pub record OnlyBy (e : Edge) (n : ℕ) (es : List Event) (w j : ℕ) : Type 0 where
+  pub derived : (i p u : ℕ) → EarlierWrite es w j i p u → (x : Before n es i j) → has (just e) x ≡ true
+
+-- what is shown of the steps of a run: processor p's read of w at place j, and the value field v of the last write to w before it
+pub record Shown (e : Edge) (n : ℕ) (es : List Event) (w j p v : ℕ) : Type 0 where
+  -- the read is accepted
+  pub read : Took es j p (Read w)
+  -- the premise of demand 3 is met
+  pub premise : Synchronized n es w j
+  -- and it is so by this edge alone
+  pub only : OnlyBy e n es w j
+  pub last : lastWritten es w j ≡ v
+
+-- a run from an accepted opening in which the premise holds by the edge e alone, and demand 3 gives the value: it is not 0
+pub record Pinned (e : Edge) (c : Counts) (ts : List Step) (w j p v : ℕ) : Type 0 where
+  pub opening : openingRefusal mainframe (openingWith c) ≡ 0
+  pub shown : Shown e (c .processors) (eventsFrom c ts) w j p v
+  pub value : valueAt (answers mainframe (opened mainframe c) ts) j ≡ v
+  pub not-zero : v ≡ 0 → ⊥
+  -- demand 3 leaves no other value
+  pub no-other : (x : ℕ) → Judged (c .processors) (eventsFrom c ts) w j x → x ≡ v
+
+-- what the steps show, demand 3 judges
+pinned : {e : Edge} {c : Counts} {ts : List Step} {w j p v : ℕ} (es : List Event) → countsInRange mainframe c ≡ true
+    → events ts (answersInOrder mainframe (opened mainframe c) ts) ≡ es → Shown e (c .processors) es w j p v → (v ≡ 0 → ⊥) → Pinned e c ts w j p v
+pinned {e} {c} {ts} {w} {j} {p} {v} es in-range computed shown not-zero =
+    let here : Shown e (c .processors) (eventsFrom c ts) w j p v =
+    subst (λ (l : List Event). Shown e (c .processors) l w j p v) (sym (events-computed c in-range ts es computed)) shown in
+    record {
+      opening = in-range-accepted c in-range;
+      shown = here;
+      value = read-judged c in-range ts j p w (here .read) (here .premise) ∙ here .last;
+      not-zero = not-zero;
+      no-other = λ x judged. judged .last (here .premise) ∙ here .last;
+    }
+
+-- ---- by this edge alone, computed
+
+-- a test that every write to w before place j passes
+unfoldable pub everyWrite : List Event → ℕ → ℕ → (ℕ → Bool) → Bool
+unfolding every
+everyWrite es w j test = every j (λ i. not (isWriteTo (eventAt es i) w) || test i)
+
+write-passes : (es : List Event) (w j : ℕ) (test : ℕ → Bool) → everyWrite es w j test ≡ true → (i p u : ℕ) → EarlierWrite es w j i p u → test i ≡ true
+unfolding everyWrite writesTo
+write-passes es w j test all i p u h =
+    let is-write : isWriteTo (eventAt es i) w ≡ true = took-write es i w p (Write w u) (h .wrote) ∙ eq-eqb w w refl in
+    let here : (not (isWriteTo (eventAt es i) w) || test i) ≡ true = every-at j (λ i. not (isWriteTo (eventAt es i) w) || test i) i all (h .earlier) in
+    rw is-write at here
+
+module _ (n : ℕ) (es : List Event) (w j : ℕ) where
+  cutOffTests : Edge → (ℕ → ℕ → Bool) → ℕ → List Bool
+  cutOffTests e inside i = closedUnder (just e) n es (inside i) ∷ inside i i ∷ not (inside i j) ∷ []
+
+  -- without the edge e a write leads to no place outside a set that it is in, and the read is outside
+  unfoldable pub cutOff : Edge → (ℕ → ℕ → Bool) → ℕ → Bool
+  unfolding cutOffTests closedUnder just conjoined
+  cutOff e inside i = conjoined (cutOffTests e inside i)
+
+  only-cut-off : (e : Edge) (inside : ℕ → ℕ → Bool) → everyWrite es w j (cutOff e inside) ≡ true → OnlyBy e n es w j
+  unfolding cutOff
+  only-cut-off e inside all = record { derived = λ i p u h. go i (write-passes es w j (cutOff e inside) all i p u h) }
+    where
+      go : (i : ℕ) → conjoined (cutOffTests e inside i) ≡ true → (x : Before n es i j) → has (just e) x ≡ true
+      go i h =
+          let tests = cutOffTests e inside i in
+          only-by n es i j e (inside i) (conjoined-at tests 0 h) (conjoined-at tests 1 h) (not-true (inside i j) (conjoined-at tests 2 h))
+
+  unjoinedTests : ℕ → List Bool
+  unjoinedTests i = not (joins ByProgram n es i j) ∷ not (joins ByLock n es i j) ∷ not (joins ByRound n es i j) ∷ []
+
+  -- no edge by itself joins a write to the read
+  unfoldable pub unjoined : ℕ → Bool
+  unfolding unjoinedTests joins conjoined
+  unjoined i = conjoined (unjoinedTests i)
+
+  only-by-chaining : everyWrite es w j unjoined ≡ true → OnlyBy ByChain n es w j
+  unfolding unjoined
+  only-by-chaining all = record { derived = λ i p u h. go i (write-passes es w j unjoined all i p u h) }
+    where
+      go : (i : ℕ) → conjoined (unjoinedTests i) ≡ true → (x : Before n es i j) → has (just ByChain) x ≡ true
+      go i h =
+          let at = conjoined-at (unjoinedTests i) in
+          only-chained n es i j (not-true (joins ByProgram n es i j) (at 0 h)) (not-true (joins ByLock n es i j) (at 1 h)) (not-true (joins ByRound n es i j) (at 2 h))
+
+-- a place by itself, and the places of its processor: where a write can lead without the edge of a run
+abbrev itself : ℕ → ℕ → Bool
+itself i k = eqb i k
+
+abbrev ownSteps : List Event → ℕ → ℕ → Bool
+ownSteps es i k = eqb (eventAt es i .step .processor) (eventAt es k .step .processor)
+
+-- ---- "a card's steps in their order"
+
+-- 1 stores 5 in word 0, then 6, and reads it. Nobody takes or frees a lock or arrives, so there is no other edge in this run
+unfoldable pub stepsProgram : List Step
+stepsProgram = writes 1 0 5 ∷ writes 1 0 6 ∷ reads 1 0 ∷ []
+
+program-shown : Shown ByProgram 2 (allAccepted stepsProgram) 0 2 1 6
+unfolding stepsProgram allAccepted everyWrite cutOff
+program-shown =
+    let es = allAccepted stepsProgram in
+    record {
+      read = record { accepted = refl; processor = refl; action = refl };
+      premise = synchronized 2 es 0 2 (1 ∷ 0 ∷ []) refl (joins-before 2 es 1 2 ByProgram refl, (joins-before 2 es 0 1 ByProgram refl, tt));
+      only = only-cut-off 2 es 0 2 ByProgram itself refl;
+      last = refl;
+    }
+
+program-pinned : Pinned ByProgram (counting 2 1) stepsProgram 0 2 1 6
+unfolding start stepsProgram events allAccepted countsInRange inRange
+program-pinned = pinned (allAccepted stepsProgram) refl refl program-shown (λ e. omega (arith, e))
+
+-- ---- "each release before every later acquire of that lock"
+
+-- Under lock 0 processor 1 stores 5 in word 0, then 2 stores 6 there; 3 takes the lock and reads. The stores and the read are by three
+-- processors, and nobody arrives: without the lock a store leads to its processor's own steps alone
+unfoldable pub stepsLock : List Step
+stepsLock = acquires 1 0 ∷ writes 1 0 5 ∷ releases 1 0 ∷ acquires 2 0 ∷ writes 2 0 6 ∷ releases 2 0 ∷ acquires 3 0 ∷ reads 3 0 ∷ []
+
+lock-shown : Shown ByLock 3 (allAccepted stepsLock) 0 7 3 6
+unfolding stepsLock allAccepted everyWrite cutOff
+lock-shown =
+    let es = allAccepted stepsLock in
+    record {
+      read = record { accepted = refl; processor = refl; action = refl };
+      premise =
+          synchronized 3 es 0 7 (4 ∷ 1 ∷ []) refl (
+            chain 5 (joins-before 3 es 4 5 ByProgram refl) (chain 6 (joins-before 3 es 5 6 ByLock refl) (joins-before 3 es 6 7 ByProgram refl)),
+            (
+              chain 2 (joins-before 3 es 1 2 ByProgram refl) (chain 3 (joins-before 3 es 2 3 ByLock refl) (joins-before 3 es 3 4 ByProgram refl)),
+              tt,
+            ),
+          );
+      only = only-cut-off 3 es 0 7 ByLock (ownSteps es) refl;
+      last = refl;
+    }
+
+lock-pinned : Pinned ByLock (counting 3 1) stepsLock 0 7 3 6
+unfolding start stepsLock events allAccepted countsInRange inRange
+lock-pinned = pinned (allAccepted stepsLock) refl refl lock-shown (λ e. omega (arith, e))
+
+-- ---- "every arrival of a completed round before every step any card takes after that round's last arrival"
+
+-- 1 stores 5 in word 0, all arrive; 2 stores 6 there, all arrive; 3 reads. The first arrival of the first round is before 2's store, the last
+-- one of the second round before the read of 3, which arrived first. There is no lock, so without rounds a store leads to its processor's own
+-- steps alone; with one arrival missing they order nothing (`round-not-complete` of NotOrdered)
+unfoldable pub stepsRound : List Step
+stepsRound = writes 1 0 5 ∷ arrives 1 ∷ arrives 2 ∷ arrives 3 ∷ writes 2 0 6 ∷ arrives 3 ∷ arrives 1 ∷ arrives 2 ∷ reads 3 0 ∷ []
+
+round-shown : Shown ByRound 3 (allAccepted stepsRound) 0 8 3 6
+unfolding stepsRound allAccepted everyWrite cutOff
+round-shown =
+    let es = allAccepted stepsRound in
+    record {
+      read = record { accepted = refl; processor = refl; action = refl };
+      premise =
+          synchronized 3 es 0 8 (4 ∷ 0 ∷ []) refl (
+            chain 7 (joins-before 3 es 4 7 ByProgram refl) (joins-before 3 es 7 8 ByRound refl),
+            (
+              chain 1 (joins-before 3 es 0 1 ByProgram refl) (joins-before 3 es 1 4 ByRound refl),
+              tt,
+            ),
+          );
+      only = only-cut-off 3 es 0 8 ByRound (ownSteps es) refl;
+      last = refl;
+    }
+
+round-pinned : Pinned ByRound (counting 3 1) stepsRound 0 8 3 6
+unfolding start stepsRound events allAccepted countsInRange inRange
+round-pinned = pinned (allAccepted stepsRound) refl refl round-shown (λ e. omega (arith, e))
+
+-- ---- "and what follows by chaining"
+
+-- Bench case C: 1 stores 5 under lock 0, 2 takes lock 0 and then lock 1, 3 takes lock 1 and reads. No edge by itself joins 1's store to 3's
+-- read, and no lock has been with both
+chain-shown : Shown ByChain 3 (allAccepted stepsC) 0 8 3 5
+unfolding stepsC allAccepted everyWrite unjoined
+chain-shown =
+    record {
+      read = read-taken;
+      premise = read-is-synchronized;
+      only = only-by-chaining 3 (allAccepted stepsC) 0 8 refl;
+      last = refl;
+    }
+
+chain-pinned : Pinned ByChain (counting 3 2) stepsC 0 8 3 5
+unfolding start countsInRange inRange
+chain-pinned = pinned (allAccepted stepsC) refl computed-events chain-shown (λ e. omega (arith, e))
+
+-- ---- the theorem
+
+-- For each edge: processors and locks, a list of steps, the word, the place of the read and its processor, and the value
+pub record OrderPinned : Type 0 where
+  -- "a card's steps in their order": 1 reads the last of its own two stores
+  pub by-program : Pinned ByProgram (counting 2 1) stepsProgram 0 2 1 6
+  -- "each release before every later acquire of that lock": 1 and 2 store under one lock, 3 takes it and reads 2's store
+  pub by-lock : Pinned ByLock (counting 3 1) stepsLock 0 7 3 6
+  -- "every arrival of a completed round before every step any card takes after that round's last arrival": 1 stores, then a round, 2 stores,
+  -- then a round, and 3 reads 2's store
+  pub by-round : Pinned ByRound (counting 3 1) stepsRound 0 8 3 6
+  -- "and what follows by chaining": 1's store goes through lock 0 to 2 and through lock 1 to 3, which reads it
+  pub by-chain : Pinned ByChain (counting 3 2) stepsC 0 8 3 5
+
+pub order-pinned : OrderPinned
+order-pinned = record { by-program = program-pinned; by-lock = lock-pinned; by-round = round-pinned; by-chain = chain-pinned }

@@ -1,0 +1,53 @@
+-- Document 01, "Where each refusal is checked": "Top to bottom; the first that applies is given". Runs, computed, with steps to which several rows
+-- apply at once. Rests on FromStart. Assumes nothing.
+use mathlib.Core.Path.{_≡_, refl, _∙_}
+use mathlib.Core.List.{List, [], _∷_}
+use Rattle.rules.specs.State.{Limits, mainframe}
+use Rattle.rules.specs.InOrder.{inRange, countsInRange}
+use Rattle.rules.specs.Opening.{opened}
+use Rattle.rules.specs.Refusals.{Step, stepOf}
+use Rattle.rules.specs.Runs.{answers, answersInOrder}
+use Rattle.rules.proofs.inorder.OpenedInOrder.{opened-in-order}
+use Rattle.rules.proofs.InOrderRuns.{answers-in-order}
+use Rattle.rules.proofs.runs.Listing.{reads, writes, acquires, releases, arrives, start, answering}
+use Rattle.rules.proofs.runs.FromStart.{answers-from-start}
+use Rattle.rules.proofs.runs.StoredCases.{accepted}
+
+-- Two processors, one page, one lock. Kind 7 by processor 9 with object 99 (rows 3, 4, 5); processor 3 reads word 32 (4, 5), and frees lock 0 (4, 8);
+-- 2 takes lock 0; 1 arrives; it reads word 32 (5, 6), takes lock 0 (6, 7) and frees it (6, 8); 2 takes lock 1, which is absent (5)
+unfoldable pub severalRows : List Step
+severalRows =
+    stepOf 7 9 99 0 ∷ reads 3 32 ∷ releases 3 0 ∷ acquires 2 0 ∷ arrives 1 ∷ reads 1 32 ∷ acquires 1 0 ∷ releases 1 0 ∷ acquires 2 1 ∷ []
+
+computed-rows : answersInOrder mainframe (start 2 1 1) severalRows
+    ≡ answering 3 0 0 ∷ answering 4 0 0 ∷ answering 4 0 0 ∷ accepted ∷ accepted ∷ answering 5 0 0 ∷ answering 6 0 0 ∷ answering 6 0 0 ∷ answering 5 0 0 ∷ []
+unfolding start severalRows stepOf
+computed-rows = refl
+
+-- of several rows the uppermost is given
+pub upper-row-first : answers mainframe (start 2 1 1) severalRows
+    ≡ answering 3 0 0 ∷ answering 4 0 0 ∷ answering 4 0 0 ∷ accepted ∷ accepted ∷ answering 5 0 0 ∷ answering 6 0 0 ∷ answering 6 0 0 ∷ answering 5 0 0 ∷ []
+unfolding countsInRange inRange mainframe
+upper-row-first = answers-from-start 2 1 1 refl severalRows ∙ computed-rows
+
+-- limits with room for one record and one interval, and pages of one word
+unfoldable pub tight : Limits
+tight = record { processors = 2; pages = 2; words = 1; locks = 1; records = 1; intervals = 1 }
+
+-- 1 stores in page 0 and takes a lock, so that its one interval is made and the one record stands; it stores in page 1, which is clean (rows 9, 10);
+-- 2, with its interval left, stores there (10); 1 arrives and stores once more (6, 9, 10)
+unfoldable pub noSpace : List Step
+noSpace = writes 1 0 5 ∷ acquires 1 0 ∷ writes 1 1 5 ∷ writes 2 1 5 ∷ arrives 1 ∷ writes 1 1 5 ∷ []
+
+computed-space : answersInOrder tight (opened tight (record { processors = 2; pages = 2; locks = 1 })) noSpace
+    ≡ accepted ∷ accepted ∷ answering 9 0 0 ∷ answering 10 0 0 ∷ accepted ∷ answering 6 0 0 ∷ []
+unfolding start tight noSpace
+computed-space = refl
+
+-- 9 stands above 10, and both below 6
+pub nine-before-ten : answers tight (opened tight (record { processors = 2; pages = 2; locks = 1 })) noSpace
+    ≡ accepted ∷ accepted ∷ answering 9 0 0 ∷ answering 10 0 0 ∷ accepted ∷ answering 6 0 0 ∷ []
+unfolding countsInRange inRange tight
+nine-before-ten =
+    answers-in-order tight (opened tight (record { processors = 2; pages = 2; locks = 1 })) noSpace (opened-in-order tight (record { processors = 2; pages = 2; locks = 1 }) refl)
+    ∙ computed-space

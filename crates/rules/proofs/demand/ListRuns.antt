@@ -1,0 +1,103 @@
+-- The run over a list of steps as states by time, and what its reads answer. Rests on OpenedInOrder, InOrderRuns and Timeline. Assumes
+-- nothing.
+use Prim.Native.Nat.{ℕ, zero, suc, _<_}
+use mathlib.Core.Path.{_≡_, refl, sym, ap, ap₂, _∙_}
+use mathlib.Core.Bool.{Bool, true, false, cond, false≢true}
+use mathlib.Core.List.{List, [], _∷_}
+use lib.ListN.{take}
+use lib.Dec.{eqb}
+use borrow.Author.Tests.{eqb-true}
+use Rattle.rules.specs.State.{Limits, Counts, State}
+use Rattle.rules.specs.InOrder.{countsInRange}
+use Rattle.rules.specs.Opening.{opened}
+use Rattle.rules.specs.Steps.{read}
+use Rattle.rules.specs.Refusals.{Step, Action, Read, actionOf, knownKind, refusalBy, refusalInOrder, effect, Answer, refusedAs, answerInOrder, nextInOrder}
+use Rattle.rules.specs.Runs.{answersInOrder, stateInOrder}
+use Rattle.rules.specs.Order.{Event, events, noEvent, eventAt, Took}
+use Rattle.rules.specs.Demand.{valueAt}
+use Rattle.rules.proofs.inorder.OpenedInOrder.{opened-in-order}
+use Rattle.rules.proofs.InOrderRuns.{run-stays-in-order}
+use Rattle.rules.proofs.order.Timeline.{Timeline}
+
+-- ---- one step
+
+-- an answer's refusal is the step's
+pub answer-refusal : (lim : Limits) (s : State) (t : Step) → answerInOrder lim s t .refusal ≡ refusalInOrder lim s t
+unfolding answerInOrder refusedAs
+answer-refusal lim s t = go (eqb (refusalInOrder lim s t) 0) refl
+  where
+    go : (b : Bool) → eqb (refusalInOrder lim s t) 0 ≡ b
+        → cond {A = Answer} b (record { refusal = 0; value = effect lim s (t .processor) (actionOf t) .value; count = effect lim s (t .processor) (actionOf t) .count })
+        (record { refusal = refusalInOrder lim s t; value = 0; count = 0 }) .refusal
+        ≡ refusalInOrder lim s t
+    go true e = sym (eqb-true (refusalInOrder lim s t) 0 e)
+    go false e = refl
+
+-- an accepted step's value is its effect's
+answer-value : (lim : Limits) (s : State) (t : Step) → eqb (refusalInOrder lim s t) 0 ≡ true → answerInOrder lim s t .value ≡ effect lim s (t .processor) (actionOf t) .value
+unfolding answerInOrder
+answer-value lim s t e = rw e
+
+-- past the end of the list nothing happens
+idle-refused : (lim : Limits) (s : State) → refusalInOrder lim s (noEvent .step) ≡ 3
+unfolding refusalInOrder refusalBy knownKind noEvent
+idle-refused lim s = refl
+
+idle-stays : (lim : Limits) (s : State) → nextInOrder lim s (noEvent .step) ≡ s
+unfolding nextInOrder
+idle-stays lim s = rw (idle-refused lim s)
+
+-- ---- the list
+
+-- the state before the step at place t
+abbrev pub stateBefore : Limits → State → List Step → ℕ → State
+stateBefore lim s ts t = stateInOrder lim s (take t ts)
+
+abbrev pub eventsOf : Limits → State → List Step → List Event
+eventsOf lim s ts = events ts (answersInOrder lim s ts)
+
+steps-of : (lim : Limits) (s : State) (ts : List Step) (t : ℕ) → stateBefore lim s ts (suc t) ≡ nextInOrder lim (stateBefore lim s ts t) (eventAt (eventsOf lim s ts) t .step)
+unfolding stateInOrder events answersInOrder eventAt
+steps-of lim s [] zero = sym (idle-stays lim s)
+steps-of lim s [] (suc t) = sym (idle-stays lim s)
+steps-of lim s (a ∷ ts) zero = refl
+steps-of lim s (a ∷ ts) (suc t) = steps-of lim (nextInOrder lim s a) ts t
+
+judged-of : (lim : Limits) (s : State) (ts : List Step) (t : ℕ)
+    → eventAt (eventsOf lim s ts) t .accepted ≡ eqb (refusalInOrder lim (stateBefore lim s ts t) (eventAt (eventsOf lim s ts) t .step)) 0
+unfolding stateInOrder events answersInOrder eventAt noEvent
+judged-of lim s [] zero = sym (rw (idle-refused lim s) refl)
+judged-of lim s [] (suc t) = sym (rw (idle-refused lim s) refl)
+judged-of lim s (a ∷ ts) zero = ap (λ (n : ℕ). eqb n 0) (answer-refusal lim s a)
+judged-of lim s (a ∷ ts) (suc t) = judged-of lim (nextInOrder lim s a) ts t
+
+value-of : (lim : Limits) (s : State) (ts : List Step) (t : ℕ) → eventAt (eventsOf lim s ts) t .accepted ≡ true
+    → valueAt (answersInOrder lim s ts) t
+    ≡ effect lim (stateBefore lim s ts t) (eventAt (eventsOf lim s ts) t .step .processor) (actionOf (eventAt (eventsOf lim s ts) t .step)) .value
+unfolding stateInOrder events answersInOrder eventAt noEvent valueAt
+value-of lim s [] t e = absurd (false≢true e)
+value-of lim s (a ∷ ts) zero e = answer-value lim s a (ap (λ (n : ℕ). eqb n 0) (sym (answer-refusal lim s a)) ∙ e)
+value-of lim s (a ∷ ts) (suc t) e = value-of lim (nextInOrder lim s a) ts t e
+
+-- ---- the run from an opening
+
+module _ (lim : Limits) (c : Counts) (in-range : countsInRange lim c ≡ true) (words-there : 0 < lim .words) (ts : List Step) where
+  pub timeline : Timeline lim c (eventsOf lim (opened lim c) ts)
+  unfolding stateInOrder
+  timeline =
+      record {
+        state = stateBefore lim (opened lim c) ts;
+        starts = refl;
+        steps = steps-of lim (opened lim c) ts;
+        judged = judged-of lim (opened lim c) ts;
+        ordered = λ t. run-stays-in-order lim (opened lim c) (take t ts) (opened-in-order lim c in-range);
+        words-there = words-there;
+      }
+
+  -- the value answered to an accepted read
+  pub read-answer : (j p w : ℕ) → Took (eventsOf lim (opened lim c) ts) j p (Read w)
+      → valueAt (answersInOrder lim (opened lim c) ts) j ≡ read lim (timeline .state j) p w .value
+  unfolding effect timeline stateInOrder
+  read-answer j p w took =
+      value-of lim (opened lim c) ts j (took .accepted)
+      ∙ ap₂ (λ (q : ℕ) (a : Action). effect lim (stateBefore lim (opened lim c) ts j) q a .value) (took .processor) (took .action)

@@ -1,0 +1,24 @@
+-- in order: what it says, that an opening has it, that each step keeps it
+pub mod Facts
+pub mod Everywhere
+pub mod Rows
+pub mod Outside
+pub mod Conditions
+pub mod InOrderSays
+pub mod InOrderWhen
+pub mod OpenedInOrder
+pub mod KeptParts
+pub mod KindsOfSteps
+pub mod Accepted
+pub mod KeptClocks
+pub mod KeptMoves
+pub mod KeptRounds
+pub mod KeptRecords
+pub mod KeptNewRecords
+pub mod KeptPages
+pub mod KeptClose
+pub mod KeptFetch
+pub mod KeptLocks
+pub mod KeptBarrier
+pub mod Kept
+pub mod Standing

@@ -1,0 +1,95 @@
+-- The conditions of "in order" as lists of tests, from which one can be taken by its number. Rests on Everywhere. Assumes nothing.
+use Prim.Native.Nat.{suc}
+use mathlib.Core.Path.{_≡_, refl}
+use mathlib.Core.Bool.{Bool, not, _||_}
+use mathlib.Core.List.{List, [], _∷_}
+use lib.ListN.{length, getD}
+use lib.Dec.{leb, ltb, eqb}
+use Rattle.lists.specs.Tables.{every}
+use Rattle.lists.proofs.Conditions.{conjoined}
+use Rattle.clock.specs.Clocks.{entryOf}
+use Rattle.rules.specs.State.{Limits, Counts, Lock, Applied, Interval, clockOf, copyOf, twinOf, dirtyAt, Record, State, own, holder, hasArrived}
+use Rattle.rules.specs.InOrder.{present, everyProcessor, everyPage, everyHolder, slotSize, rowsSized, sized, inRange, countsInRange, presentHolder, allZero, absentZero, laterIntervalsZero, entriesKnown, appliedKnown, recordSound, recordsSound, roomKept, dirtyHaveInterval, holdersPresent, someoneMissing, inOrder}
+
+-- of the size
+unfoldable pub sizedTests : Limits → State → List Bool
+sizedTests lim s =
+    rowsSized lim (lim .processors) (s .clocks .processors)
+    ∷ eqb (length (s .clocks .locks)) (lim .locks)
+    ∷ rowsSized lim (lim .pages) (s .clocks .applied)
+    ∷ rowsSized lim (suc (lim .intervals)) (s .clocks .intervals)
+    ∷ everyProcessor lim (λ p. eqb (length (clockOf (s .clocks) (Interval p 0))) 0)
+    ∷ everyHolder lim (λ h. eqb (length (clockOf (s .clocks) h)) (lim .processors))
+    ∷ rowsSized lim (lim .pages) (s .pages .copies)
+    ∷ everyPage lim (λ p g. eqb (length (copyOf (s .pages) p g)) (lim .words))
+    ∷ rowsSized lim (lim .pages) (s .pages .twins)
+    ∷ everyPage lim (λ p g. eqb (length (twinOf (s .pages) p g)) (lim .words))
+    ∷ rowsSized lim (lim .pages) (s .pages .dirty)
+    ∷ eqb (length (s .records .slots)) (lim .records)
+    ∷ every (lim .records) (λ i. eqb (length (getD (s .records .slots) i [])) (slotSize lim))
+    ∷ leb (s .records .standing) (lim .records)
+    ∷ eqb (length (s .marks .holders)) (lim .locks)
+    ∷ eqb (length (s .marks .arrived)) (suc (lim .processors))
+    ∷ []
+
+-- the test is the conjunction of the list
+pub sized-tests : (lim : Limits) (s : State) → sized lim s ≡ conjoined (sizedTests lim s)
+unfolding sized sizedTests conjoined
+sized-tests lim s = refl
+
+-- of what is absent
+unfoldable pub absentTests : Limits → State → List Bool
+absentTests lim s =
+    everyHolder lim (λ h. presentHolder s h || allZero (clockOf (s .clocks) h))
+    ∷ everyHolder lim (λ h. everyProcessor lim (λ q. present s q || eqb (entryOf (clockOf (s .clocks) h) q) 0))
+    ∷ everyPage lim (λ p g. presentHolder s (Applied p g) || allZero (copyOf (s .pages) p g))
+    ∷ everyPage lim (λ p g. presentHolder s (Applied p g) || allZero (twinOf (s .pages) p g))
+    ∷ everyPage lim (λ p g. presentHolder s (Applied p g) || not (dirtyAt (s .pages) p g))
+    ∷ everyProcessor lim (λ p. present s p || not (hasArrived s p))
+    ∷ every (lim .locks) (λ l. presentHolder s (Lock l) || eqb (holder s l) 0)
+    ∷ []
+
+-- the test is the conjunction of the list
+pub absent-tests : (lim : Limits) (s : State) → absentZero lim s ≡ conjoined (absentTests lim s)
+unfolding absentZero absentTests conjoined
+absent-tests lim s = refl
+
+-- of the counts
+unfoldable pub countsTests : Limits → Counts → List Bool
+countsTests lim c = inRange (lim .processors) (c .processors) ∷ inRange (lim .pages) (c .pages) ∷ inRange (lim .locks) (c .locks) ∷ []
+
+-- the test is the conjunction of the list
+pub counts-tests : (lim : Limits) (c : Counts) → countsInRange lim c ≡ conjoined (countsTests lim c)
+unfolding countsInRange countsTests conjoined
+counts-tests lim c = refl
+
+-- of a record
+unfoldable pub recordTests : State → Record → List Bool
+recordTests s r =
+    present s (r .processor) ∷ ltb (r .page) (s .counts .pages) ∷ leb 1 (r .interval) ∷ leb (r .interval) (own s (r .processor)) ∷ []
+
+-- the test is the conjunction of the list
+pub record-tests : (lim : Limits) (s : State) (r : Record) → recordSound lim s r ≡ conjoined (recordTests s r)
+unfolding recordSound recordTests conjoined
+record-tests lim s r = refl
+
+-- all
+unfoldable pub orderTests : Limits → State → List Bool
+orderTests lim s =
+    sized lim s
+    ∷ countsInRange lim (s .counts)
+    ∷ absentZero lim s
+    ∷ laterIntervalsZero lim s
+    ∷ entriesKnown lim s
+    ∷ appliedKnown lim s
+    ∷ recordsSound lim s
+    ∷ roomKept lim s
+    ∷ dirtyHaveInterval lim s
+    ∷ holdersPresent lim s
+    ∷ someoneMissing s
+    ∷ []
+
+-- the test is the conjunction of the list
+pub order-tests : (lim : Limits) (s : State) → inOrder lim s ≡ conjoined (orderTests lim s)
+unfolding inOrder orderTests conjoined
+order-tests lim s = refl

@@ -1,0 +1,145 @@
+-- Arriving at the barrier keeps a state in order: when it completes no round, when it completes one, and when garbage is collected then.
+-- Rests on Fetches and KeptLocks. Assumes nothing.
+use Prim.Native.Nat.{ℕ, suc, _<_}
+use native.Mathlib.Omega.{arith}
+use mathlib.Core.Path.{_≡_, refl, sym, ap, _∙_}
+use mathlib.Core.Bool.{Bool, true, false, cond, not, false≢true}
+use mathlib.Core.List.{List, map}
+use lib.ListN.{length, getD, length-map}
+use lib.Dec.{eqb}
+use Rattle.lists.specs.Tables.{put}
+use Rattle.lists.proofs.Tables.{get-put-other, length-put-within, get-map, Passes, every-fails}
+use Rattle.rules.specs.State.{Limits, Counts, Processor, Barrier, Clocks, withClock, cleared, Marks, withArrived, State, hasArrived}
+use Rattle.rules.specs.Close.{closed}
+use Rattle.rules.specs.Fetch.{fetched}
+use Rattle.rules.specs.Steps.{learned, atBarrier, allArrived, allLearned, roundDone, allFetched, emptied, collected, wantsCollection, arrive}
+use Rattle.rules.proofs.state.Holders.{barrier-carries}
+use Rattle.rules.proofs.state.Fetches.{all-fetched-keep}
+use Rattle.rules.proofs.inorder.KeptParts.{presentAmong, among-says, among-when, arrivedIn, CountsInOrder, MarksInOrder, Parts}
+use Rattle.rules.proofs.inorder.KeptMoves.{OwnKept, kept-again}
+use Rattle.rules.proofs.inorder.KeptRounds.{carrier-learned, round-clocks, entry-all-cleared, all-cleared-in-order}
+use Rattle.rules.proofs.inorder.KeptClose.{closed-parts}
+use Rattle.rules.proofs.inorder.KeptFetch.{moved-parts, fetched-parts}
+use Rattle.rules.proofs.inorder.KeptLocks.{wish-set}
+
+-- ---- marks
+
+-- a present processor is marked, and one is still missing
+arrived-set : (lim : Limits) (n : Counts) (k : Marks) (p : ℕ) → CountsInOrder lim n → MarksInOrder lim n k → presentAmong n p ≡ true
+    → Passes (n .processors) (λ i. not (arrivedIn (withArrived k (put 0 (k .arrived) p 1)) (suc i))) → MarksInOrder lim n (withArrived k (put 0 (k .arrived) p 1))
+arrived-set lim n k p c f a missing =
+    let b = among-says n p a in
+    record {
+      holders = f .holders;
+      arrived = length-put-within 0 (k .arrived) p 1 (omega (arith, f .arrived, b .1, c .processors-fit)) ∙ f .arrived;
+      absent-not-arrived = λ q h e.
+          ap (λ (x : ℕ). not (eqb x 0)) (get-put-other 0 (k .arrived) p q 1 (λ d. let z : _≡_ {A = Bool} false true = sym e ∙ ap (presentAmong n) d ∙ a in false≢true z))
+          ∙ f .absent-not-arrived q h e;
+      absent-not-held = f .absent-not-held;
+      holder-present = f .holder-present;
+      someone-missing = missing;
+    }
+
+-- all marks clear
+arrived-cleared : (lim : Limits) (n : Counts) (k : Marks) (marks : List ℕ) → CountsInOrder lim n → MarksInOrder lim n k → length marks ≡ suc (lim .processors)
+    → MarksInOrder lim n (withArrived k (map (λ mark. 0) marks))
+arrived-cleared lim n k marks c f l =
+    record {
+      holders = f .holders;
+      arrived = length-map marks (λ (mark : ℕ). 0) ∙ l;
+      absent-not-arrived = λ q h e. clear q;
+      absent-not-held = f .absent-not-held;
+      holder-present = f .holder-present;
+      someone-missing = record { at = 0; below = c .some-processor; passes = ap not (clear 1) };
+    }
+  where
+    clear : (q : ℕ) → not (eqb (getD (map (λ mark. 0) marks) q 0) 0) ≡ false
+    clear q = ap (λ (x : ℕ). not (eqb x 0)) (get-map (λ (mark : ℕ). 0) 0 marks q)
+
+-- ---- arriving
+
+-- the barrier has learned the clock of a processor that has closed
+barrier-learned : (lim : Limits) (s : State) (p : ℕ) → Parts lim s → presentAmong (s .counts) p ≡ true
+    → OwnKept lim (s .counts) (closed s p .clocks) (learned (closed s p .clocks) Barrier (Processor p))
+unfolding closed
+barrier-learned lim s p f a = carrier-learned lim (s .counts) (closed s p .clocks) Barrier p (f .counts) (closed-parts lim s p f a .clocks) (barrier-carries (s .counts)) a
+
+-- no round is complete
+pub waiting-parts : (lim : Limits) (s : State) (p : ℕ) → Parts lim s → presentAmong (s .counts) p ≡ true → allArrived (atBarrier s p) ≡ false → Parts lim (atBarrier s p)
+unfolding atBarrier closed allArrived hasArrived
+waiting-parts lim s p f a e =
+    moved-parts lim (closed s p) (learned (closed s p .clocks) Barrier (Processor p)) (withArrived (s .marks) (put 0 (s .marks .arrived) p 1)) (closed-parts lim s p f a)
+    (barrier-learned lim s p f a)
+    (arrived-set lim (s .counts) (s .marks) p (f .counts) (f .marks) a (every-fails (s .counts .processors) (λ i. hasArrived (atBarrier s p) (suc i)) e))
+
+-- a round is complete
+pub round-parts : (lim : Limits) (s : State) (p : ℕ) → Parts lim s → presentAmong (s .counts) p ≡ true → Parts lim (roundDone (atBarrier s p))
+unfolding roundDone atBarrier closed
+round-parts lim s p f a =
+    let b = among-says (s .counts) p a in
+    let c : Clocks = learned (closed s p .clocks) Barrier (Processor p) in
+    let told : OwnKept lim (s .counts) (closed s p .clocks) c = barrier-learned lim s p f a in
+    let marks : List ℕ = put 0 (s .marks .arrived) p 1 in
+    moved-parts lim (closed s p) (withClock (allLearned c (s .counts .processors)) Barrier (cleared (c .barrier))) (withArrived (s .marks) (map (λ mark. 0) marks)) (closed-parts lim s p f a)
+    (kept-again told (round-clocks lim (s .counts) c (f .counts) (told .in-order)))
+    (arrived-cleared lim (s .counts) (s .marks) marks (f .counts) (f .marks)
+    (length-put-within 0 (s .marks .arrived) p 1 (omega (arith, f .marks .arrived, b .1, f .counts .processors-fit)) ∙ f .marks .arrived))
+
+-- ---- collection
+
+-- parts in order, with the counts as they were
+pub record PartsWith (lim : Limits) (n : Counts) (s : State) : Type 0 where
+  pub parts : Parts lim s
+  pub same-counts : s .counts ≡ n
+
+page-fetched-parts : (lim : Limits) (n : Counts) (s : State) (p g : ℕ) → PartsWith lim n s → presentAmong n p ≡ true → g < n .pages → PartsWith lim n (fetched lim s p g)
+page-fetched-parts lim n s p g r a h =
+    record {
+      parts =
+          fetched-parts lim s p g (r .parts)
+          (record { counts = r .parts .counts; processor = ap (λ (x : Counts). presentAmong x p) (r .same-counts) ∙ a; page = rw (r .same-counts) h });
+      same-counts = unfold fetched in r .same-counts;
+    }
+
+all-fetched-parts : (lim : Limits) (s : State) → Parts lim s → PartsWith lim (s .counts) (allFetched lim s (s .counts .processors) .after)
+all-fetched-parts lim s f =
+    all-fetched-keep lim s (PartsWith lim (s .counts)) (λ u p g h k l r. page-fetched-parts lim (s .counts) u p g r (among-when (s .counts) p h k) l)
+    (record { parts = f; same-counts = refl })
+
+-- no records, and all clocks zeros
+pub emptied-parts : (lim : Limits) (s : State) → Parts lim s → Parts lim (emptied s)
+unfolding emptied
+emptied-parts lim s f =
+    record {
+      counts = f .counts;
+      clocks = all-cleared-in-order lim (s .counts) (s .clocks) (f .clocks);
+      pages = f .pages;
+      records =
+          record {
+            slots = f .records .slots;
+            slot = f .records .slot;
+            few-standing = omega arith;
+            sound = λ i l. absurd (omega (arith, l));
+            distinct = λ i j l m. absurd (omega (arith, l));
+          };
+      marks = wish-set lim (s .counts) (s .marks) 0 (f .marks);
+      room = omega (arith, f .room);
+      dirty-has-interval = λ p g d. omega (arith, entry-all-cleared (s .clocks) (Processor p) p, f .dirty-has-interval p g d);
+    }
+
+-- every processor fetched every page, then all was emptied
+pub collected-parts : (lim : Limits) (s : State) → Parts lim s → Parts lim (collected lim s .after)
+unfolding collected
+collected-parts lim s f = emptied-parts lim (allFetched lim s (s .counts .processors) .after) (all-fetched-parts lim s f .parts)
+
+-- every arrival
+pub arrive-parts : (lim : Limits) (s : State) (p : ℕ) → Parts lim s → presentAmong (s .counts) p ≡ true → Parts lim (arrive lim s p .after)
+unfolding arrive
+arrive-parts lim s p f a = go (allArrived (atBarrier s p)) (wantsCollection (atBarrier s p)) refl
+  where
+    go : (b c : Bool) → allArrived (atBarrier s p) ≡ b
+        → Parts lim
+        ((cond b (cond c (collected lim (roundDone (atBarrier s p))) (record { after = roundDone (atBarrier s p); count = 0 })) (record { after = atBarrier s p; count = 0 })) .after)
+    go true true e = collected-parts lim (roundDone (atBarrier s p)) (round-parts lim s p f a)
+    go true false e = round-parts lim s p f a
+    go false c e = waiting-parts lim s p f a e

@@ -1,0 +1,168 @@
+-- What the kind of a step says of its action, that the events count the arrivals and the writes to a word, and that a read or a write is no
+-- acquire. Rests on the definitions alone. Assumes nothing.
+use Prim.Native.Nat.{ℕ}
+use native.Mathlib.Decide.{ℕ-discrete}
+use mathlib.Core.Path.{_≡_, refl, ap, _∙_}
+use mathlib.Core.Bool.{Bool, true, false, cond, _&&_, false≢true}
+use mathlib.Core.List.{List}
+use lib.Dec.{eqb}
+use borrow.Author.Tests.{eqb-true, ne-eqb}
+use Rattle.rules.specs.Refusals.{Action, Read, Write, Acquire, Release, Arrive, Want, Unknown, actionOf}
+use Rattle.rules.specs.Order.{Event, eventAt, Took, isArrival}
+use Rattle.rules.specs.Demand.{isWriteTo}
+
+-- whether an action is an arrival, and whether it is a write to the word w
+unfoldable pub arrivesBy : Action → Bool
+arrivesBy (Read x) = false
+arrivesBy (Write x v) = false
+arrivesBy (Acquire l) = false
+arrivesBy (Release l) = false
+arrivesBy Arrive = true
+arrivesBy Want = false
+arrivesBy Unknown = false
+
+unfoldable pub writesTo : ℕ → Action → Bool
+writesTo w (Read x) = false
+writesTo w (Write x v) = eqb x w
+writesTo w (Acquire l) = false
+writesTo w (Release l) = false
+writesTo w Arrive = false
+writesTo w Want = false
+writesTo w Unknown = false
+
+-- the value that an action stores
+unfoldable pub storedBy : Action → ℕ
+storedBy (Read x) = 0
+storedBy (Write x v) = v
+storedBy (Acquire l) = 0
+storedBy (Release l) = 0
+storedBy Arrive = 0
+storedBy Want = 0
+storedBy Unknown = 0
+
+-- an action that arrivesBy is an arrival
+pub arrives-is : (a : Action) → arrivesBy a ≡ true → a ≡ Arrive
+unfolding arrivesBy
+arrives-is (Read x) e = absurd (false≢true e)
+arrives-is (Write x v) e = absurd (false≢true e)
+arrives-is (Acquire l) e = absurd (false≢true e)
+arrives-is (Release l) e = absurd (false≢true e)
+arrives-is Arrive e = refl
+arrives-is Want e = absurd (false≢true e)
+arrives-is Unknown e = absurd (false≢true e)
+
+-- an action that writes to w is a write to w of the value that it stores
+pub writes-to-is : (w : ℕ) (a : Action) → writesTo w a ≡ true → a ≡ Write w (storedBy a)
+unfolding writesTo storedBy
+writes-to-is w (Read x) e = absurd (false≢true e)
+writes-to-is w (Write x v) e = ap (λ (y : ℕ). Write y v) (eqb-true x w e)
+writes-to-is w (Acquire l) e = absurd (false≢true e)
+writes-to-is w (Release l) e = absurd (false≢true e)
+writes-to-is w Arrive e = absurd (false≢true e)
+writes-to-is w Want e = absurd (false≢true e)
+writes-to-is w Unknown e = absurd (false≢true e)
+
+-- a step's action from its kind
+abbrev chosen : ℕ → ℕ → ℕ → Action
+chosen k x v =
+    cond (eqb k 1) (Read x)
+    (cond (eqb k 2) (Write x v)
+    (cond (eqb k 3) (Acquire x)
+    (cond (eqb k 4) (Release x)
+    (cond (eqb k 5) Arrive
+    (cond (eqb k 6) Want
+    Unknown)))))
+
+kind-arrives : (k x v : ℕ) → eqb k 5 ≡ arrivesBy (chosen k x v)
+unfolding arrivesBy
+kind-arrives k x v = go (ℕ-discrete k 5)
+  where
+    other : (b₁ b₂ b₃ b₄ b₆ : Bool)
+        → false ≡ arrivesBy (cond b₁ (Read x) (cond b₂ (Write x v) (cond b₃ (Acquire x) (cond b₄ (Release x) (cond b₆ Want Unknown)))))
+    other true b₂ b₃ b₄ b₆ = refl
+    other false true b₃ b₄ b₆ = refl
+    other false false true b₄ b₆ = refl
+    other false false false true b₆ = refl
+    other false false false false true = refl
+    other false false false false false = refl
+
+    go : Dec (k ≡ 5) → eqb k 5 ≡ arrivesBy (chosen k x v)
+    go (yes e) = rw e
+    go (no e) = rw (ne-eqb k 5 e) (other (eqb k 1) (eqb k 2) (eqb k 3) (eqb k 4) (eqb k 6))
+
+kind-writes : (w k x v : ℕ) → (eqb k 2 && eqb x w) ≡ writesTo w (chosen k x v)
+unfolding writesTo
+kind-writes w k x v = go (ℕ-discrete k 2)
+  where
+    other : (b₁ b₃ b₄ b₅ b₆ : Bool)
+        → false ≡ writesTo w (cond b₁ (Read x) (cond b₃ (Acquire x) (cond b₄ (Release x) (cond b₅ Arrive (cond b₆ Want Unknown)))))
+    other true b₃ b₄ b₅ b₆ = refl
+    other false true b₄ b₅ b₆ = refl
+    other false false true b₅ b₆ = refl
+    other false false false true b₆ = refl
+    other false false false false true = refl
+    other false false false false false = refl
+
+    go : Dec (k ≡ 2) → (eqb k 2 && eqb x w) ≡ writesTo w (chosen k x v)
+    go (yes e) = rw e
+    go (no e) = rw (ne-eqb k 2 e) (other (eqb k 1) (eqb k 3) (eqb k 4) (eqb k 5) (eqb k 6))
+
+kind-value : (w k x v : ℕ) → writesTo w (chosen k x v) ≡ true → v ≡ storedBy (chosen k x v)
+unfolding storedBy
+kind-value w k x v h = go (ℕ-discrete k 2)
+  where
+    go : Dec (k ≡ 2) → v ≡ storedBy (chosen k x v)
+    go (yes e) = rw e
+    go (no e) =
+        let z : (eqb k 2 && eqb x w) ≡ true = kind-writes w k x v ∙ h in
+        absurd (false≢true (rw (ne-eqb k 2 e) at z))
+
+-- ---- the events
+
+-- whether an action is an acquire
+unfoldable pub isAcquire : Action → Bool
+isAcquire (Read x) = false
+isAcquire (Write x v) = false
+isAcquire (Acquire l) = true
+isAcquire (Release l) = false
+isAcquire Arrive = false
+isAcquire Want = false
+isAcquire Unknown = false
+
+-- a read and a write are none
+pub write-no-acquire : (x v l : ℕ) → Write x v ≡ Acquire l → ⊥
+unfolding isAcquire
+write-no-acquire x v l e = false≢true (ap isAcquire e)
+
+pub read-no-acquire : (x l : ℕ) → Read x ≡ Acquire l → ⊥
+unfolding isAcquire
+read-no-acquire x l e = false≢true (ap isAcquire e)
+
+module _ (es : List Event) (t : ℕ) where
+  -- an accepted step is counted as an arrival when it is one
+  pub took-arrival : (p : ℕ) (a : Action) → Took es t p a → isArrival (eventAt es t) ≡ arrivesBy a
+  unfolding isArrival actionOf
+  took-arrival p a k =
+      rw (k .accepted, ← k .action) (kind-arrives (eventAt es t .step .kind) (eventAt es t .step .object) (eventAt es t .step .value))
+
+  -- and as a write to w when it is one
+  pub took-write : (w p : ℕ) (a : Action) → Took es t p a → isWriteTo (eventAt es t) w ≡ writesTo w a
+  unfolding isWriteTo actionOf
+  took-write w p a k =
+      rw (k .accepted, ← k .action) (kind-writes w (eventAt es t .step .kind) (eventAt es t .step .object) (eventAt es t .step .value))
+
+  -- a refused step is no arrival
+  pub refused-arrival : eventAt es t .accepted ≡ false → isArrival (eventAt es t) ≡ false
+  unfolding isArrival
+  refused-arrival e = rw e
+
+  -- nor a write
+  pub refused-write : (w : ℕ) → eventAt es t .accepted ≡ false → isWriteTo (eventAt es t) w ≡ false
+  unfolding isWriteTo
+  refused-write w e = rw e
+
+  -- the value that an accepted write stores is its value field
+  pub took-value : (w p : ℕ) (a : Action) → Took es t p a → writesTo w a ≡ true → eventAt es t .step .value ≡ storedBy a
+  unfolding actionOf
+  took-value w p a k =
+      rw (← k .action) (kind-value w (eventAt es t .step .kind) (eventAt es t .step .object) (eventAt es t .step .value))

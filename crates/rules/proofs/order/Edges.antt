@@ -1,0 +1,252 @@
+-- The edges of happens-before-1, each decided by a test that computes, and which edges a derivation has in it: so a run shows that one step is
+-- before another, that it is so by one edge alone, or that it is not. Rests on Tables, Everywhere and ActionKinds. Assumes nothing.
+use Prim.Native.Nat.{ℕ, _<_}
+use native.Mathlib.Omega.{arith}
+use native.Mathlib.Decide.{decLt}
+use mathlib.Core.Path.{_≡_, refl, sym, ap, _∙_}
+use mathlib.Core.Bool.{Bool, true, false, not, _&&_, _||_, false≢true}
+use mathlib.Core.List.{List, [], _∷_}
+use lib.ListN.{length, getD, List·getD-eq-default}
+use lib.Dec.{eqb, leb, ltb}
+use borrow.Author.Tests.{eqb-true, eq-eqb, ltb-true, lt-ltb, not-true}
+use Rattle.lists.specs.Tables.{every}
+use Rattle.lists.proofs.Tables.{every-at}
+use Rattle.lists.proofs.Conditions.{conjoined, conjoined-at}
+use Rattle.rules.specs.Refusals.{Action, Read, Write, Acquire, Release, Arrive, Want, Unknown, actionOf}
+use Rattle.rules.specs.Order.{Event, noEvent, eventAt, Took, isArrival, countedOff, groupsBefore, rounds, Before, program, lock, round, chain}
+use Rattle.rules.proofs.order.ActionKinds.{arrivesBy, arrives-is, isAcquire}
+
+-- the four ways in which a step is before another
+pub data Edge : Type 0 where
+  ByProgram : Edge
+  ByLock : Edge
+  ByRound : Edge
+  ByChain : Edge
+
+numberOf : Edge → ℕ
+numberOf ByProgram = 0
+numberOf ByLock = 1
+numberOf ByRound = 2
+numberOf ByChain = 3
+
+-- the edge e and no other
+unfoldable pub just : Edge → Edge → Bool
+unfolding numberOf
+just e f = eqb (numberOf e) (numberOf f)
+
+-- whether a derivation of "before" has one of some edges in it
+unfoldable pub has : {n : ℕ} {es : List Event} {i j : ℕ} → (Edge → Bool) → Before n es i j → Bool
+has some (program p a b t u h) = some ByProgram
+has some (lock p q l t u h) = some ByLock
+has some (round p q b t u h) = some ByRound
+has some (chain k x y) = some ByChain || has some x || has some y
+
+-- ---- one edge, decided
+
+isRelease : Action → Bool
+isRelease (Read x) = false
+isRelease (Write x v) = false
+isRelease (Acquire l) = false
+isRelease (Release l) = true
+isRelease Arrive = false
+isRelease Want = false
+isRelease Unknown = false
+
+-- the lock that an action takes or frees
+lockOf : Action → ℕ
+lockOf (Read x) = 0
+lockOf (Write x v) = 0
+lockOf (Acquire l) = l
+lockOf (Release l) = l
+lockOf Arrive = 0
+lockOf Want = 0
+lockOf Unknown = 0
+
+release-is : (a : Action) → isRelease a ≡ true → a ≡ Release (lockOf a)
+unfolding isRelease lockOf
+release-is (Read x) e = absurd (false≢true e)
+release-is (Write x v) e = absurd (false≢true e)
+release-is (Acquire l) e = absurd (false≢true e)
+release-is (Release l) e = refl
+release-is Arrive e = absurd (false≢true e)
+release-is Want e = absurd (false≢true e)
+release-is Unknown e = absurd (false≢true e)
+
+acquire-is : (a : Action) → isAcquire a ≡ true → a ≡ Acquire (lockOf a)
+unfolding isAcquire lockOf
+acquire-is (Read x) e = absurd (false≢true e)
+acquire-is (Write x v) e = absurd (false≢true e)
+acquire-is (Acquire l) e = refl
+acquire-is (Release l) e = absurd (false≢true e)
+acquire-is Arrive e = absurd (false≢true e)
+acquire-is Want e = absurd (false≢true e)
+acquire-is Unknown e = absurd (false≢true e)
+
+-- the processor and the action at a place
+abbrev processorAt : List Event → ℕ → ℕ
+processorAt es i = eventAt es i .step .processor
+
+abbrev actionAt : List Event → ℕ → Action
+actionAt es i = actionOf (eventAt es i .step)
+
+-- what an edge of a kind from place i to place j asks
+tests : Edge → ℕ → List Event → ℕ → ℕ → List Bool
+tests ByProgram n es i j = eventAt es i .accepted ∷ eventAt es j .accepted ∷ eqb (processorAt es i) (processorAt es j) ∷ ltb i j ∷ []
+tests ByLock n es i j =
+    eventAt es i .accepted ∷ eventAt es j .accepted ∷ isRelease (actionAt es i) ∷ isAcquire (actionAt es j)
+    ∷ eqb (lockOf (actionAt es i)) (lockOf (actionAt es j)) ∷ ltb i j ∷ []
+tests ByRound n es i j = eventAt es i .accepted ∷ eventAt es j .accepted ∷ arrivesBy (actionAt es i) ∷ ltb (rounds n es i) (rounds n es j) ∷ []
+tests ByChain n es i j = false ∷ []
+
+-- whether there is such an edge; who unfolds it unfolds what it computes with
+unfoldable pub joins : Edge → ℕ → List Event → ℕ → ℕ → Bool
+unfolding tests isRelease lockOf isAcquire arrivesBy actionOf eventAt noEvent rounds groupsBefore countedOff isArrival conjoined
+joins e n es i j = conjoined (tests e n es i j)
+
+module _ (n : ℕ) (es : List Event) (i j : ℕ) where
+  -- each edge passes its test
+  program-joins : (p : ℕ) (a b : Action) → Took es i p a → Took es j p b → i < j → joins ByProgram n es i j ≡ true
+  unfolding joins
+  program-joins p a b t u h = rw (t .accepted, u .accepted, t .processor, u .processor, eq-eqb p p refl, lt-ltb i j h)
+
+  lock-joins : (p q l : ℕ) → Took es i p (Release l) → Took es j q (Acquire l) → i < j → joins ByLock n es i j ≡ true
+  unfolding joins
+  lock-joins p q l t u h = rw (t .accepted, u .accepted, t .action, u .action, eq-eqb l l refl, lt-ltb i j h)
+
+  round-joins : (p q : ℕ) (b : Action) → Took es i p Arrive → Took es j q b → rounds n es i < rounds n es j → joins ByRound n es i j ≡ true
+  unfolding joins
+  round-joins p q b t u h = rw (t .accepted, u .accepted, t .action, lt-ltb (rounds n es i) (rounds n es j) h)
+
+  -- an accepted step is what its fields say
+  took : (k p : ℕ) (a : Action) → eventAt es k .accepted ≡ true → processorAt es k ≡ p → actionAt es k ≡ a → Took es k p a
+  took k p a h e f = record { accepted = h; processor = e; action = f }
+
+  passed : (e : Edge) → joins e n es i j ≡ true → (k : ℕ) → getD (tests e n es i j) k true ≡ true
+  unfolding joins
+  passed e h k = conjoined-at (tests e n es i j) k h
+
+  -- and what passes a test is before
+  pub joins-before : (e : Edge) → joins e n es i j ≡ true → Before n es i j
+  unfolding joins tests
+  joins-before ByProgram h =
+      let at = passed ByProgram h in
+      program (processorAt es i) (actionAt es i) (actionAt es j) (took i (processorAt es i) (actionAt es i) (at 0) refl refl)
+      (took j (processorAt es i) (actionAt es j) (at 1) (sym (eqb-true (processorAt es i) (processorAt es j) (at 2))) refl) (ltb-true i j (at 3))
+  joins-before ByLock h =
+      let at = passed ByLock h in
+      let l = lockOf (actionAt es i) in
+      let same : lockOf (actionAt es j) ≡ l = sym (eqb-true l (lockOf (actionAt es j)) (at 4)) in
+      lock (processorAt es i) (processorAt es j) l (took i (processorAt es i) (Release l) (at 0) refl (release-is (actionAt es i) (at 2)))
+      (took j (processorAt es j) (Acquire l) (at 1) refl (acquire-is (actionAt es j) (at 3) ∙ ap Acquire same)) (ltb-true i j (at 5))
+  joins-before ByRound h =
+      let at = passed ByRound h in
+      round (processorAt es i) (processorAt es j) (actionAt es j) (took i (processorAt es i) Arrive (at 0) refl (arrives-is (actionAt es i) (at 2)))
+      (took j (processorAt es j) (actionAt es j) (at 1) refl refl) (ltb-true (rounds n es i) (rounds n es j) (at 3))
+  joins-before ByChain h = absurd (false≢true h)
+
+-- ---- places that no edge leads out of
+
+module _ (dropped : Edge → Bool) (n : ℕ) (es : List Event) (inside : ℕ → Bool) where
+  -- no edge of a kind leads from a place inside to one that is not
+  stays : Edge → Bool
+  stays e = every (length es) (λ j. every (length es) (λ i. not (inside i && joins e n es i j) || inside j))
+
+  kinds : List Bool
+  kinds = (dropped ByProgram || stays ByProgram) ∷ (dropped ByLock || stays ByLock) ∷ (dropped ByRound || stays ByRound) ∷ []
+
+  -- nor one of any kind that is not dropped
+  unfoldable pub closedUnder : Bool
+  unfolding stays kinds every conjoined joins
+  closedUnder = conjoined kinds
+
+  -- an accepted step stands in the list
+  within : (i : ℕ) → eventAt es i .accepted ≡ true → i < length es
+  unfolding eventAt noEvent
+  within i h = go (decLt i (length es))
+    where
+      go : Dec (i < length es) → i < length es
+      go (yes k) = k
+      go (no k) = absurd (false≢true (sym (ap (λ (e : Event). e .accepted) (List·getD-eq-default es noEvent {n = i} (omega (arith, k)))) ∙ h))
+
+  edge-stays : (e : Edge) (i j : ℕ) → (dropped e || stays e) ≡ true → dropped e ≡ false → eventAt es i .accepted ≡ true → eventAt es j .accepted ≡ true
+      → joins e n es i j ≡ true → inside i ≡ true → inside j ≡ true
+  unfolding stays
+  edge-stays e i j kept left from to edge start =
+      let all : stays e ≡ true = rw left at kept in
+      let here = every-at (length es) (λ i. not (inside i && joins e n es i j) || inside j) i
+      (every-at (length es) (λ j. every (length es) (λ i. not (inside i && joins e n es i j) || inside j)) j all (within j to)) (within i from) in
+      rw (start, edge) at here
+
+  or-first : (a b : Bool) → (a || b) ≡ false → a ≡ false
+  or-first false b h = refl
+  or-first true b h = h
+
+  or-second : (a b : Bool) → (a || b) ≡ false → b ≡ false
+  or-second false b h = h
+  or-second true b h = absurd (false≢true (sym h))
+
+  -- so a derivation without the dropped edges stays inside
+  before-stays : closedUnder ≡ true → (i j : ℕ) (x : Before n es i j) → has dropped x ≡ false → inside i ≡ true → inside j ≡ true
+  unfolding closedUnder has conjoined
+  before-stays c i j (program p a b t u h) f =
+      edge-stays ByProgram i j (conjoined-at kinds 0 c) f (t .accepted) (u .accepted) (program-joins n es i j p a b t u h)
+  before-stays c i j (lock p q l t u h) f =
+      edge-stays ByLock i j (conjoined-at kinds 1 c) f (t .accepted) (u .accepted) (lock-joins n es i j p q l t u h)
+  before-stays c i j (round p q b t u h) f =
+      edge-stays ByRound i j (conjoined-at kinds 2 c) f (t .accepted) (u .accepted) (round-joins n es i j p q b t u h)
+  before-stays c i j (chain k x y) f = λ start.
+      let g = or-first (dropped ByChain || has dropped x) (has dropped y) f in
+      before-stays c k j y (or-second (dropped ByChain || has dropped x) (has dropped y) f) (before-stays c i k x (or-second (dropped ByChain) (has dropped x) g) start)
+
+-- ---- what follows for two steps
+
+-- no edge at all
+unfoldable pub noEdge : Edge → Bool
+noEdge e = false
+
+has-none : (n : ℕ) (es : List Event) (i j : ℕ) (x : Before n es i j) → has noEdge x ≡ false
+unfolding has noEdge
+has-none n es i j (program p a b t u h) = refl
+has-none n es i j (lock p q l t u h) = refl
+has-none n es i j (round p q b t u h) = refl
+has-none n es i j (chain k x y) = rw (has-none n es i k x, has-none n es k j y)
+
+module _ (n : ℕ) (es : List Event) (i j : ℕ) where
+  -- where no edge leads out of some places, a step at one of them is not before a step elsewhere
+  pub not-before : (inside : ℕ → Bool) → closedUnder noEdge n es inside ≡ true → inside i ≡ true → inside j ≡ false → Before n es i j → ⊥
+  not-before inside c from to x = false≢true (sym to ∙ before-stays noEdge n es inside c i j x (has-none n es i j x) from)
+
+  -- where none but those of one kind do, every derivation that it is before has that edge in it
+  pub only-by : (e : Edge) (inside : ℕ → Bool) → closedUnder (just e) n es inside ≡ true → inside i ≡ true → inside j ≡ false
+      → (x : Before n es i j) → has (just e) x ≡ true
+  only-by e inside c from to x = go (has (just e) x) refl
+    where
+      go : (b : Bool) → has (just e) x ≡ b → has (just e) x ≡ true
+      go true h = h
+      go false h = absurd (false≢true (sym to ∙ before-stays (just e) n es inside c i j x h from))
+
+  -- where no edge joins the two, every derivation is a chain
+  pub only-chained : joins ByProgram n es i j ≡ false → joins ByLock n es i j ≡ false → joins ByRound n es i j ≡ false
+      → (x : Before n es i j) → has (just ByChain) x ≡ true
+  unfolding has just
+  only-chained no-program no-lock no-round (program p a b t u h) = absurd (false≢true (sym no-program ∙ program-joins n es i j p a b t u h))
+  only-chained no-program no-lock no-round (lock p q l t u h) = absurd (false≢true (sym no-lock ∙ lock-joins n es i j p q l t u h))
+  only-chained no-program no-lock no-round (round p q b t u h) = absurd (false≢true (sym no-round ∙ round-joins n es i j p q b t u h))
+  only-chained no-program no-lock no-round (chain k x y) = refl
+
+  -- the steps from place i on by other processors than the one at place j
+  others : ℕ → Bool
+  others k = not (eqb (processorAt es k) (processorAt es j)) && leb i k
+
+  apartTests : List Bool
+  apartTests = closedUnder noEdge n es others ∷ others i ∷ not (others j) ∷ []
+
+  -- no edge leads from one of those to a step of the processor at place j
+  unfoldable pub apart : Bool
+  unfolding apartTests others noEdge closedUnder conjoined
+  apart = conjoined apartTests
+
+  -- then the one is not before the other
+  pub apart-not-before : apart ≡ true → Before n es i j → ⊥
+  unfolding apart
+  apart-not-before h = not-before others (conjoined-at apartTests 0 h) (conjoined-at apartTests 1 h) (not-true (others j) (conjoined-at apartTests 2 h))

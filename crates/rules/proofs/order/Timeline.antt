@@ -1,0 +1,81 @@
+-- A run of the rules as states by time: the state before each step of a list, all of them in order, with the counts of the opening. Rests
+-- on Fetches and Accepted. Assumes nothing.
+use Prim.Native.Nat.{ℕ, zero, suc, _<_}
+use mathlib.Core.Path.{_≡_, refl, sym, ap, _∙_}
+use mathlib.Core.Bool.{Bool, true, false, cond}
+use mathlib.Core.List.{List}
+use lib.Dec.{eqb}
+use borrow.Author.Tests.{eqb-true}
+use Rattle.rules.specs.State.{Limits, Counts, State}
+use Rattle.rules.specs.Opening.{opened}
+use Rattle.rules.specs.Close.{closed}
+use Rattle.rules.specs.Fetch.{fetched}
+use Rattle.rules.specs.Steps.{read, write, acquire, release, atBarrier, allArrived, roundDone, emptied, collected, wantsCollection, arrive, want}
+use Rattle.rules.specs.Refusals.{Action, Read, Write, Acquire, Release, Arrive, Want, Unknown, actionOf, refusalInOrder, effect, nextInOrder}
+use Rattle.rules.specs.Order.{Event, eventAt, Took}
+use Rattle.rules.proofs.state.Fetches.{all-fetched-counts}
+use Rattle.rules.proofs.inorder.Facts.{InOrder}
+use Rattle.rules.proofs.inorder.Accepted.{Accepted, accepted-says}
+
+-- the states of a run from an opening, and that the events say which of its steps were accepted
+pub record Timeline (lim : Limits) (c : Counts) (es : List Event) : Type 0 where
+  pub state : ℕ → State
+  pub starts : state 0 ≡ opened lim c
+  pub steps : (t : ℕ) → state (suc t) ≡ nextInOrder lim (state t) (eventAt es t .step)
+  pub judged : (t : ℕ) → eventAt es t .accepted ≡ eqb (refusalInOrder lim (state t) (eventAt es t .step)) 0
+  pub ordered : (t : ℕ) → InOrder lim (state t)
+  pub words-there : 0 < lim .words
+
+-- what happens at one time: a refused step changes nothing, an accepted one has its effect
+pub data Moment (lim : Limits) (es : List Event) (t : ℕ) (s s′ : State) : Type 0 where
+  Refused : eventAt es t .accepted ≡ false → s′ ≡ s → Moment lim es t s s′
+  Taken : (p : ℕ) (a : Action) → Took es t p a → Accepted lim s (eventAt es t .step) → s′ ≡ effect lim s p a .after → Moment lim es t s s′
+
+module _ (lim : Limits) (c : Counts) (es : List Event) (r : Timeline lim c es) where
+  pub moment : (t : ℕ) → Moment lim es t (r .state t) (r .state (suc t))
+  unfolding nextInOrder
+  moment t = go (eqb (refusalInOrder lim (r .state t) (eventAt es t .step)) 0) refl (r .steps t)
+    where
+      go : (b : Bool) → eqb (refusalInOrder lim (r .state t) (eventAt es t .step)) 0 ≡ b
+          → r .state (suc t) ≡ cond b (effect lim (r .state t) (eventAt es t .step .processor) (actionOf (eventAt es t .step)) .after) (r .state t)
+          → Moment lim es t (r .state t) (r .state (suc t))
+      go true e k =
+          Taken (eventAt es t .step .processor) (actionOf (eventAt es t .step)) (record { accepted = r .judged t ∙ e; processor = refl; action = refl })
+          (accepted-says lim (r .state t) (eventAt es t .step) (eqb-true (refusalInOrder lim (r .state t) (eventAt es t .step)) 0 e)) k
+      go false e k = Refused (r .judged t ∙ e) k
+
+  -- a step that was taken was accepted
+  pub took-accepted : (t p : ℕ) (a : Action) → Took es t p a → Accepted lim (r .state t) (eventAt es t .step)
+  took-accepted t p a took =
+      accepted-says lim (r .state t) (eventAt es t .step) (eqb-true (refusalInOrder lim (r .state t) (eventAt es t .step)) 0 (sym (r .judged t) ∙ took .accepted))
+
+-- ---- no step changes the counts of the opening
+
+arrive-counts : (lim : Limits) (s : State) (p : ℕ) → arrive lim s p .after .counts ≡ s .counts
+unfolding arrive collected emptied roundDone atBarrier closed
+arrive-counts lim s p = go (allArrived (atBarrier s p)) (wantsCollection (atBarrier s p))
+  where
+    go : (a b : Bool) → cond a (cond b (collected lim (roundDone (atBarrier s p))) (record { after = roundDone (atBarrier s p); count = 0 })) (record { after = atBarrier s p; count = 0 }) .after .counts ≡ s .counts
+    go true true = all-fetched-counts lim (roundDone (atBarrier s p))
+    go true false = refl
+    go false b = refl
+
+pub effect-keeps-counts : (lim : Limits) (s : State) (p : ℕ) (a : Action) → effect lim s p a .after .counts ≡ s .counts
+unfolding effect read write acquire release want closed fetched
+effect-keeps-counts lim s p (Read w) = refl
+effect-keeps-counts lim s p (Write w v) = refl
+effect-keeps-counts lim s p (Acquire l) = refl
+effect-keeps-counts lim s p (Release l) = refl
+effect-keeps-counts lim s p Arrive = arrive-counts lim s p
+effect-keeps-counts lim s p Want = refl
+effect-keeps-counts lim s p Unknown = refl
+
+module _ (lim : Limits) (c : Counts) (es : List Event) (r : Timeline lim c es) where
+  pub counts-stay : (t : ℕ) → r .state t .counts ≡ c
+  unfolding opened
+  counts-stay zero = ap (λ (s : State). s .counts) (r .starts)
+  counts-stay (suc t) = go (moment lim c es r t) (counts-stay t)
+    where
+      go : Moment lim es t (r .state t) (r .state (suc t)) → r .state t .counts ≡ c → r .state (suc t) .counts ≡ c
+      go (Refused e k) h = ap (λ (s : State). s .counts) k ∙ h
+      go (Taken p a took acc k) h = ap (λ (s : State). s .counts) k ∙ effect-keeps-counts lim (r .state t) p a ∙ h

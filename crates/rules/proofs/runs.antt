@@ -1,0 +1,8 @@
+-- the runs that are computed
+pub mod Listing
+pub mod BenchFaults
+pub mod FromStart
+pub mod JudgedRuns
+pub mod ClosingFirst
+pub mod NoInterval
+pub mod StoredCases

@@ -1,0 +1,9 @@
+-- `write_on` meets its contract. Assumes nothing.
+use Rattle.run.proofs.Turns.{turn-laws}
+use Rattle.run.proofs.write_on.Statement.{statement}
+use Rattle.run.proofs.write_on.Tie as tie
+
+pub write-on-spec : {M : Type 1} → statement M
+write-on-spec =
+    tie.close
+    (tie.spec (λ c κs. search turn-laws) (λ c κs. search turn-laws) (λ c κs. search turn-laws) (λ c κs. search turn-laws) (λ c. search turn-laws))

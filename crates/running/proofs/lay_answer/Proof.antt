@@ -1,9 +1,0 @@
--- `lay_answer` meets its contract. Assumes nothing.
-use Rattle.running.proofs.Laying.{laying-laws}
-use Rattle.running.proofs.lay_answer.Statement.{statement}
-use Rattle.running.proofs.lay_answer.Tie as tie
-
-pub lay-answer-spec : {M : Type 1} → statement M
-lay-answer-spec =
-    tie.close
-    (tie.spec (λ c. search laying-laws) (λ c. search laying-laws) (λ c. search laying-laws) (λ c. search laying-laws) (λ c. search laying-laws) (λ c. search laying-laws) (λ c. search laying-laws) (λ c. search laying-laws) (λ c. search laying-laws) (λ c. search laying-laws))

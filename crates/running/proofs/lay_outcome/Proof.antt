@@ -1,9 +1,0 @@
--- `lay_outcome` meets its contract. Assumes nothing.
-use Rattle.running.proofs.Laying.{laying-laws}
-use Rattle.running.proofs.lay_outcome.Statement.{statement}
-use Rattle.running.proofs.lay_outcome.Tie as tie
-
-pub lay-outcome-spec : {M : Type 1} → statement M
-lay-outcome-spec =
-    tie.close
-    (tie.spec (λ c. search laying-laws) (λ c κs. search laying-laws) (λ c. search laying-laws) (λ c κs. search laying-laws) (λ c κs. search laying-laws) (λ c. search laying-laws) (λ c. search laying-laws) (λ c. search laying-laws) (λ c. search laying-laws))

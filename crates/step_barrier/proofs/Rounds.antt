@@ -1,0 +1,89 @@
+-- What a completed round leaves; the wish for collection. One law for each way of the code, and
+-- `round-laws`. Assumes nothing.
+use Prim.Native.Nat.{ℕ, _*_}
+use native.Mathlib.Omega.{arith}
+use mathlib.Core.Path.{_≡_, sym, ap, _∙_}
+use mathlib.Core.Bool.{Bool, true, false, not}
+use mathlib.Core.List.{List, map}
+use lib.ListN.{length, set, length-set, replicate, length-replicate}
+use lib.Seq.{sets, length-sets}
+use lib.Dec.{eqb}
+use borrow.Author.Needs.{needs}
+use Rattle.limits.specs.Limits.{processorLimit}
+use Rattle.limits.specs.Places.{firstArrived, wantedPlace}
+use Rattle.limits.specs.inner.Sizes.{clockArea, clockWidth, markArea}
+use Rattle.rules.specs.State.{mainframe, Barrier, Clocks, withClock, cleared, withArrived, withClocks, withMarks}
+use Rattle.rules.specs.Steps.{allLearned, roundDone, wantsCollection, want}
+use Rattle.rules.proofs.inorder.Facts.{Within}
+use Rattle.layout.specs.Areas.{clockRow, clocksIn, stateIn}
+use Rattle.layout.specs.Layout.{rowOf}
+use Rattle.layout.specs.inner.Needed.{RowThere}
+use Rattle.layout.specs.inner.Marks.{processorCount, wishMark}
+use Rattle.layout.proofs.ClockLaws.{clock-written}
+use Rattle.layout.proofs.MarkLaws.{wanted-read, wanted-written, arrived-cleared}
+use Rattle.layout.proofs.RowLaws.{length-row, map-replicate}
+use Rattle.step_barrier.specs.inner.Needed.{ClocksOfFirst, RoundThere}
+use Rattle.step_barrier.specs.inner.Effects.{HoldsClocks, RoundDone, Wanted}
+
+-- ---- a completed round
+
+-- the processors of the marks have rows
+pub learners-there : (c m : List ℕ) (n : ℕ) → RoundThere c m → n ≡ processorCount m → ClocksOfFirst c n
+learners-there c m n h e = record { clocks = h .clocks; few = omega (arith, h .few) }
+
+-- the barrier's clock has its row
+pub barrier-row-there : (c : List ℕ) (k : Clocks) → HoldsClocks c k → RowThere clockWidth c 0
+barrier-row-there c k h = record { within = omega (arith, h .long) }
+
+zeros-again : (c : List ℕ) → length c ≡ clockArea → cleared (clocksIn mainframe c .barrier) ≡ replicate clockWidth 0
+unfolding cleared clocksIn mainframe clockRow
+zeros-again c h = map-replicate (rowOf clockWidth c 0) 0 ∙ ap (λ (j : ℕ). replicate j 0) (length-row clockWidth c 0 (omega (arith, h)))
+
+round-clocks : (c c₁ c₂ : List ℕ) (n : ℕ) → length c ≡ clockArea → HoldsClocks c₁ (allLearned (clocksIn mainframe c) n) → c₂ ≡ sets c₁ (clockWidth * 0) (replicate clockWidth 0)
+    → clocksIn mainframe c₂ ≡ withClock (allLearned (clocksIn mainframe c) n) Barrier (cleared (clocksIn mainframe c .barrier))
+unfolding Within clockRow
+round-clocks c c₁ c₂ n h k e =
+    ap (λ (x : List ℕ). clocksIn mainframe x) e
+    ∙ clock-written c₁ (replicate clockWidth 0) Barrier (k .long) tt (length-replicate {A = ℕ} processorLimit 0)
+    ∙ ap (λ (x : Clocks). withClock x Barrier (replicate clockWidth 0)) (k .clocks)
+    ∙ ap (λ (x : List ℕ). withClock (allLearned (clocksIn mainframe c) n) Barrier x) (sym (zeros-again c h))
+
+-- all have learned, the barrier's clock is zeros, the marks are clear
+pub round-done : (c m c₁ c₂ m₂ : List ℕ) (n : ℕ) → RoundThere c m → n ≡ processorCount m → HoldsClocks c₁ (allLearned (clocksIn mainframe c) n)
+    → c₂ ≡ sets c₁ (clockWidth * 0) (replicate clockWidth 0) → m₂ ≡ sets m firstArrived (replicate processorLimit 0) → RoundDone c m c₂ m₂
+unfolding roundDone stateIn
+round-done c m c₁ c₂ m₂ n h e k ec em =
+    record {
+      clocks = ap length ec ∙ length-sets c₁ (clockWidth * 0) (replicate clockWidth 0) ∙ k .long;
+      marks = ap length em ∙ length-sets m firstArrived (replicate processorLimit 0) ∙ h .marks;
+      is =
+          λ w r.
+          ap (λ (x : List ℕ). stateIn mainframe c₂ w r x) em ∙ arrived-cleared c₂ w r m (h .marks)
+          ∙ ap (λ (x : Clocks).
+          let s = stateIn mainframe c w r m in
+          withMarks (withClocks s x) (withArrived (s .marks) (map (λ mark. 0) (s .marks .arrived))))
+          (round-clocks c c₁ c₂ n (h .clocks) k ec ∙ ap (λ (j : ℕ). withClock (allLearned (clocksIn mainframe c) j) Barrier (cleared (clocksIn mainframe c .barrier))) e);
+    }
+
+-- ---- the wish for collection
+
+module _ (m : List ℕ) (h : length m ≡ markArea) (b : Bool) (e : b ≡ not (eqb (wishMark m) 0)) where
+  wish-read : (c w r : List ℕ) → wantsCollection (stateIn mainframe c w r m) ≡ b
+  unfolding wantsCollection
+  wish-read c w r = ap (λ (x : ℕ). not (eqb x 0)) (wanted-read c w r m) ∙ sym e
+
+  -- it is set
+  pub wish-set : (m′ : List ℕ) → b ≡ false → m′ ≡ set m wantedPlace 1 → Wanted m m′
+  unfolding want
+  wish-set m′ t em =
+      record {
+        marks = ap length em ∙ length-set m wantedPlace 1 ∙ h;
+        is = λ c w r. ap (stateIn mainframe c w r) em ∙ wanted-written c w r m 1 h ∙ rw (wish-read c w r, t);
+      }
+
+  -- it was set
+  pub wish-kept : b ≡ true → Wanted m m
+  unfolding want
+  wish-kept t = record { marks = h; is = λ c w r. rw (wish-read c w r, t) }
+
+pub ruleset round-laws = (learners-there, barrier-row-there, round-done, wish-set, wish-kept, needs)

@@ -1,0 +1,58 @@
+-- What the parts of an arrival ask of one another. Assumes nothing.
+use Prim.Native.Nat.{ℕ, _≤_, _<_}
+use mathlib.Core.Path.{_≡_}
+use mathlib.Core.Bool.{false}
+use mathlib.Core.List.{List}
+use lib.ListN.{length}
+use Rattle.limits.specs.Limits.{processorLimit}
+use Rattle.limits.specs.inner.Sizes.{clockArea, markArea}
+use Rattle.rules.specs.State.{mainframe, hasArrived}
+use Rattle.rules.specs.Steps.{roundDone}
+use Rattle.rules.proofs.inorder.Facts.{InOrder}
+use Rattle.layout.specs.Areas.{stateIn}
+use Rattle.layout.specs.inner.Needed.{Acts, Lent}
+use Rattle.layout.specs.inner.Marks.{processorCount, arrivedMark}
+use Rattle.fetch_index.specs.inner.Index.{IndexKept}
+use Rattle.step_barrier.specs.inner.Effects.{RoundDone}
+
+-- p is a processor of the state in order that the areas hold, and has not arrived
+pub record Arrives (c w r m : List ℕ) (p : ℕ) : Type 0 where
+  pub acts : Acts c w r m p
+  pub not-arrived : hasArrived (stateIn mainframe c w r m) p ≡ false
+
+-- the same, and the index is kept
+pub record ArrivesKept (c w r m : List ℕ) (p : ℕ) (x : List ℕ) : Type 0 where
+  pub arrives : Arrives c w r m p
+  pub kept : IndexKept c r m x
+
+-- no absent processor has arrived
+pub record NoneAbsent (m : List ℕ) : Type 0 where
+  pub away : (p : ℕ) → processorCount m < p → p ≤ processorLimit → arrivedMark m p ≡ 0
+
+-- the area of the marks, with a place for each of its processors, and no absent one arrived
+pub record AbsentAway (m : List ℕ) : Type 0 where
+  pub marks : length m ≡ markArea
+  pub few : processorCount m ≤ processorLimit
+  pub absent : NoneAbsent m
+
+-- the areas have their sizes, and the state in them is in order once its round is completed
+pub record RoundComplete (c w r m : List ℕ) : Type 0 where
+  pub lent : Lent c w r m
+  pub few : processorCount m ≤ processorLimit
+  pub in-order : InOrder mainframe (roundDone (stateIn mainframe c w r m))
+
+-- the same, and the index is kept once it is
+pub record CompleteKept (c w r m x : List ℕ) : Type 0 where
+  pub complete : RoundComplete c w r m
+  pub kept : (c′ m′ : List ℕ) → RoundDone c m c′ m′ → IndexKept c′ r m′ x
+
+-- the area of the clocks, with a row for each of n processors
+pub record ClocksOfFirst (c : List ℕ) (n : ℕ) : Type 0 where
+  pub clocks : length c ≡ clockArea
+  pub few : n ≤ processorLimit
+
+-- the areas of the clocks and of the marks, with a place for each processor
+pub record RoundThere (c m : List ℕ) : Type 0 where
+  pub clocks : length c ≡ clockArea
+  pub marks : length m ≡ markArea
+  pub few : processorCount m ≤ processorLimit

@@ -1,0 +1,129 @@
+// Arriving at the barrier, which may complete a round, and wanting a collection, on lent memory that holds a state in order.
+// The contracts say in the words of the rules (specs/Steps.antt of the crate rules) what state the areas hold afterwards.
+ghost use mathlib.Core.Path.{_≡_};
+ghost use Prim.Native.Nat.{_<_};
+ghost use lib.ListN.{length};
+ghost use Rattle.limits.specs.inner.Sizes.{markArea};
+ghost use Rattle.rules.specs.State.{mainframe};
+ghost use Rattle.rules.specs.Steps.{atBarrier, allLearned, arrive};
+ghost use Rattle.layout.specs.Areas.{clocksIn, stateIn};
+ghost use Rattle.layout.specs.inner.Needed.{Acts, Holds};
+ghost use Rattle.step_collect.specs.inner.Effects.{CountedKept};
+ghost use Rattle.step_barrier.specs.inner.Needed.{ArrivesKept, AbsentAway, CompleteKept, ClocksOfFirst, RoundThere};
+ghost use Rattle.step_barrier.specs.inner.Effects.{HoldsClocks, OneMissing, RoundDone, completed, Wanted};
+use clock::Clock;
+use clock::ProcessorId;
+use layout::flag;
+use layout::learn;
+use layout::marks::clear_arrived;
+use layout::marks::has_arrived;
+use layout::marks::is_wanted;
+use layout::marks::mark_arrived;
+use layout::marks::processor_count;
+use layout::marks::put_wanted;
+use layout::put_clock;
+use layout::wide;
+use limits::PROCESSOR_LIMIT;
+
+// Arrive: closes the interval; the barrier's clock joins the processor's; the processor is marked. When the last processor arrives the
+// round is completed. Yields how many records were applied then.
+pub fn arrive(
+    p: ProcessorId,
+    clocks: &mut [u8],
+    words: &mut [u32],
+    records: &mut [u8],
+    marks: &mut [u8],
+    index: &mut [u32],
+) -> u32
+    requires { ⌜ ArrivesKept (now clocks) (now words) (now records) (now marks) (p .0) (now index) ⌝ }
+    ensures { λ r. ⌜ CountedKept (arrive mainframe (stateIn mainframe (now (clocks .entry)) (now (words .entry)) (now (records .entry)) (now (marks .entry))) (p .0)) r (now (clocks .exit)) (now (words .exit)) (now (records .exit)) (now (marks .exit)) (now (index .exit)) ⌝ }
+{
+    let last = one_missing(marks);
+    at_barrier(p, clocks, words, records, marks);
+    if !last {
+        return 0;
+    }
+    complete_round(clocks, words, records, marks, index)
+}
+
+// Whether all processors but one have arrived. Every mark is counted, those of absent processors too, which are 0: one loop without a
+// branch, before the own mark is set, so that no store stands right before the loads.
+fn one_missing(marks: &[u8]) -> bool
+    requires { ⌜ AbsentAway (now marks) ⌝ }
+    ensures { λ r. ⌜ OneMissing (now (marks .entry)) r ⌝ }
+{
+    let mut sum: u8 = 0;
+    let mut k: usize = 0;
+    while k < PROCESSOR_LIMIT {
+        sum = sum + flag(has_arrived(marks, ProcessorId(k + 1)));
+        k = k + 1;
+    }
+    wide(sum) + 1 == processor_count(marks)
+}
+
+// Want collection: sets the wish; setting it again changes nothing.
+pub fn want(marks: &mut [u8])
+    requires { ⌜ length (now marks) ≡ markArea ⌝ }
+    ensures { λ _. ⌜ Wanted (now (marks .entry)) (now (marks .exit)) ⌝ }
+{
+    if is_wanted(marks) {
+        return;
+    }
+    put_wanted(marks, 1);
+}
+
+// Closes the interval; the barrier's clock joins the processor's; the processor is marked.
+fn at_barrier(
+    p: ProcessorId,
+    clocks: &mut [u8],
+    words: &[u32],
+    records: &mut [u8],
+    marks: &mut [u8],
+)
+    requires { ⌜ Acts (now clocks) (now words) (now records) (now marks) (p .0) ⌝ }
+    ensures { λ _. ⌜ Holds (now (clocks .exit)) (now (words .entry)) (now (records .exit)) (now (marks .exit)) (atBarrier (stateIn mainframe (now (clocks .entry)) (now (words .entry)) (now (records .entry)) (now (marks .entry))) (p .0)) ⌝ }
+{
+    step_close::close(p, clocks, words, records, marks);
+    learn(clocks, 0, p.0);
+    mark_arrived(marks, p);
+}
+
+// Completes a round, and collects garbage if that is wanted. Yields how many records were applied.
+fn complete_round(
+    clocks: &mut [u8],
+    words: &mut [u32],
+    records: &[u8],
+    marks: &mut [u8],
+    index: &mut [u32],
+) -> u32
+    requires { ⌜ CompleteKept (now clocks) (now words) (now records) (now marks) (now index) ⌝ }
+    ensures { λ r. ⌜ CountedKept (completed (stateIn mainframe (now (clocks .entry)) (now (words .entry)) (now (records .entry)) (now (marks .entry)))) r (now (clocks .exit)) (now (words .exit)) (now (records .entry)) (now (marks .exit)) (now (index .exit)) ⌝ }
+{
+    round_done(clocks, marks);
+    if !is_wanted(marks) {
+        return 0;
+    }
+    step_collect::collect(clocks, words, records, marks, index)
+}
+
+// Every processor learns the barrier's clock, which returns to zeros, and the marks clear.
+fn round_done(clocks: &mut [u8], marks: &mut [u8])
+    requires { ⌜ RoundThere (now clocks) (now marks) ⌝ }
+    ensures { λ _. ⌜ RoundDone (now (clocks .entry)) (now (marks .entry)) (now (clocks .exit)) (now (marks .exit)) ⌝ }
+{
+    all_learned(clocks, processor_count(marks));
+    put_clock(clocks, 0, Clock::ZEROS);
+    clear_arrived(marks);
+}
+
+// Every one of the first n processors learns the barrier's clock.
+fn all_learned(clocks: &mut [u8], n: usize)
+    requires { ⌜ ClocksOfFirst (now clocks) n ⌝ }
+    ensures { λ _. ⌜ HoldsClocks (now (clocks .exit)) (allLearned (clocksIn mainframe (now (clocks .entry))) n) ⌝ }
+{
+    let mut k: usize = 0;
+    while k < n {
+        learn(clocks, k + 1, 0);
+        k = k + 1;
+    }
+}

@@ -1,0 +1,163 @@
+-- The records of all pages of a processor, page by page upwards. One law for each way of the code, and `all-pages-laws`. Assumes nothing.
+use Prim.Native.Nat.{ℕ, zero, suc, _+_, _≤_, _<_}
+use native.Mathlib.Numerals.{add-one}
+use native.Mathlib.Omega.{arith}
+use native.Mathlib.Decide.{ℕ-discrete}
+use mathlib.Core.Path.{_≡_, refl, sym, ap, _∙_}
+use mathlib.Core.Bool.{Bool, true, false, cond, _||_}
+use mathlib.Core.List.{List}
+use lib.ListN.{length}
+use borrow.Author.Tests.{le-leb}
+use borrow.Author.Needs.{needs}
+use Rattle.lists.specs.Tables.{any}
+use Rattle.limits.specs.Limits.{intervalLimit, pageLimit, processorLimit, recordLimit}
+use Rattle.rules.specs.Close.{changed, anyChanged, newRecord, recorded}
+use Rattle.rules.specs.InOrder.{present}
+use Rattle.rules.specs.State.{mainframe, appended, State, withRecords, clock, own}
+use Rattle.rules.proofs.inorder.Facts.{InOrder}
+use Rattle.rules.proofs.Space.{closing-finds-room}
+use Rattle.layout.specs.Areas.{recordsIn, stateIn, standingCount}
+use Rattle.layout.specs.inner.Needed.{Acts, Holds}
+use Rattle.layout.specs.inner.Marks.{pageCount}
+use Rattle.step_close.specs.inner.Parts.{pageRecorded, allRecorded, PageChanged, AnyChanged}
+use Rattle.step_close.specs.inner.Needed.{Recordable}
+
+-- ---- every closing finds room
+
+module _ (s : State) (p : ℕ) where
+  standing-one : (g : ℕ) → changed s p g ≡ true → recorded s p (suc g) .standing ≡ recorded s p g .standing + 1
+  unfolding recorded appended
+  standing-one g e = rw e
+
+  standing-next : (g : ℕ) → recorded s p g .standing ≤ recorded s p (suc g) .standing
+  unfolding recorded appended
+  standing-next g = go (changed s p g)
+    where
+      go : (b : Bool) → recorded s p g .standing ≤ cond b (appended (recorded s p g) (newRecord s p g)) (recorded s p g) .standing
+      go true = omega arith
+      go false = omega arith
+
+  standing-grows : (n g : ℕ) → g ≤ n → recorded s p g .standing ≤ recorded s p n .standing
+  standing-grows zero g h = let e : g ≡ 0 = omega arith in rw e (omega arith)
+  standing-grows (suc n) g h = go (ℕ-discrete g (suc n)) (standing-grows n g)
+    where
+      go : Dec (g ≡ suc n) → (g ≤ n → recorded s p g .standing ≤ recorded s p n .standing) → recorded s p g .standing ≤ recorded s p (suc n) .standing
+      go (yes e) k = rw e (omega arith)
+      go (no e) k = omega (arith, k (omega arith), standing-next n)
+
+  slot-left : InOrder mainframe s → 1 ≤ p → p ≤ s .counts .processors → (g : ℕ) → g < s .counts .pages → changed s p g ≡ true → recorded s p g .standing < recordLimit
+  unfolding present mainframe
+  slot-left f from to g h e =
+      let here : present s p ≡ true = rw (le-leb 1 p from, le-leb p (s .counts .processors) to) in
+      omega (arith, closing-finds-room mainframe s p f here .records-fit, standing-one g e, standing-grows (s .counts .pages) (suc g) h)
+
+-- ---- after the pages below g
+
+-- the areas hold the state with the records of the pages below g, and b says whether one of them changed
+pub record RecordingPages (c w r₀ m₀ r m : List ℕ) (p n g : ℕ) (b : Bool) : Type 0 where
+  pub closable : Acts c w r₀ m₀ p
+  pub pages : n ≡ pageCount m₀
+  pub upto : g ≤ n
+  pub holds : Holds c w r m (withRecords (stateIn mainframe c w r₀ m₀) (recorded (stateIn mainframe c w r₀ m₀) p g))
+  pub found : b ≡ any g (changed (stateIn mainframe c w r₀ m₀) p)
+
+-- the number of pages is there
+pub page-count-place : (c w r m : List ℕ) (p : ℕ) → Acts c w r m p → 1 < length m
+page-count-place c w r m p h = omega (arith, h .lent .marks)
+
+-- before the first page
+pub recording-begins : (c w r m : List ℕ) (p n : ℕ) → Acts c w r m p → n ≡ pageCount m → RecordingPages c w r m r m p n 0 false
+unfolding recorded any
+recording-begins c w r m p n h e = record { closable = h; pages = e; upto = omega arith; holds = record { lent = h .lent; is = refl }; found = refl }
+
+module _ (c w r₀ m₀ r m : List ℕ) (p n g : ℕ) (a : Bool) (now : RecordingPages c w r₀ m₀ r m p n g a) where
+  same-changed : changed (stateIn mainframe c w r m) p g ≡ changed (stateIn mainframe c w r₀ m₀) p g
+  unfolding changed
+  same-changed = ap (λ (s : State). changed s p g) (now .holds .is)
+
+  standing-now : standingCount m ≡ recorded (stateIn mainframe c w r₀ m₀) p g .standing
+  unfolding stateIn recordsIn
+  standing-now = ap (λ (s : State). s .records .standing) (now .holds .is)
+
+  -- the next page can be recorded
+  pub recording-page : g < n → Recordable c w r m p g
+  recording-page more =
+      record {
+        lent = now .holds .lent;
+        from = now .closable .from;
+        to = omega (arith, now .closable .to, few-processors (now .closable .in-order));
+        page = omega (arith, now .pages, few-pages (now .closable .in-order));
+        own-fits = own-now (now .closable .in-order);
+        room = λ e.
+            let left = slot-left (stateIn mainframe c w r₀ m₀) p (now .closable .in-order) (now .closable .from) (now .closable .to) g
+            (present-page more) (sym same-changed ∙ e) in
+            omega (arith, standing-now, left);
+      }
+    where
+      few-processors : InOrder mainframe (stateIn mainframe c w r₀ m₀) → stateIn mainframe c w r₀ m₀ .counts .processors ≤ processorLimit
+      few-processors f = unfold mainframe in f .processors-fit
+
+      few-pages : InOrder mainframe (stateIn mainframe c w r₀ m₀) → pageCount m₀ ≤ pageLimit
+      few-pages f = unfold mainframe stateIn in f .pages-fit
+
+      own-now : InOrder mainframe (stateIn mainframe c w r₀ m₀) → own (stateIn mainframe c w r m) p ≤ intervalLimit
+      own-now f = unfold mainframe own clock stateIn in f .own-fits p
+
+      present-page : g < n → g < stateIn mainframe c w r₀ m₀ .counts .pages
+      present-page h = unfold stateIn in omega (arith, now .pages, h)
+
+  module _ (b : Bool) (said : PageChanged w m p g b) (r′ m′ : List ℕ) (after : Holds c w r′ m′ (pageRecorded (stateIn mainframe c w r m) p g)) where
+    holds-after : Holds c w r′ m′ (withRecords (stateIn mainframe c w r₀ m₀) (recorded (stateIn mainframe c w r₀ m₀) p (g + 1)))
+    unfolding pageRecorded changed newRecord own clock recorded
+    holds-after = record { lent = after .lent; is = after .is ∙ ap (λ (s : State). pageRecorded s p g) (now .holds .is) ∙ rw (add-one g) }
+
+    changed-is : b ≡ changed (stateIn mainframe c w r₀ m₀) p g
+    changed-is = said .is c r ∙ same-changed
+
+    -- one more page, which changed
+    pub recorded-page : g < n → b ≡ true → RecordingPages c w r₀ m₀ r′ m′ p n (g + 1) true
+    unfolding any
+    recorded-page more e =
+        record {
+          closable = now .closable;
+          pages = now .pages;
+          upto = omega arith;
+          holds = holds-after;
+          found = rw (add-one g, ← changed-is, e) (sym (or-true (any g (changed (stateIn mainframe c w r₀ m₀) p))));
+        }
+      where
+        or-true : (x : Bool) → (x || true) ≡ true
+        or-true true = refl
+        or-true false = refl
+
+    -- one more page, which did not
+    pub passed-page : g < n → b ≡ false → RecordingPages c w r₀ m₀ r′ m′ p n (g + 1) a
+    unfolding any
+    passed-page more e =
+        record {
+          closable = now .closable;
+          pages = now .pages;
+          upto = omega arith;
+          holds = holds-after;
+          found = rw (add-one g, ← changed-is, e) (now .found ∙ sym (or-false (any g (changed (stateIn mainframe c w r₀ m₀) p))));
+        }
+      where
+        or-false : (x : Bool) → (x || false) ≡ x
+        or-false true = refl
+        or-false false = refl
+
+  last-page : n ≤ g → g ≡ stateIn mainframe c w r₀ m₀ .counts .pages
+  unfolding stateIn
+  last-page done = omega (arith, now .upto, now .pages)
+
+  -- all pages are recorded
+  pub pages-recorded : n ≤ g → Holds c w r m (allRecorded (stateIn mainframe c w r₀ m₀) p)
+  unfolding allRecorded
+  pages-recorded done = record { lent = now .holds .lent; is = now .holds .is ∙ rw (last-page done) }
+
+  -- and the answer is known
+  pub pages-said : n ≤ g → AnyChanged (stateIn mainframe c w r₀ m₀) p a
+  unfolding anyChanged
+  pages-said done = record { is = now .found ∙ rw (last-page done) }
+
+pub ruleset all-pages-laws = (page-count-place, recording-begins, recording-page, recorded-page, passed-page, pages-recorded, pages-said, needs)

@@ -1,0 +1,9 @@
+-- `release` meets its contract. Assumes nothing.
+use Rattle.step_lock.proofs.Acting.{act-laws}
+use Rattle.step_lock.proofs.release.Statement.{statement}
+use Rattle.step_lock.proofs.release.Tie as tie
+
+pub release-spec : {M : Type 1} → statement M
+release-spec =
+    tie.close
+    (tie.spec (λ c κs. search act-laws) (λ c κs. search act-laws) (λ c. search act-laws) (λ c. search act-laws) (λ c. search act-laws) (λ c. search act-laws))

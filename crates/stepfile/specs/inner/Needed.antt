@@ -1,0 +1,105 @@
+-- What the functions of this crate ask of one another, and what the inner ones promise. Assumes nothing.
+use Prim.Native.Nat.{_*_, _+_, _-_, _/_, _<_, _≤_, ℕ}
+use mathlib.Core.Path.{_≡_}
+use mathlib.Core.Bool.{Bool, _&&_, _||_, false, not, true}
+use mathlib.Core.List.{List, _++_}
+use lib.ListN.{drop, length, replicate, take}
+use lib.Dec.{eqb, ltb}
+use Rattle.limits.specs.Files.{fileRecordWidth, lineLimit}
+use Rattle.limits.specs.inner.Sizes.{fileRecordLimit}
+use Rattle.rules.specs.InOrder.{allZero}
+use Rattle.layout.specs.Areas.{Areas}
+use Rattle.inorder.specs.Areas.{OrderIs}
+use Rattle.file_record.specs.Records.{Feed}
+use Rattle.file_record.specs.declared.Stand.{Stand}
+use Rattle.file_record.specs.inner.Needed.{RestKept, standsAt}
+use Rattle.file_chunk.specs.Bytes.{bytesTaken}
+use Rattle.file_chunk.specs.inner.Needed.{Passable}
+use Rattle.stepfile.specs.Promises.{feedable, progressOf}
+use Rattle.stepfile.specs.declared.Progress.{Progress}
+use Rattle.stepfile.specs.declared.Taken.{Taken}
+use Rattle.stepfile.specs.declared.Held.{Held}
+
+-- ---- whether a chunk is fed
+
+-- b says whether fewer than eight bytes are held and the others are 0
+pub record ZerosBehind (b : Bool) (held : ℕ) (bytes : List ℕ) : Type 0 where
+  pub is : b ≡ (ltb held fileRecordWidth && allZero (drop held bytes))
+
+-- b says whether a chunk of so many bytes is fed
+pub record FeedableIs (b : Bool) (p : Progress) (chunk room : ℕ) : Type 0 where
+  pub is : b ≡ feedable p chunk room
+
+-- b says whether a file that ends at this progress ends within a record or before the opening
+pub record EndsShort (b : Bool) (p : Progress) : Type 0 where
+  pub is : b ≡ (not (p .stopped) && (eqb (p .number) 0 || ltb 0 (p .held)))
+
+-- ---- bytes held
+
+-- bytes are held, at most eight, with zeros behind them
+pub record Holding (held : ℕ) (bytes : List ℕ) : Type 0 where
+  pub few : held ≤ fileRecordWidth
+  pub long : length bytes ≡ fileRecordWidth
+  pub zeros : drop held bytes ≡ replicate (fileRecordWidth - held) 0
+
+-- bytes are held, and the chunk has more from a place on
+pub record Holdable (held : ℕ) (bytes chunk : List ℕ) (from : ℕ) : Type 0 where
+  pub holding : Holding held bytes
+  pub within : from ≤ length chunk
+
+-- bytes of the chunk have been taken among those held: all together are the same
+pub record HeldTogether (held : ℕ) (bytes chunk : List ℕ) (from : ℕ) (count : ℕ) (kept : List ℕ) (next : ℕ) : Type 0 where
+  pub holding : Holding count kept
+  pub within : next ≤ length chunk
+  pub counted : next + held ≡ count + from
+  pub same : take count kept ++ drop next chunk ≡ take held bytes ++ drop from chunk
+
+-- until there are eight or the chunk ends
+pub record HeldAll (held : ℕ) (bytes chunk : List ℕ) (from : ℕ) (h : Held) : Type 0 where
+  pub holds : HeldTogether held bytes chunk from (h .count) (h .bytes) (h .next)
+  pub short : h .count < fileRecordWidth → h .next ≡ length chunk
+
+-- ---- a chunk
+
+-- the answer of what stands after a chunk
+unfoldable pub takenAs : Feed → Taken
+takenAs f = record { progress = progressOf f; fed = true; written = length (f .lines) }
+
+-- the progress is one that feeding makes, and not stopped, and the stand is that before the first record: no line is written; there is room for the
+-- lines of the chunk
+pub record Feedable (p : Progress) (s : Stand) (chunk out c w r m : List ℕ) : Type 0 where
+  pub few : p .number ≤ fileRecordLimit
+  pub going : p .stopped ≡ false
+  pub fewer : p .held < fileRecordWidth
+  pub holding : Holding (p .held) (p .bytes)
+  pub first : s ≡ record { number = p .number; stopped = false; ready = s .ready; at = 0 }
+  pub room : lineLimit * (length chunk / fileRecordWidth) + lineLimit ≤ length out
+  pub order : OrderIs (s .ready) c w r m
+
+-- the bytes held and the first of the chunk are eight
+pub record Completes (p : Progress) (s : Stand) (h : Held) (chunk out c w r m : List ℕ) : Type 0 where
+  pub feedable : Feedable p s chunk out c w r m
+  pub held : HeldAll (p .held) (p .bytes) chunk 0 h
+  pub eight : fileRecordWidth ≤ h .count
+
+-- the eight bytes of a record are held, and a run that has not stopped may take it
+pub record BegunPassable (s : Stand) (bytes out c w r m : List ℕ) : Type 0 where
+  pub passable : Passable s bytes 0 out c w r m
+  pub going : s .stopped ≡ false
+  pub eight : length bytes ≡ fileRecordWidth
+
+-- after the last record: fewer than eight bytes are left, or the run has stopped
+pub record Endable (s : Stand) (chunk : List ℕ) (from : ℕ) : Type 0 where
+  pub within : from ≤ length chunk
+  pub few-left : s .stopped ≡ false → length chunk < from + fileRecordWidth
+
+-- t is the answer of what the bytes behind the last record lead to
+pub record Ended (s : Stand) (chunk : List ℕ) (from : ℕ) (t : Taken) : Type 0 where
+  pub is : (out : List ℕ) (a : Areas) → s .at ≤ length out → t ≡ takenAs (bytesTaken (standsAt s out a) (drop from chunk))
+
+-- t is the answer of f, and f's lines and areas are those that are left
+pub record ChunkFed (f : Feed) (at : ℕ) (out : List ℕ) (t : Taken) (out′ : List ℕ) (a′ : Areas) : Type 0 where
+  pub answer : t ≡ takenAs f
+  pub areas : a′ ≡ f .areas
+  pub lines : take (length (f .lines)) out′ ≡ f .lines
+  pub kept : RestKept out at out′ (length (f .lines))

@@ -1,9 +1,0 @@
--- `put_line` meets its contract. Assumes nothing.
-use Rattle.taking.proofs.Taking.{taking-laws}
-use Rattle.taking.proofs.put_line.Statement.{statement}
-use Rattle.taking.proofs.put_line.Tie as tie
-
-pub put-line-spec : {M : Type 1} → statement M
-put-line-spec =
-    tie.close
-    (tie.spec (λ c κs. search taking-laws) (λ c. search taking-laws) (λ c. search taking-laws))

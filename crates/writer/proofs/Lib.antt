@@ -1,4 +1,0 @@
-pub mod Masks
-pub mod Writing
-pub mod Measuring
-pub mod WriteLoops

@@ -1,9 +1,0 @@
--- `put_word` meets its contract. Assumes nothing.
-use Rattle.writer.proofs.WriteLoops.{write-laws}
-use Rattle.writer.proofs.put_word.Statement.{statement}
-use Rattle.writer.proofs.put_word.Tie as tie
-
-pub put-word-spec : {M : Type 1} → statement M
-put-word-spec =
-    tie.close
-    (tie.spec (λ c. search write-laws) (λ c. search write-laws) (λ c. search write-laws) (λ c. search write-laws) (λ c. search write-laws) (λ c. search write-laws) (λ c. search write-laws) (λ c. search write-laws) (λ c. search write-laws) (λ c. search write-laws) (λ c. search write-laws) (λ c. search write-laws) (λ c. search write-laws))

@@ -1,9 +1,0 @@
--- `set_first` meets its contract. Assumes nothing.
-use Rattle.writer.proofs.WriteLoops.{write-laws}
-use Rattle.writer.proofs.set_first.Statement.{statement}
-use Rattle.writer.proofs.set_first.Tie as tie
-
-pub set-first-spec : {M : Type 1} → statement M
-set-first-spec =
-    tie.close
-    (tie.spec (λ c. search write-laws) (λ c. search write-laws) (λ c. search write-laws))
