@@ -26,9 +26,9 @@ use Rattle.step_record.specs.inner.Needed.{StepThere}
 use Rattle.lines.specs.Lines.{lineBytes}
 use Rattle.lines.specs.inner.Needed.{Countable, Counted, Room}
 use Rattle.file_record.specs.declared.Stand.{Stand}
-use Rattle.file_record.specs.inner.Needed.{LinePut, outcomeLine, standsAt}
+use Rattle.file_record.specs.inner.Needed.{LinePut, outcomeLine, standsAt, Ahead, AllAhead}
 use Rattle.file_chunk.specs.Bytes.{bytesTaken}
-use Rattle.file_chunk.specs.inner.Needed.{Ahead, AllAhead, Passing, RoomForSteps, Runnable, StepsPassable, StepsRefused, StepsTaken}
+use Rattle.file_chunk.specs.inner.Needed.{Passing, RoomForSteps, Runnable, StepsPassable, StepsRefused, StepsTaken}
 use Rattle.file_chunk.proofs.Passing.{passing-begins, passing-on, passing-one}
 use Rattle.file_chunk.proofs.Records.{Answered, answered-in-order, answered-out-of-order, step-record}
 

@@ -1,10 +1,7 @@
 // The records that lie whole in a chunk of a step file, taken one after the other: the opening, the steps, one too many.
 ghost use mathlib.Core.Bool.{true};
-ghost use Prim.Native.Nat.{_≤_};
-ghost use Rattle.limits.specs.inner.Sizes.{fileRecordLimit};
-ghost use Rattle.file_chunk.specs.inner.Needed.{Passable, AllPassed, FirstTaken, StepsPassable, StepsTaken, AllAhead, Runnable, RoomForSteps, StepsRefused, LastPassable, LastTaken};
+ghost use Rattle.file_chunk.specs.inner.Needed.{Passable, AllPassed, FirstTaken, StepsPassable, StepsTaken, Runnable, RoomForSteps, StepsRefused, LastPassable, LastTaken};
 use file_record::Stand;
-use limits::FILE_RECORD_LIMIT;
 use limits::FILE_RECORD_WIDTH;
 
 // What stands behind the last whole record of a chunk, and the place in the chunk behind it.
@@ -119,7 +116,7 @@ fn take_run(
     if stand.number == 0 {
         return Passed { stand, next: from };
     }
-    let end = run_end(stand.number, from, chunk.len());
+    let end = file_record::run_end(stand.number, from, chunk.len());
     if !stand.ready {
         return refuse_steps(stand, from, end, lines);
     }
@@ -134,19 +131,6 @@ fn take_run(
         records,
         marks,
     )
-}
-
-// The place behind the steps from a place on: behind the last record that lies whole in a chunk of so many bytes, or the 1,000,000th step.
-fn run_end(number: u32, from: usize, chunk: usize) -> usize
-    requires { ⌜ (number ≤ fileRecordLimit) × (from ≤ chunk) ⌝ }
-    ensures { λ r. ⌜ AllAhead number from r chunk ⌝ }
-{
-    let whole = (chunk - from) / FILE_RECORD_WIDTH;
-    let numbers = (FILE_RECORD_LIMIT - number) as usize;
-    if whole < numbers {
-        return from + FILE_RECORD_WIDTH * whole;
-    }
-    from + FILE_RECORD_WIDTH * numbers
 }
 
 // Takes the steps from a place on to another, on areas in order: the inner loop of the run program. The index is kept over all of them.

@@ -3,11 +3,13 @@ ghost use mathlib.Core.Path.{_≡_};
 ghost use Prim.Native.Nat.{_+_, _≤_};
 ghost use lib.ListN.{length, take, drop};
 ghost use Rattle.limits.specs.Files.{fileRecordWidth, lineLimit};
+ghost use Rattle.limits.specs.inner.Sizes.{fileRecordLimit};
 ghost use Rattle.layout.specs.Areas.{areas};
 ghost use Rattle.lines.specs.Lines.{lineBytes};
 ghost use Rattle.lines.specs.inner.Needed.{Room, Counted};
 ghost use Rattle.file_record.specs.Records.{openingTaken};
-ghost use Rattle.file_record.specs.inner.Needed.{LinePut, outcomeLine, standsAt, Takeable, StoppedAt, RecordTaken, OpenedAs};
+ghost use Rattle.file_record.specs.inner.Needed.{LinePut, outcomeLine, standsAt, Takeable, StoppedAt, RecordTaken, OpenedAs, AllAhead};
+use limits::FILE_RECORD_LIMIT;
 use limits::FILE_RECORD_WIDTH;
 use step_act::Outcome;
 
@@ -148,4 +150,17 @@ fn wide(x: u8) -> u32
     ensures { λ r. ⌜ (r ≡ x) × (r ≤ 255) ⌝ }
 {
     x as u32
+}
+
+// The place behind the steps from a place on: behind the last record that lies whole in a chunk of so many bytes, or the 1,000,000th step.
+pub fn run_end(number: u32, from: usize, chunk: usize) -> usize
+    requires { ⌜ (number ≤ fileRecordLimit) × (from ≤ chunk) ⌝ }
+    ensures { λ r. ⌜ AllAhead number from r chunk ⌝ }
+{
+    let whole = (chunk - from) / FILE_RECORD_WIDTH;
+    let numbers = (FILE_RECORD_LIMIT - number) as usize;
+    if whole < numbers {
+        return from + FILE_RECORD_WIDTH * whole;
+    }
+    from + FILE_RECORD_WIDTH * numbers
 }

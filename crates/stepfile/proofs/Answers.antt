@@ -18,7 +18,8 @@ use Rattle.stepfile.specs.Feeding.{after}
 use Rattle.stepfile.specs.Promises.{FedAs, Started, feedAnswer, feedAreas, feedLines, feedable, notTaken, progressOf, feedAt}
 use Rattle.stepfile.specs.declared.Progress.{Progress}
 use Rattle.stepfile.specs.declared.Taken.{Taken}
-use Rattle.stepfile.specs.inner.Needed.{ChunkFed, Feedable, FeedableIs, Holding, takenAs}
+use Rattle.file_held.specs.inner.Needed.{Holding}
+use Rattle.stepfile.specs.inner.Needed.{ChunkFed, Feedable, FeedableIs, takenAs}
 use Rattle.stepfile.proofs.Cutting.{cut-lines, cut-reached, started}
 use Rattle.stepfile.proofs.Sound.{few-held, few-records, holding-there, room-there}
 

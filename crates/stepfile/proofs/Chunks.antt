@@ -20,8 +20,9 @@ use Rattle.file_chunk.proofs.Passing.{rest-kept-again, rest-kept-all}
 use Rattle.stepfile.specs.Promises.{feedAt}
 use Rattle.stepfile.specs.declared.Progress.{Progress}
 use Rattle.stepfile.specs.declared.Taken.{Taken}
-use Rattle.stepfile.specs.declared.Held.{Held}
-use Rattle.stepfile.specs.inner.Needed.{BegunPassable, ChunkFed, Completes, Feedable, HeldAll, Holdable, takenAs}
+use Rattle.file_held.specs.declared.Held.{Held}
+use Rattle.file_held.specs.inner.Needed.{HeldAll, Holdable}
+use Rattle.stepfile.specs.inner.Needed.{BegunPassable, ChunkFed, Completes, Feedable, takenAs}
 use Rattle.stepfile.proofs.Rest.{held-progress}
 
 module _ (p : Progress) (s : Stand) (chunk out c w r m : List ℕ) (h : Feedable p s chunk out c w r m) where

@@ -2,7 +2,6 @@ pub mod Cutting
 pub mod Whole
 pub mod Judged
 pub mod Cases
-pub mod HeldBytes
 pub mod Sound
 pub mod Rest
 pub mod Chunks

@@ -19,8 +19,9 @@ use Rattle.file_chunk.proofs.Bytes.{taken-held, taken-stopped}
 use Rattle.stepfile.specs.Promises.{progressOf}
 use Rattle.stepfile.specs.declared.Progress.{Progress}
 use Rattle.stepfile.specs.declared.Taken.{Taken}
-use Rattle.stepfile.specs.declared.Held.{Held}
-use Rattle.stepfile.specs.inner.Needed.{ChunkFed, Endable, Ended, HeldAll, Holdable, Holding, takenAs}
+use Rattle.file_held.specs.declared.Held.{Held}
+use Rattle.file_held.specs.inner.Needed.{HeldAll, Holdable, Holding}
+use Rattle.stepfile.specs.inner.Needed.{ChunkFed, Endable, Ended, takenAs}
 
 -- the progress with bytes held
 pub held-progress : (f : Feed) (count : ℕ) (kept : List ℕ) → Holding count kept

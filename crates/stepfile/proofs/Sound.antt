@@ -12,8 +12,9 @@ use Rattle.limits.specs.inner.Sizes.{fileRecordLimit}
 use Rattle.rules.specs.InOrder.{allZero}
 use Rattle.stepfile.specs.Promises.{feedable, sound}
 use Rattle.stepfile.specs.declared.Progress.{Progress}
-use Rattle.stepfile.specs.inner.Needed.{FeedableIs, Holding, ZerosBehind}
-use Rattle.stepfile.proofs.HeldBytes.{holding-of}
+use Rattle.file_held.specs.inner.Needed.{Holding, ZerosBehind}
+use Rattle.stepfile.specs.inner.Needed.{FeedableIs}
+use Rattle.file_held.proofs.HeldBytes.{holding-of}
 
 module _ (p : Progress) (chunk room : ℕ) where
   pub number-too-large : fileRecordLimit < p .number → FeedableIs false p chunk room

@@ -8,7 +8,8 @@ ghost use Rattle.file_record.specs.inner.Needed.{standsAt, RecordTaken};
 ghost use Rattle.file_chunk.specs.Bytes.{bytesTaken};
 ghost use Rattle.file_chunk.specs.inner.Needed.{Passable};
 ghost use Rattle.stepfile.specs.Promises.{feedAt, Started, FedAs, FinishedAs};
-ghost use Rattle.stepfile.specs.inner.Needed.{ZerosBehind, FeedableIs, EndsShort, Holdable, HeldAll, Feedable, Completes, BegunPassable, Endable, Ended, ChunkFed};
+ghost use Rattle.stepfile.specs.inner.Needed.{FeedableIs, EndsShort, Feedable, Completes, BegunPassable, Endable, Ended, ChunkFed};
+use file_held::Held;
 use file_record::Stand;
 use limits::FILE_RECORD_LIMIT;
 use limits::FILE_RECORD_WIDTH;
@@ -30,13 +31,6 @@ pub struct Taken {
     pub progress: Progress,
     pub fed: bool,
     pub written: usize,
-}
-
-// Bytes held, how many, and the place in the chunk behind the last of them.
-struct Held {
-    count: usize,
-    bytes: [u8; FILE_RECORD_WIDTH],
-    next: usize,
 }
 
 // No byte of a file has been fed.
@@ -111,24 +105,7 @@ fn feedable(progress: Progress, chunk: usize, room: usize) -> bool
         return false;
     }
     let bytes = progress.bytes;
-    zeros_behind(progress.held, bytes)
-}
-
-// Whether fewer than eight bytes are held, and the others are 0.
-fn zeros_behind(held: usize, bytes: [u8; FILE_RECORD_WIDTH]) -> bool
-    ensures { λ r. ⌜ ZerosBehind r held bytes ⌝ }
-{
-    if FILE_RECORD_WIDTH <= held {
-        return false;
-    }
-    let mut i = held;
-    while i < FILE_RECORD_WIDTH {
-        if bytes[i] != 0 {
-            return false;
-        }
-        i = i + 1;
-    }
-    true
+    file_held::zeros_behind(progress.held, bytes)
 }
 
 // Whether a file that ends here ends within a record or before the opening.
@@ -192,7 +169,7 @@ fn feed_on(
         return take_rest(stand, chunk, 0, lines, clocks, words, records, marks);
     }
     let begun = progress.bytes;
-    let first = hold(progress.held, begun, chunk, 0);
+    let first = file_held::hold(progress.held, begun, chunk, 0);
     if first.count < FILE_RECORD_WIDTH {
         let bytes = first.bytes;
         let held = Progress {
@@ -218,33 +195,6 @@ fn feed_on(
         records,
         marks,
     )
-}
-
-// Takes bytes of the chunk from a place on behind the bytes held, until there are eight or the chunk ends.
-fn hold(held: usize, bytes: [u8; FILE_RECORD_WIDTH], chunk: &[u8], from: usize) -> Held
-    requires { ⌜ Holdable held bytes (now chunk) from ⌝ }
-    ensures { λ r. ⌜ HeldAll held bytes (now (chunk .entry)) from r ⌝ }
-{
-    let mut kept = bytes;
-    let mut count = held;
-    let mut i = from;
-    while i < chunk.len() {
-        if FILE_RECORD_WIDTH <= count {
-            return Held {
-                count,
-                bytes: kept,
-                next: i,
-            };
-        }
-        kept[count] = chunk[i];
-        count = count + 1;
-        i = i + 1;
-    }
-    Held {
-        count,
-        bytes: kept,
-        next: i,
-    }
 }
 
 // Feeds a chunk that completes the record that has begun: first that record, then those that lie whole in the chunk.
@@ -331,7 +281,7 @@ fn hold_rest(stand: Stand, chunk: &[u8], from: usize) -> Taken
             written: stand.at,
         };
     }
-    let last = hold(0, none, chunk, from);
+    let last = file_held::hold(0, none, chunk, from);
     let bytes = last.bytes;
     let progress = Progress {
         number: stand.number,

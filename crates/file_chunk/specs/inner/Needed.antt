@@ -9,7 +9,7 @@ use Rattle.limits.specs.inner.Sizes.{fileRecordLimit}
 use Rattle.layout.specs.Areas.{areas}
 use Rattle.inorder.specs.Areas.{OrderIs}
 use Rattle.file_record.specs.declared.Stand.{Stand}
-use Rattle.file_record.specs.inner.Needed.{RestKept, standsAt}
+use Rattle.file_record.specs.inner.Needed.{RestKept, standsAt, Ahead, AllAhead}
 use Rattle.file_chunk.specs.Bytes.{bytesTaken}
 
 -- there is room for the lines of the records that lie in the chunk from a place on
@@ -61,18 +61,6 @@ pub record LastPassable (s : Stand) (chunk : List ℕ) (from : ℕ) (out : List 
 pub record StepsTaken (s : Stand) (chunk : List ℕ) (from : ℕ) (out c w r m : List ℕ) (s′ : Stand) (i : ℕ) (out′ c′ w′ r′ m′ : List ℕ) : Type 0 where
   pub passing : Passing s chunk from out c w r m s′ i out′ c′ w′ r′ m′
   pub able : LastPassable s′ chunk i out′
-
--- whole records stand from a place to another, and their numbers are those of steps
-pub record Ahead (number i end : ℕ) : Type 0 where
-  pub on : i ≤ end
-  pub whole : (end - i) % fileRecordWidth ≡ 0
-  pub few : number + (end - i) / fileRecordWidth ≤ fileRecordLimit
-
--- they are all steps that a chunk of so many bytes has from that place on
-pub record AllAhead (number i end chunk : ℕ) : Type 0 where
-  pub ahead : Ahead number i end
-  pub within : end ≤ chunk
-  pub all : end + fileRecordWidth ≤ chunk → number + (end - i) / fileRecordWidth ≡ fileRecordLimit
 
 -- the records from a place on to another are all steps that follow: the opening is taken, and the run has not stopped; ready says whether the areas
 -- are in order

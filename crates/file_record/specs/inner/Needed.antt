@@ -1,5 +1,5 @@
 -- What the functions of this crate ask of one another and of their callers, and what they promise. Assumes nothing.
-use Prim.Native.Nat.{_+_, _≤_, ℕ}
+use Prim.Native.Nat.{_%_, _+_, _-_, _/_, _≤_, ℕ}
 use mathlib.Core.Path.{_≡_}
 use mathlib.Core.Bool.{true}
 use mathlib.Core.List.{List, [], _++_}
@@ -64,3 +64,17 @@ pub record RecordTaken (f : Feed) (s : Stand) (out : List ℕ) (s′ : Stand) (o
 pub record OpenedAs (bytes : List ℕ) (c w r m : List ℕ) (n : ℕ) (c′ w′ r′ m′ : List ℕ) : Type 0 where
   pub refusal : n ≡ openRefusal bytes (areas c w r m)
   pub laid : areas c′ w′ r′ m′ ≡ areasOpened bytes (areas c w r m)
+
+-- ---- the steps of a chunk
+
+-- whole records stand from a place to another, and their numbers are those of steps
+pub record Ahead (number i end : ℕ) : Type 0 where
+  pub on : i ≤ end
+  pub whole : (end - i) % fileRecordWidth ≡ 0
+  pub few : number + (end - i) / fileRecordWidth ≤ fileRecordLimit
+
+-- they are all steps that a chunk of so many bytes has from that place on
+pub record AllAhead (number i end chunk : ℕ) : Type 0 where
+  pub ahead : Ahead number i end
+  pub within : end ≤ chunk
+  pub all : end + fileRecordWidth ≤ chunk → number + (end - i) / fileRecordWidth ≡ fileRecordLimit

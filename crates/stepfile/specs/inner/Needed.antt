@@ -2,12 +2,11 @@
 use Prim.Native.Nat.{_*_, _+_, _-_, _/_, _<_, _≤_, ℕ}
 use mathlib.Core.Path.{_≡_}
 use mathlib.Core.Bool.{Bool, _&&_, _||_, false, not, true}
-use mathlib.Core.List.{List, _++_}
-use lib.ListN.{drop, length, replicate, take}
+use mathlib.Core.List.{List}
+use lib.ListN.{drop, length, take}
 use lib.Dec.{eqb, ltb}
 use Rattle.limits.specs.Files.{fileRecordWidth, lineLimit}
 use Rattle.limits.specs.inner.Sizes.{fileRecordLimit}
-use Rattle.rules.specs.InOrder.{allZero}
 use Rattle.layout.specs.Areas.{Areas}
 use Rattle.inorder.specs.Areas.{OrderIs}
 use Rattle.file_record.specs.Records.{Feed}
@@ -18,13 +17,10 @@ use Rattle.file_chunk.specs.inner.Needed.{Passable}
 use Rattle.stepfile.specs.Promises.{feedable, progressOf}
 use Rattle.stepfile.specs.declared.Progress.{Progress}
 use Rattle.stepfile.specs.declared.Taken.{Taken}
-use Rattle.stepfile.specs.declared.Held.{Held}
+use Rattle.file_held.specs.declared.Held.{Held}
+use Rattle.file_held.specs.inner.Needed.{Holding, HeldAll}
 
 -- ---- whether a chunk is fed
-
--- b says whether fewer than eight bytes are held and the others are 0
-pub record ZerosBehind (b : Bool) (held : ℕ) (bytes : List ℕ) : Type 0 where
-  pub is : b ≡ (ltb held fileRecordWidth && allZero (drop held bytes))
 
 -- b says whether a chunk of so many bytes is fed
 pub record FeedableIs (b : Bool) (p : Progress) (chunk room : ℕ) : Type 0 where
@@ -33,31 +29,6 @@ pub record FeedableIs (b : Bool) (p : Progress) (chunk room : ℕ) : Type 0 wher
 -- b says whether a file that ends at this progress ends within a record or before the opening
 pub record EndsShort (b : Bool) (p : Progress) : Type 0 where
   pub is : b ≡ (not (p .stopped) && (eqb (p .number) 0 || ltb 0 (p .held)))
-
--- ---- bytes held
-
--- bytes are held, at most eight, with zeros behind them
-pub record Holding (held : ℕ) (bytes : List ℕ) : Type 0 where
-  pub few : held ≤ fileRecordWidth
-  pub long : length bytes ≡ fileRecordWidth
-  pub zeros : drop held bytes ≡ replicate (fileRecordWidth - held) 0
-
--- bytes are held, and the chunk has more from a place on
-pub record Holdable (held : ℕ) (bytes chunk : List ℕ) (from : ℕ) : Type 0 where
-  pub holding : Holding held bytes
-  pub within : from ≤ length chunk
-
--- bytes of the chunk have been taken among those held: all together are the same
-pub record HeldTogether (held : ℕ) (bytes chunk : List ℕ) (from : ℕ) (count : ℕ) (kept : List ℕ) (next : ℕ) : Type 0 where
-  pub holding : Holding count kept
-  pub within : next ≤ length chunk
-  pub counted : next + held ≡ count + from
-  pub same : take count kept ++ drop next chunk ≡ take held bytes ++ drop from chunk
-
--- until there are eight or the chunk ends
-pub record HeldAll (held : ℕ) (bytes chunk : List ℕ) (from : ℕ) (h : Held) : Type 0 where
-  pub holds : HeldTogether held bytes chunk from (h .count) (h .bytes) (h .next)
-  pub short : h .count < fileRecordWidth → h .next ≡ length chunk
 
 -- ---- a chunk
 

@@ -1,10 +1,10 @@
 -- `hold` meets its contract: the bytes held and those left in the chunk are together always the same. Assumes nothing.
 use Prim.Native.Nat.{_-_}
 use lib.ListN.{length}
-use Rattle.stepfile.specs.inner.Needed.{HeldTogether}
-use Rattle.stepfile.proofs.HeldBytes.{holding-laws}
-use Rattle.stepfile.proofs.hold.Statement.{statement}
-use Rattle.stepfile.proofs.hold.Tie as tie
+use Rattle.file_held.specs.inner.Needed.{HeldTogether}
+use Rattle.file_held.proofs.HeldBytes.{holding-laws}
+use Rattle.file_held.proofs.hold.Statement.{statement}
+use Rattle.file_held.proofs.hold.Tie as tie
 
 abbrev Inv-loop : tie.InvT-loop
 Inv-loop held chunk from kept₀ count₀ i₀ kept count i = HeldTogether held kept₀ chunk from count kept i

@@ -12,7 +12,7 @@ use borrow.Author.Tests.{eq-eqb, eqb-true, le-ltb, lt-ltb, ne-eqb}
 use borrow.Author.Needs.{needs}
 use Rattle.limits.specs.Files.{fileRecordWidth}
 use Rattle.rules.specs.InOrder.{allZero}
-use Rattle.stepfile.specs.inner.Needed.{HeldAll, Holdable, Holding, HeldTogether, ZerosBehind}
+use Rattle.file_held.specs.inner.Needed.{HeldAll, Holdable, Holding, HeldTogether, ZerosBehind}
 
 -- ---- bytes taken behind those held
 

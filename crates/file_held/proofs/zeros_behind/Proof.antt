@@ -1,9 +1,9 @@
 -- `zeros_behind` meets its contract: the bytes behind those held are 0 so far. Assumes nothing.
 use Prim.Native.Nat.{_-_}
 use Rattle.limits.specs.Files.{fileRecordWidth}
-use Rattle.stepfile.proofs.HeldBytes.{ZerosTo, holding-laws}
-use Rattle.stepfile.proofs.zeros_behind.Statement.{statement}
-use Rattle.stepfile.proofs.zeros_behind.Tie as tie
+use Rattle.file_held.proofs.HeldBytes.{ZerosTo, holding-laws}
+use Rattle.file_held.proofs.zeros_behind.Statement.{statement}
+use Rattle.file_held.proofs.zeros_behind.Tie as tie
 
 abbrev Inv-loop : tie.InvT-loop
 Inv-loop held bytes i₀ i = ZerosTo held bytes i
