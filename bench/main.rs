@@ -1,6 +1,6 @@
 //! The benchmark of the run program: `bench RUN MODEL FLOOR DIR`. Makes the
-//! five step files in DIR, checks that RUN and MODEL print the same lines,
-//! runs RUN, MODEL and FLOOR in turn on each, and prints the table.
+//! step files in DIR, checks that RUN and MODEL print the same lines, runs RUN,
+//! MODEL and FLOOR in turn on each, and prints the table.
 
 #![forbid(unsafe_code)]
 
@@ -31,12 +31,13 @@ const fn case(profile: &'static str, seed: &'static str, most: f64) -> Case {
     }
 }
 
-const CASES: [Case; 5] = [
+const CASES: [Case; 6] = [
     case("mixed", "1", 6.0),
     case("locks", "1", 4.0),
     case("rounds", "1", 4.0),
     case("chains", "4", 4.0),
     case("soak", "1", 6.0),
+    case("quiet", "1", 6.0),
 ];
 
 /// A program with its arguments; it reads standard input and prints lines.
@@ -82,17 +83,20 @@ fn main() -> ExitCode {
 impl Bench {
     /// Everything; whether every target is met.
     fn whole(&self, generator: &str) -> Result<bool, String> {
+        let mut contents = Vec::new();
         for case in &CASES {
             self.make_file(generator, case)?;
-            println!("{}", self.check(case)?);
+            let content = self.check(case)?;
+            println!("{}", content.text(case));
+            contents.push(content);
         }
         println!("run prints the model's lines on every file\n");
         println!("best of {ROUNDS}, in ms; load of the machine {}\n", load());
         println!("{}", head());
         let mut met = true;
-        for case in &CASES {
+        for (case, content) in CASES.iter().zip(&contents) {
             let times = self.best_times(case)?;
-            println!("{}", row(case, &times));
+            println!("{}", row(case, content, &times));
             met &= case.floor_met(&times) && model_met(&times);
         }
         println!("\nall targets {}", if met { "met" } else { "NOT met" });
@@ -111,8 +115,8 @@ impl Bench {
         Program(words).go(Stdio::null(), out.into()).map(|_| ())
     }
 
-    /// Compares the lines of run and model; says what the file holds.
-    fn check(&self, case: &Case) -> Result<String, String> {
+    /// Compares the lines of run and model; gives what the file holds.
+    fn check(&self, case: &Case) -> Result<Content, String> {
         let lines = |program: &Program, ending: &str| {
             let (steps, out) = (self.place(case, "steps"), self.place(case, ending));
             program.go(open(&steps)?.into(), create(&out)?.into())?;
@@ -122,7 +126,7 @@ impl Bench {
         let model = lines(&self.model, "model")?;
         match first_difference(&run, &model) {
             Some(wrong) => Err(format!("{}: {wrong}", case.profile)),
-            None => Ok(content(case, &model)),
+            None => Ok(Content::of(&model)),
         }
     }
 
@@ -197,23 +201,50 @@ fn newline(byte: &u8) -> bool {
     *byte == b'\n'
 }
 
-/// "mixed 1: 643348 accepted, 356652 refused, 900000 records applied"
-fn content(case: &Case, lines: &[u8]) -> String {
-    let (mut accepted, mut refused, mut applied) = (0, 0, 0);
-    for line in lines.split(newline).skip(1) {
-        let text = String::from_utf8_lossy(line);
-        let numbers: Vec<u64> = text.split(' ').flat_map(str::parse).collect();
-        match numbers[..] {
-            [_, 0, _, count] => {
-                accepted += 1;
-                applied += count;
+/// How many steps of a file are accepted and refused, and how many records
+/// they apply.
+#[derive(Default)]
+struct Content {
+    accepted: u64,
+    refused: u64,
+    applied: u64,
+}
+
+impl Content {
+    fn of(lines: &[u8]) -> Content {
+        let mut content = Content::default();
+        for line in lines.split(newline).skip(1) {
+            let text = String::from_utf8_lossy(line);
+            let numbers: Vec<u64> = text.split(' ').flat_map(str::parse).collect();
+            match numbers[..] {
+                [_, 0, _, count] => {
+                    content.accepted += 1;
+                    content.applied += count;
+                }
+                [_, _, _, _] => content.refused += 1,
+                _ => {}
             }
-            [_, _, _, _] => refused += 1,
-            _ => {}
         }
+        content
     }
-    let Case { profile, seed, .. } = case;
-    format!("{profile} {seed}: {accepted} accepted, {refused} refused, {applied} records applied")
+
+    /// "mixed 1: 774006 accepted, 225994 refused, 1033596 records applied"
+    fn text(&self, case: &Case) -> String {
+        let Case { profile, seed, .. } = case;
+        let Content {
+            accepted,
+            refused,
+            applied,
+        } = self;
+        format!(
+            "{profile} {seed}: {accepted} accepted, {refused} refused, {applied} records applied"
+        )
+    }
+
+    /// Accepted steps of 100.
+    fn share(&self) -> f64 {
+        100.0 * self.accepted as f64 / (self.accepted + self.refused) as f64
+    }
 }
 
 // The table.
@@ -227,12 +258,21 @@ fn load() -> String {
 
 fn head() -> String {
     format!(
-        "{:<7} {:>9} {:>9} {:>9} {:>10} {:>6} {:>10} {:>6}  {}",
-        "file", "run", "model", "floor", "run/floor", "most", "model/run", "least", "target"
+        "{:<7} {:>9} {:>9} {:>9} {:>9} {:>10} {:>6} {:>10} {:>6}  {}",
+        "file",
+        "accepted",
+        "run",
+        "model",
+        "floor",
+        "run/floor",
+        "most",
+        "model/run",
+        "least",
+        "target"
     )
 }
 
-fn row(case: &Case, times: &Times) -> String {
+fn row(case: &Case, content: &Content, times: &Times) -> String {
     let met = match (case.floor_met(times), model_met(times)) {
         (true, true) => "met",
         (false, true) => "NOT met: floor",
@@ -240,8 +280,9 @@ fn row(case: &Case, times: &Times) -> String {
         (false, false) => "NOT met: floor, model",
     };
     format!(
-        "{:<7} {:>9.1} {:>9.1} {:>9.1} {:>10.2} {:>6.1} {:>10.2} {:>6.1}  {met}",
+        "{:<7} {:>7.1} % {:>9.1} {:>9.1} {:>9.1} {:>10.2} {:>6.1} {:>10.2} {:>6.1}  {met}",
         case.profile,
+        content.share(),
         millis(times.run),
         millis(times.model),
         millis(times.floor),

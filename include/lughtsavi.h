@@ -28,7 +28,7 @@ extern "C" {
 #define LUGHTSAVI_CLOCKS 4744   /* uint8_t: vector clocks */
 #define LUGHTSAVI_WORDS 4096    /* uint32_t: each processor's copies of the pages, then the twins */
 #define LUGHTSAVI_RECORDS 17280 /* uint8_t: the change records */
-#define LUGHTSAVI_MARKS 93      /* uint8_t: counts, holders, arrived and dirty marks */
+#define LUGHTSAVI_MARKS 110     /* uint8_t: counts, holders, arrived and dirty marks, the lines of waiters */
 #define LUGHTSAVI_OPENING 8     /* uint8_t: 0, processors, pages, locks, 0, 0, 0, 0 */
 #define LUGHTSAVI_ANSWER 3      /* uint32_t: refusal, value, count */
 #define LUGHTSAVI_PAGE 32       /* uint32_t: the words of a page */
@@ -37,7 +37,11 @@ extern "C" {
 /* What lughtsavi_diff_write adds to a refusal. */
 #define LUGHTSAVI_REFUSED 256
 
-/* The kinds of step. The object is a word (read, write) or a lock (acquire, release), else 0; only a write has a value, else 0. */
+/*
+ * The kinds of step. The object is a word (read, write) or a lock (acquire, release), else 0; only a write has a value, else 0.
+ * An acquire of a lock that another processor holds is accepted: the processor waits, and has no other step accepted until a release gives it
+ * the lock.
+ */
 enum lughtsavi_kind {
     LUGHTSAVI_READ = 1,
     LUGHTSAVI_WRITE = 2,
@@ -47,7 +51,7 @@ enum lughtsavi_kind {
     LUGHTSAVI_WANT_COLLECTION = 6
 };
 
-/* The refusals, by document 01's numbers. Where several apply, the first that a call meets is given. */
+/* The refusals, by the numbers of documents 01 and 02. Where several apply, the first that a call meets is given; 17 stands behind 6. */
 enum lughtsavi_refusal {
     LUGHTSAVI_ACCEPTED = 0,
     LUGHTSAVI_OUT_OF_ORDER = 1,     /* the areas are not in order; for an opening: an area of a wrong size;
@@ -58,14 +62,15 @@ enum lughtsavi_refusal {
     LUGHTSAVI_NO_PROCESSOR = 4,     /* processor absent */
     LUGHTSAVI_NO_OBJECT = 5,        /* word or lock absent, or an unused field not 0 */
     LUGHTSAVI_HAS_ARRIVED = 6,      /* the processor has arrived, and the round is not complete */
-    LUGHTSAVI_LOCK_HELD = 7,        /* acquire: the lock is held, by this processor too */
+    LUGHTSAVI_LOCK_HELD = 7,        /* acquire: this processor is the holder */
     LUGHTSAVI_NOT_HOLDER = 8,       /* release: this processor is not the holder */
     LUGHTSAVI_NO_INTERVAL_LEFT = 9, /* write to a clean page: the processor's own entry is 63 */
     LUGHTSAVI_NO_RECORD_LEFT = 10,  /* write to a clean page: records plus dirty pages are 128 */
     LUGHTSAVI_DIFF_LENGTH = 11,     /* no bytes, more than 16 pairs, bytes end within the pairs, or the total length is not exact */
     LUGHTSAVI_DIFF_PAIR = 12,       /* a pair breaks its rule */
     LUGHTSAVI_DIFF_ROOM = 13,       /* the destination is shorter than the diff */
-    LUGHTSAVI_PAGE_LENGTH = 14      /* a page lent is not 32 words */
+    LUGHTSAVI_PAGE_LENGTH = 14,     /* a page lent is not 32 words */
+    LUGHTSAVI_WAITS = 17            /* the processor waits for a lock */
 };
 
 /*
@@ -95,7 +100,7 @@ bool lughtsavi_in_order(
  * One step of a processor. Processors are numbered from 1; words and locks from 0.
  * Answers 0 where the step was done: `answer` is 0, value, count, and the areas hold the state after the step. Only a read has a value
  * other than 0; the count is the change records that the step applied to copies.
- * Refuses by 1, then 3 to 10: it returns the refusal, `answer` is refusal, 0, 0, and the areas are left untouched.
+ * Refuses by 1, then 3 to 6, 17, 7 to 10: it returns the refusal, `answer` is refusal, 0, 0, and the areas are left untouched.
  * Where `answer` has not three words it returns 1, and `answer` too is left untouched.
  */
 uint8_t lughtsavi_step(

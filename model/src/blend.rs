@@ -1,20 +1,31 @@
-//! The profile blend: stretches of the other race-free profiles on one
-//! mainframe, with steps that must be refused in between. Long files are made
-//! of it, since every read in them has one value that is due.
+//! The profiles blend and quiet: stretches of the other race-free profiles on
+//! one mainframe, with steps that must be refused in between. Long files are
+//! made of them, since every read in them has one value that is due.
 
+use crate::batons::{baton_turn, deal_batons, rest_batons, use_baton};
 use crate::generate::{
-    baton_turn, deal_batons, deal_words, dealt_turn, guarded_turn, hot_word, nonsense,
-    read_or_write,
+    deal_words, dealt_turn, guarded_turn, hot_word, no_room, nonsense, out_of_turn, read_or_write,
 };
 use crate::rng::Rng;
 use crate::script::Script;
 
-/// Each stretch ends with a round of all cards. What was done before the
-/// round is ordered before all that comes after it, so there is no race as
+/// blend: each stretch ends with a round of all cards. What was done before
+/// the round is ordered before all that comes after it, so there is no race as
 /// long as there is none within a stretch.
-pub fn blend(mut rng: Rng, steps: usize) -> Vec<u8> {
+pub fn blend(rng: Rng, steps: usize) -> Vec<u8> {
+    blended(rng, steps, true)
+}
+
+/// quiet: a blend in which nobody asks for a lock that another card holds. So
+/// no card waits, and no line printed depends on waiting.
+pub fn quiet(rng: Rng, steps: usize) -> Vec<u8> {
+    blended(rng, steps, false)
+}
+
+fn blended(mut rng: Rng, steps: usize, waiting: bool) -> Vec<u8> {
     let counts = [rng.within(3, 8), rng.within(2, 8), rng.within(2, 16)];
     let mut s = Script::new(rng, counts, steps);
+    s.waiting = waiting;
     while !s.full() {
         match s.rng.below(4) {
             0 => stretch(&mut s, &mut guarded_turn),
@@ -26,19 +37,31 @@ pub fn blend(mut rng: Rng, steps: usize) -> Vec<u8> {
     s.finish()
 }
 
-/// Turns of one kind, a round, often with a collection, and all locks freed.
+/// Turns of one kind, also during the round at the end.
 fn stretch(s: &mut Script, turn: &mut dyn FnMut(&mut Script)) {
+    turns(s, turn);
+    end_stretch(s, turn);
+}
+
+fn turns(s: &mut Script, turn: &mut dyn FnMut(&mut Script)) {
     for _ in 0..s.rng.within(20, 200) {
         turn(s);
         if s.rng.percent(3) {
             let card = s.any_card();
             nonsense(s, card);
         }
+        if s.rng.percent(2) {
+            out_of_turn(s);
+        }
     }
+}
+
+/// A round, often with a collection, and all locks freed.
+fn end_stretch(s: &mut Script, between: &mut dyn FnMut(&mut Script)) {
     if s.rng.percent(40) || s.standing() > 90 {
         s.want();
     }
-    s.round(turn);
+    s.round(between);
     free_locks(s);
 }
 
@@ -56,9 +79,12 @@ fn dealt_stretch(s: &mut Script) {
     stretch(s, &mut |s| dealt_turn(s, &deal));
 }
 
+/// The batons rest before the round, so that no plan meets an arrived card.
 fn baton_stretch(s: &mut Script) {
     let mut batons = deal_batons(s);
-    stretch(s, &mut |s| baton_turn(s, &mut batons));
+    turns(s, &mut |s| baton_turn(s, &mut batons));
+    rest_batons(s, &mut batons);
+    end_stretch(s, &mut |s| use_baton(s, &batons));
 }
 
 /// Cards write words of their own and close until one meets 9 or 10; then
@@ -69,9 +95,10 @@ fn full_stretch(s: &mut Script) {
     let mut full = false;
     while !full && !s.full() {
         let card = s.rng.within(1, cards.into()) as u8;
+        s.serve(card);
         for page in 0..pages {
             let word = own_word(s, card, page);
-            full |= s.write(card, word).refusal >= 9;
+            full |= no_room(s.write(card, word));
         }
         s.close_by_lock(card);
     }

@@ -1,9 +1,10 @@
-//! The files of tests/files. Each expected line is written here by hand from
-//! document 01; `model make-files` refuses to write a file whose lines the
-//! model does not print.
+//! The files of tests/files; those of cards that wait are in `wait_cases.rs`.
+//! Each expected line is written by hand from documents 01 and 02; `model
+//! make-files` refuses to write a file whose lines the model does not print.
 
 use crate::case::{acquire, any, arrive, read, release, want, write, Case};
 use crate::model::Step;
+use crate::wait_cases::wait_cases;
 
 pub fn all_cases() -> Vec<Case> {
     let mut cases = bench_cases();
@@ -12,6 +13,7 @@ pub fn all_cases() -> Vec<Case> {
     cases.extend(cut_cases());
     cases.extend(fault_cases());
     cases.extend(further_cases());
+    cases.extend(wait_cases());
     cases
 }
 
@@ -40,11 +42,11 @@ fn bench_cases() -> Vec<Case> {
 }
 
 fn listing_a() -> Case {
-    let shows = "Document 01's Listing A and its thirteen lines.";
+    let shows = "Document 01's Listing A and its thirteen lines: card 2 waits (line 4) and is the holder by line 6.";
     let mut c = Case::open("listing-a", [2, 1, 1], shows);
     c.ok(&[acquire(1, 0), write(1, 3, 700), read(2, 3)]);
+    c.ok(&[acquire(2, 0), release(1, 0)]);
     c.refused(acquire(2, 0), 7);
-    c.ok(&[release(1, 0), acquire(2, 0)]);
     c.gives(read(2, 3), 700, 1);
     c.gives(read(2, 3), 700, 0);
     c.ok(&[arrive(1)]);
@@ -116,7 +118,7 @@ fn case_m() -> Case {
 
 /// Card 1 makes `count` intervals of one record each on page 0, from an even
 /// count, with lock 0 free before and after.
-fn make_intervals(c: &mut Case, count: u32) {
+pub fn make_intervals(c: &mut Case, count: u32) {
     for n in (1..=count).step_by(2) {
         c.ok(&[write(1, 0, n), acquire(1, 0)]);
         c.ok(&[write(1, 0, n + 1), release(1, 0)]);
@@ -306,12 +308,15 @@ fn refusal_6() -> Case {
 }
 
 fn refusal_7() -> Case {
-    let shows = "Refusal 7: the lock is held, by another card and by this card too.";
+    let shows = "Refusal 7: the holder asks for its lock again, one that it took and one that it waited for.";
     let mut c = Case::open("refusal-7", [2, 1, 2], shows);
     c.ok(&[acquire(1, 0)]);
-    c.refused(acquire(2, 0), 7);
     c.refused(acquire(1, 0), 7);
-    c.ok(&[acquire(2, 1), release(1, 0), acquire(2, 0)]);
+    c.ok(&[acquire(2, 0)]);
+    c.refused(acquire(1, 0), 7);
+    c.ok(&[release(1, 0)]);
+    c.refused(acquire(2, 0), 7);
+    c.ok(&[acquire(2, 1), release(2, 0), acquire(1, 0)]);
     c
 }
 
@@ -385,7 +390,7 @@ fn refusal_order() -> Case {
 }
 
 /// As `fill_pages`, by any card, at word 3 of each page.
-fn write_as(c: &mut Case, card: u8, pages: u16, value: u32, close: Step) {
+pub fn write_as(c: &mut Case, card: u8, pages: u16, value: u32, close: Step) {
     for page in 0..pages {
         c.ok(&[write(card, 32 * page + 3, value)]);
     }
@@ -615,8 +620,8 @@ fn collect_with_lock_held() -> Case {
     let mut c = Case::open("collect-lock-held", [2, 1, 1], shows);
     c.ok(&[acquire(1, 0), write(1, 0, 4), want(1), arrive(1)]);
     c.gives(arrive(2), 0, 1);
-    c.refused(acquire(2, 0), 7);
-    c.ok(&[write(1, 0, 5), release(1, 0), acquire(2, 0)]);
+    c.refused(acquire(1, 0), 7);
+    c.ok(&[acquire(2, 0), write(1, 0, 5), release(1, 0)]);
     c.gives(read(2, 0), 5, 1);
     c
 }

@@ -2,7 +2,7 @@
 //! files, and what the files cover.
 
 use crate::agree::first_difference;
-use crate::blend::blend;
+use crate::blend::{blend, quiet};
 use crate::compare::Comparison;
 use crate::coverage::Seen;
 use crate::judge::judge;
@@ -187,17 +187,20 @@ fn the_generated_files_cover_the_rules() {
         seen.add_file(&file, &lines);
         seen.add_faults(&file, &lines);
     }
-    for refusal in (2..=10).chain([15]) {
+    for refusal in (2..=10).chain([15, 17]) {
         assert!(seen.refusals[refusal] > 0, "refusal {refusal}");
     }
     assert!(seen.faults.iter().all(|files| *files > 0));
     assert!(seen.read_counts > 0 && seen.read_values > 0 && seen.collections > 0);
+    assert!(seen.waits > seen.grants && seen.grants > 0);
+    assert!(seen.lines_of_two > 0 && seen.lines_of_three > 0);
 }
 
 #[test]
 fn a_blend_has_no_races() {
     for seed in 0..20 {
-        let file = blend(Rng::new(seed), 2000);
+        let make: fn(Rng, usize) -> Vec<u8> = if seed % 2 == 0 { blend } else { quiet };
+        let file = make(Rng::new(seed), 2000);
         let verdict = judge(&file, &stepfile::run(&file, None)).expect("fits");
         assert_eq!(verdict.strong, verdict.reads);
         assert!(verdict.broken.is_empty() && verdict.strong_written > 100);

@@ -3,10 +3,11 @@
 
 use crate::fault::FAULTS;
 use crate::generate::PROFILES;
-use crate::model::{ARRIVE, READ, WRITE};
+use crate::model::{Step, ACQUIRE, ARRIVE, READ, RELEASE, WRITE};
 use crate::options::Options;
 use crate::plan::{plan, Source};
-use crate::stepfile::{record_at, run, Line};
+use crate::stepfile::{record_at, run, Line, REFUSALS};
+use std::collections::BTreeMap;
 use std::thread;
 
 /// What was seen in some files.
@@ -20,8 +21,8 @@ pub struct Seen {
     /// Files with both 9 and 10.
     full_twice: usize,
     lines: usize,
-    /// How often each refusal 0 to 16 was printed.
-    pub refusals: [usize; 17],
+    /// How often each refusal was printed.
+    pub refusals: [usize; REFUSALS],
     reads: usize,
     pub read_counts: usize,
     read_counts_of_three: usize,
@@ -29,6 +30,13 @@ pub struct Seen {
     read_large_values: usize,
     write_counts: usize,
     pub collections: usize,
+    /// Acquires of a lock that another card holds, and those of them that
+    /// make a line of two, and of three or more.
+    pub waits: usize,
+    pub lines_of_two: usize,
+    pub lines_of_three: usize,
+    /// Releases that hand the lock to a waiter.
+    pub grants: usize,
     /// Files with other lines under each fault.
     pub faults: [usize; FAULTS.len()],
 }
@@ -38,8 +46,9 @@ impl Seen {
         self.files += 1;
         self.add_opening(file, lines);
         let before = self.refusals;
+        let mut in_turn = BTreeMap::new();
         for line in lines {
-            self.add_line(file, line);
+            self.add_line(file, line, &mut in_turn);
         }
         let rose = |refusal: usize| self.refusals[refusal] > before[refusal];
         self.full_twice += usize::from(rose(9) && rose(10));
@@ -56,27 +65,44 @@ impl Seen {
         self.sixteen_locks += usize::from(locks == 16);
     }
 
-    fn add_line(&mut self, file: &[u8], line: &Line) {
+    /// `in_turn` counts for each lock its holder and those that wait for it.
+    fn add_line(&mut self, file: &[u8], line: &Line, in_turn: &mut BTreeMap<u16, usize>) {
         let answer = line.answer;
         self.lines += 1;
         self.refusals[answer.refusal as usize] += 1;
-        let kind = record_at(file, line.number).map(|record| record[0]);
         if line.number == 0 || answer.refusal != 0 {
             return;
         }
+        let Some(step) = record_at(file, line.number).map(Step::from_bytes) else {
+            return;
+        };
         let counted = usize::from(answer.count > 0);
-        match kind {
-            Some(READ) => {
+        match step.kind {
+            READ => {
                 self.reads += 1;
                 self.read_counts += counted;
                 self.read_counts_of_three += usize::from(answer.count >= 3);
                 self.read_values += usize::from(answer.value != 0);
                 self.read_large_values += usize::from(answer.value > 0xffff);
             }
-            Some(WRITE) => self.write_counts += counted,
-            Some(ARRIVE) => self.collections += counted,
+            WRITE => self.write_counts += counted,
+            ACQUIRE => self.add_acquire(in_turn.entry(step.object).or_default()),
+            RELEASE => self.add_release(in_turn.entry(step.object).or_default()),
+            ARRIVE => self.collections += counted,
             _ => {}
         }
+    }
+
+    fn add_acquire(&mut self, in_turn: &mut usize) {
+        self.waits += usize::from(*in_turn >= 1);
+        self.lines_of_two += usize::from(*in_turn == 2);
+        self.lines_of_three += usize::from(*in_turn >= 3);
+        *in_turn += 1;
+    }
+
+    fn add_release(&mut self, in_turn: &mut usize) {
+        self.grants += usize::from(*in_turn >= 2);
+        *in_turn -= 1;
     }
 
     pub fn add_faults(&mut self, file: &[u8], right: &[Line]) {
@@ -147,7 +173,7 @@ fn rows() -> Vec<Row> {
         row("lines", |s| s.lines),
         row("  refusal 0", |s| s.refusals[0]),
     ];
-    for refusal in (2..=10).chain([15, 16]) {
+    for refusal in (2..=10).chain([15, 16, 17]) {
         let name = format!("  refusal {refusal}");
         rows.push(row(&name, move |s| s.refusals[refusal]));
     }
@@ -159,6 +185,10 @@ fn rows() -> Vec<Row> {
         row("  value above 65535", |s| s.read_large_values),
         row("writes, count above 0", |s| s.write_counts),
         row("collections, count above 0", |s| s.collections),
+        row("acquires that wait", |s| s.waits),
+        row("  in a line of 2 then", |s| s.lines_of_two),
+        row("  in a line of 3 or more", |s| s.lines_of_three),
+        row("releases to a waiter", |s| s.grants),
     ]);
     for (at, (fault, _)) in FAULTS.iter().enumerate() {
         let name = format!("files where {fault} shows");

@@ -43,8 +43,8 @@ fn readme(cases: &[Case]) -> String {
 const README_HEAD: &str = "# Step files and their lines
 
 NAME.steps is a step file, NAME.lines what the run program prints for it.
-Written by `model make-files`; each line was set down by hand from document 01
-(model/src/cases.rs) and agrees with the second model.
+Written by `model make-files`; each line was set down by hand from documents 01
+and 02 (model/src/cases.rs, wait_cases.rs) and agrees with the second model.
 
 ";
 
@@ -123,7 +123,7 @@ pub fn effect(file: &[u8], right: &[Line], fault: Fault) -> &'static str {
 /// The table of files and faults, then the first lines that differ.
 pub fn fault_table(dir: &Path) -> Result<String, String> {
     let files = stored(dir)?;
-    let mut table = format!("{:<24}", "file");
+    let mut table = format!("{:<28}", "file");
     for (name, _) in FAULTS {
         table.push_str(&format!(" {name:>11}"));
     }
@@ -131,7 +131,7 @@ pub fn fault_table(dir: &Path) -> Result<String, String> {
     for (name, file, right) in &files {
         let row: Vec<_> = FAULTS.map(|(_, f)| effect(file, right, f)).to_vec();
         if row.iter().any(|cell| *cell != ".") {
-            table.push_str(&format!("{name:<24}"));
+            table.push_str(&format!("{name:<28}"));
             row.iter()
                 .for_each(|cell| table.push_str(&format!(" {cell:>11}")));
             table.push('\n');
@@ -154,7 +154,7 @@ fn fault_details(files: &[Stored]) -> String {
     for (fault_name, fault) in FAULTS {
         for (name, file, right) in files {
             if let Some(wrong) = first_difference(right, &run(file, Some(fault))) {
-                text.push_str(&format!("{fault_name:<11} {name:<18} {wrong}\n"));
+                text.push_str(&format!("{fault_name:<11} {name:<28} {wrong}\n"));
             }
         }
     }

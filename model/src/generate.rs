@@ -1,14 +1,15 @@
-//! `model gen PROFILE SEED STEPS`: seeded step files.
+//! `model gen PROFILE SEED STEPS`: seeded step files. In the long run at least
+//! half of a file's steps are accepted.
 
-use crate::blend::blend;
-use crate::model::{ACQUIRE, ARRIVE, READ, RELEASE, WANT, WRITE};
+use crate::batons::chains;
+use crate::blend::{blend, quiet};
+use crate::model::{Answer, ACQUIRE, ARRIVE, READ, RELEASE, WANT, WRITE};
 use crate::rng::Rng;
 use crate::script::Script;
-use std::collections::VecDeque;
 
 /// The profiles; each is described at its function.
-pub const PROFILES: [&str; 8] = [
-    "mixed", "locks", "rounds", "soak", "racy", "damaged", "chains", "blend",
+pub const PROFILES: [&str; 9] = [
+    "mixed", "locks", "rounds", "soak", "racy", "damaged", "chains", "blend", "quiet",
 ];
 
 /// A file of an opening and `steps` step records (damaged ones may differ).
@@ -23,11 +24,12 @@ pub fn generate(profile: &str, seed: u64, steps: usize) -> Option<Vec<u8>> {
         "damaged" => Some(damaged(rng, seed, steps)),
         "chains" => Some(chains(rng, steps)),
         "blend" => Some(blend(rng, steps)),
+        "quiet" => Some(quiet(rng, steps)),
         _ => None,
     }
 }
 
-/// mixed: all kinds of step, and some with bad fields.
+/// mixed: all kinds of step, and some with bad fields or out of turn.
 fn mixed(mut rng: Rng, steps: usize) -> Vec<u8> {
     let counts = [rng.within(1, 8), rng.within(1, 8), rng.within(1, 16)];
     let mut s = Script::new(rng, counts, steps);
@@ -48,13 +50,11 @@ fn mixed_turn(s: &mut Script) {
             let word = hot_word(s);
             s.write(card, word);
         }
-        120..=149 => {
-            let lock = s.any_lock();
-            s.acquire(card, lock);
-        }
-        150..=181 => {
+        120..=149 => s.ask(card),
+        150..=177 => {
             s.release_some(card);
         }
+        178..=181 => out_of_turn(s),
         182..=188 => some_arrive(s, card),
         189 => {
             s.want();
@@ -73,13 +73,29 @@ pub fn hot_word(s: &mut Script) -> u16 {
     }
 }
 
-/// The card arrives and so do most of the others.
+/// The card arrives and so do most of the others that may.
 fn some_arrive(s: &mut Script, card: u8) {
     s.arrive(card);
     for other in 1..=s.cards {
-        if s.rng.percent(70) {
+        if s.acts(other) && s.rng.percent(70) {
             s.arrive(other);
         }
+    }
+}
+
+/// A step with fields that fit and that the state refuses: a card that has
+/// arrived or waits does something, a holder asks for its lock again, or a
+/// card frees what it does not hold.
+pub fn out_of_turn(s: &mut Script) {
+    let card = s.rng.within(1, s.cards.into()) as u8;
+    let lock = s.any_lock();
+    let kind = s.rng.within(1, 6) as u8;
+    if s.acts(card) && s.holder(lock) == Some(card) {
+        s.acquire(card, lock);
+    } else if s.acts(card) {
+        s.release(card, lock);
+    } else {
+        s.put(kind, card, if kind <= RELEASE { lock } else { 0 }, 0);
     }
 }
 
@@ -88,7 +104,7 @@ pub fn nonsense(s: &mut Script, card: u8) {
     let high_word = s.pages * 32 + s.rng.below(40) as u16;
     let high_lock = s.locks + s.rng.below(4) as u16;
     let number = s.rng.next();
-    let (object, value) = (number as u16, (number >> 16) as u32);
+    let (object, value) = (number as u16 | 1, (number >> 16) as u32 | 1);
     let no_kind = s.rng.pick(&[0, 7, 8, 128, 255]);
     let no_card = s.rng.pick(&[0, s.cards + 1, 9, 128, 255]);
     let any_kind = s.rng.within(1, 6) as u8;
@@ -127,9 +143,10 @@ fn locks(mut rng: Rng, steps: usize) -> Vec<u8> {
 pub fn guarded_turn(s: &mut Script) {
     let card = s.any_card();
     let held = s.held_by(card);
-    if held.is_empty() || s.rng.percent(4) {
-        let lock = s.any_lock();
-        s.acquire(card, lock);
+    if s.rng.percent(2) {
+        out_of_turn(s);
+    } else if held.is_empty() || s.rng.percent(4) {
+        s.ask(card);
     } else if s.rng.percent(30) {
         s.release_some(card);
     } else {
@@ -217,15 +234,21 @@ fn soak(mut rng: Rng, steps: usize) -> Vec<u8> {
     s.finish()
 }
 
+/// Whether a write met the end of the space: 9 or 10.
+pub fn no_room(answer: Answer) -> bool {
+    matches!(answer.refusal, 9 | 10)
+}
+
 /// One card writes and closes until it meets 9 or 10.
 fn one_card_until_full(s: &mut Script) {
     let card = s.any_card();
     let pages = s.rng.within(1, s.pages.min(3).into());
     let mut full = false;
     while !full && !s.full() {
+        s.serve(card);
         for page in 0..pages {
             let word = (page * 32 + s.rng.below(32)) as u16;
-            full |= s.write(card, word).refusal >= 9;
+            full |= no_room(s.write(card, word));
         }
         s.close_by_lock(card);
     }
@@ -238,7 +261,7 @@ fn all_cards_until_full(s: &mut Script) {
         let card = s.any_card();
         for page in 0..s.pages {
             let word = page * 32 + s.rng.below(32) as u16;
-            full |= s.write(card, word).refusal >= 9;
+            full |= no_room(s.write(card, word));
         }
         s.close_by_lock(card);
     }
@@ -271,125 +294,29 @@ fn racy_turn(s: &mut Script, words: &[u16]) {
     match s.rng.below(100) {
         0..=29 => s.read(card, word),
         30..=64 => s.write(card, word),
-        65..=79 => {
-            let lock = s.any_lock();
-            s.acquire(card, lock)
-        }
-        80..=96 => s.release_some(card),
+        65..=79 => return s.ask(card),
+        80..=94 => s.release_some(card),
+        95..=96 => return out_of_turn(s),
         97..=98 => s.arrive(card),
         _ => s.want(),
     };
 }
 
-/// Some words that travel together from card to card.
-pub struct Baton {
-    words: Vec<u16>,
-    owner: u8,
-    /// Steps planned: kind, card, object.
-    plan: VecDeque<(u8, u8, u16)>,
-}
-
-/// chains: news through chains of locks and cards to a third card and
-/// further, with false sharing, without races.
-fn chains(mut rng: Rng, steps: usize) -> Vec<u8> {
-    let counts = [rng.within(3, 8), rng.within(1, 3), rng.within(1, 16)];
-    let mut s = Script::new(rng, counts, steps);
-    let mut batons = deal_batons(&mut s);
-    while !s.full() {
-        while s.standing() < 120 && s.rng.below(400) > 0 && !s.full() {
-            baton_turn(&mut s, &mut batons);
-        }
-        if s.standing() > 100 || s.rng.percent(30) {
-            s.want();
-        }
-        s.round(&mut |s| baton_turn(s, &mut batons));
-    }
-    s.finish()
-}
-
-/// Deals the words so that neighbours belong to different batons: false
-/// sharing on each page.
-pub fn deal_batons(s: &mut Script) -> Vec<Baton> {
-    let count = s.rng.within(2, 6) as u16;
-    let mut batons = Vec::new();
-    for first in 0..count {
-        let all = (0..s.pages * 32).filter(|word| word % count == first);
-        let mut words: Vec<u16> = all.collect();
-        s.rng.shuffle(&mut words);
-        words.truncate(4);
-        batons.push(Baton {
-            words,
-            owner: s.rng.within(1, s.cards.into()) as u8,
-            plan: VecDeque::new(),
-        });
-    }
-    batons
-}
-
-/// One planned step of one baton; a refused acquire or release stays
-/// planned, so the baton waits.
-pub fn baton_turn(s: &mut Script, batons: &mut [Baton]) {
-    let nth = s.rng.below(batons.len());
-    let baton = &mut batons[nth];
-    if baton.plan.is_empty() {
-        plan_chain(s, baton);
-    }
-    let Some((kind, card, object)) = baton.plan.front().copied() else {
-        return;
-    };
-    let refusal = match kind {
-        WRITE => s.write(card, object).refusal,
-        _ => s.put(kind, card, object, 0).refusal,
-    };
-    if refusal == 0 || refusal >= 9 {
-        baton.plan.pop_front();
-    }
-}
-
-/// The owner uses the words; then the baton goes over one to four locks to
-/// another card. The cards on the way do not look at the words.
-fn plan_chain(s: &mut Script, baton: &mut Baton) {
-    plan_uses(s, baton);
-    for _ in 0..s.rng.within(1, 4) {
-        let next = s.rng.within(1, s.cards.into()) as u8;
-        plan_hop(s, baton, next);
-    }
-    plan_uses(s, baton);
-}
-
-fn plan_uses(s: &mut Script, baton: &mut Baton) {
-    for _ in 0..s.rng.within(0, 3) {
-        let kind = if s.rng.percent(60) { WRITE } else { READ };
-        let word = s.rng.pick(&baton.words);
-        baton.plan.push_back((kind, baton.owner, word));
-    }
-}
-
-fn plan_hop(s: &mut Script, baton: &mut Baton, next: u8) {
-    let lock = s.any_lock();
-    baton.plan.push_back((ACQUIRE, baton.owner, lock));
-    if s.rng.percent(20) {
-        plan_uses(s, baton);
-    }
-    baton.plan.push_back((RELEASE, baton.owner, lock));
-    baton.plan.push_back((ACQUIRE, next, lock));
-    baton.plan.push_back((RELEASE, next, lock));
-    baton.owner = next;
-}
-
-/// damaged: a file of another profile with one kind of damage.
+/// damaged: a file of another profile with one kind of damage. What is not a
+/// cut or a bad opening lies in the last fifth: a damaged plan soon hangs.
 fn damaged(mut rng: Rng, seed: u64, steps: usize) -> Vec<u8> {
     let sound = rng.pick(&["mixed", "locks", "rounds", "soak", "racy", "chains"]);
     let mut file = generate(sound, seed, steps).unwrap_or_default();
+    let last_fifth = 8 * (1 + steps * 4 / 5);
     match rng.below(8) {
         0 => file.truncate(rng.below(8)),
         1 => cut_within_record(&mut rng, &mut file),
         2 => spoil_opening(&mut rng, &mut file),
-        3 => spoil_bytes(&mut rng, &mut file),
-        4 => drop_byte(&mut rng, &mut file),
-        5 => mix_in_noise(&mut rng, &mut file),
-        6 => spoil_fields(&mut rng, &mut file),
-        _ => only_noise(&mut rng, &mut file),
+        3 => spoil_bytes(&mut rng, &mut file[last_fifth..]),
+        4 => drop_byte(&mut rng, &mut file, last_fifth),
+        5 => mix_in_noise(&mut rng, &mut file[last_fifth..]),
+        6 => spoil_fields(&mut rng, &mut file[last_fifth..]),
+        _ => only_noise(&mut rng, &mut file[last_fifth..]),
     }
     file
 }
@@ -418,21 +345,23 @@ fn spoil_opening(rng: &mut Rng, file: &mut [u8]) {
     file[at] = byte;
 }
 
-fn spoil_bytes(rng: &mut Rng, file: &mut [u8]) {
-    for _ in 0..file.len() / 100 + 1 {
-        let at = rng.below(file.len());
-        file[at.max(8) % file.len()] = rng.next() as u8;
+fn spoil_bytes(rng: &mut Rng, records: &mut [u8]) {
+    for byte in records {
+        if rng.percent(1) {
+            *byte = rng.next() as u8;
+        }
     }
 }
 
 /// From here on all records are shifted, and the last is not whole.
-fn drop_byte(rng: &mut Rng, file: &mut Vec<u8>) {
-    let at = rng.below(file.len());
-    file.remove(at.max(8) % file.len());
+fn drop_byte(rng: &mut Rng, file: &mut Vec<u8>, from: usize) {
+    if from < file.len() {
+        file.remove(rng.within(from, file.len() - 1));
+    }
 }
 
-fn mix_in_noise(rng: &mut Rng, file: &mut [u8]) {
-    for record in file.chunks_mut(8).skip(1) {
+fn mix_in_noise(rng: &mut Rng, records: &mut [u8]) {
+    for record in records.chunks_mut(8) {
         if rng.percent(10) {
             record.copy_from_slice(&rng.next().to_le_bytes());
         }
@@ -440,8 +369,8 @@ fn mix_in_noise(rng: &mut Rng, file: &mut [u8]) {
 }
 
 /// Fields just outside (or just inside) their range.
-fn spoil_fields(rng: &mut Rng, file: &mut [u8]) {
-    for record in file.chunks_mut(8).skip(1) {
+fn spoil_fields(rng: &mut Rng, records: &mut [u8]) {
+    for record in records.chunks_mut(8) {
         match rng.below(60) {
             0 => record[0] = rng.pick(&[0, 6, 7, 255]),
             1 => record[1] = rng.pick(&[0, 8, 9, 255]),
@@ -453,9 +382,9 @@ fn spoil_fields(rng: &mut Rng, file: &mut [u8]) {
     }
 }
 
-/// After the opening small bytes at random, so that some steps pass.
-fn only_noise(rng: &mut Rng, file: &mut [u8]) {
-    for record in file.chunks_mut(8).skip(1) {
+/// Small bytes at random, so that some steps pass.
+fn only_noise(rng: &mut Rng, records: &mut [u8]) {
+    for record in records.chunks_mut(8) {
         record.fill(0);
         record[0] = rng.below(8) as u8;
         record[1] = rng.below(9) as u8;

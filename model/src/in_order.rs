@@ -1,9 +1,10 @@
-//! "A state is in order when": the document's list, asked of the model's
-//! state as a check on the model itself. What the model's types exclude
-//! (sizes, absent cards and pages) is not asked.
+//! "A state is in order when": document 01's list, and what request L1 of
+//! document 02 adds of lines, asked of the model's state as a check on the
+//! model itself. What the model's types exclude (sizes, absent cards and
+//! pages) is not asked.
 
 use crate::clock::{IntervalId, ProcId, VectorClock};
-use crate::model::{Model, Processor, Record, MOST_INTERVALS, MOST_RECORDS};
+use crate::model::{Lock, Model, Processor, Record, MOST_INTERVALS, MOST_RECORDS};
 
 /// The first clause that does not hold, if any.
 pub fn broken_clause(model: &Model) -> Option<&'static str> {
@@ -19,6 +20,11 @@ pub fn broken_clause(model: &Model) -> Option<&'static str> {
         (dirty_have_room(model), "dirty page, own entry at most 62"),
         (holders_present(model), "holders are present cards or 0"),
         (round_open(model), "not all cards have arrived"),
+        (waiters_present(model), "only present cards in lines"),
+        (waiters_differ(model), "each card at most once in all"),
+        (lines_held(model), "no line at a free lock"),
+        (waiters_not_arrived(model), "no waiter that has arrived"),
+        (waiters_not_holders(model), "no waiter that holds the lock"),
     ];
     let broken = clauses.iter().find(|(holds, _)| !holds);
     broken.map(|(_, clause)| *clause)
@@ -112,4 +118,35 @@ fn holders_present(model: &Model) -> bool {
 
 fn round_open(model: &Model) -> bool {
     model.barrier.arrived.values().any(|mark| !mark)
+}
+
+fn waiters(model: &Model) -> Vec<ProcId> {
+    let lines = model.locks.values().map(|lock| &lock.line);
+    lines.flatten().copied().collect()
+}
+
+fn waiters_present(model: &Model) -> bool {
+    let present = |card: &ProcId| model.processors.contains_key(card);
+    waiters(model).iter().all(present)
+}
+
+fn waiters_differ(model: &Model) -> bool {
+    let mut waiters = waiters(model);
+    waiters.sort();
+    waiters.windows(2).all(|two| two[0] != two[1])
+}
+
+fn lines_held(model: &Model) -> bool {
+    let held = |lock: &Lock| lock.holder.is_some() || lock.line.is_empty();
+    model.locks.values().all(held)
+}
+
+fn waiters_not_arrived(model: &Model) -> bool {
+    let arrived = |card: &ProcId| model.barrier.arrived.get(card) == Some(&true);
+    !waiters(model).iter().any(arrived)
+}
+
+fn waiters_not_holders(model: &Model) -> bool {
+    let fine = |lock: &Lock| lock.line.iter().all(|card| lock.holder != Some(*card));
+    model.locks.values().all(fine)
 }

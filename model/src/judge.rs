@@ -3,7 +3,9 @@
 //! "Happens-before-1 is made from the number of cards, the fields of the
 //! steps and whether each step was refused, and from nothing else in answers
 //! or state." So the judge sees a file and its printed lines only; the lines
-//! may come from the model or from any other program.
+//! may come from the model or from any other program. Document 02's request
+//! L1 adds the order of a release before what the waiter that it serves does
+//! next; which waiter that is, is counted off from the accepted steps too.
 //!
 //! Two judges of the same claim: `by_relation` builds the order as the
 //! document defines it (bit sets, short lists only), `by_clocks` counts steps
@@ -120,7 +122,7 @@ fn accepted_steps(file: &[u8], lines: &[Line]) -> Result<(usize, Vec<Accepted>),
         if line.number != number || stopped {
             return Err(format!("line {number} does not fit: {}", line.text()));
         }
-        stopped = line.answer.refusal >= 15;
+        stopped = matches!(line.answer.refusal, 15 | 16);
         list.extend(accepted_step(file, line)?);
     }
     let whole = stopped || 8 * lines.len() == file.len();
@@ -187,26 +189,83 @@ fn round_ends(cards: usize, list: &[Accepted]) -> Vec<Option<usize>> {
     ends
 }
 
+/// The places of one kind of step, by lock, in the order of the list.
+fn places_by_lock(list: &[Accepted], kind: u8) -> BTreeMap<u16, Vec<usize>> {
+    let mut places: BTreeMap<u16, Vec<usize>> = BTreeMap::new();
+    for (place, taken) in list.iter().enumerate() {
+        if taken.step.kind == kind {
+            places.entry(taken.step.object).or_default().push(place);
+        }
+    }
+    places
+}
+
+/// For each place in the list: if it is a release that serves a waiter, the
+/// waiter's card. A lock goes to its askers in their order, so release m of a
+/// lock (from 0) ends the turn of acquire m and serves acquire m + 1, if that
+/// one stands before it and so had to wait.
+fn served_cards(list: &[Accepted]) -> Vec<Option<u8>> {
+    let acquires = places_by_lock(list, ACQUIRE);
+    let mut served = vec![None; list.len()];
+    for (lock, releases) in places_by_lock(list, RELEASE) {
+        let next_in_turn = acquires.get(&lock).into_iter().flatten().skip(1);
+        for (release, acquire) in releases.iter().zip(next_in_turn) {
+            if acquire < release {
+                served[*release] = Some(list[*acquire].step.card);
+            }
+        }
+    }
+    served
+}
+
+/// The releases that serve a waiter, by record number, with its card.
+#[cfg(test)]
+pub fn grants(file: &[u8], lines: &[Line]) -> Result<Vec<(usize, u8)>, String> {
+    let (_, list) = accepted_steps(file, lines)?;
+    let served = served_cards(&list);
+    let grants = list.iter().zip(served);
+    Ok(grants
+        .filter_map(|(release, card)| Some((release.number, card?)))
+        .collect())
+}
+
+/// What makes one step directly before another, beside the steps themselves.
+struct Ties {
+    ends: Vec<Option<usize>>,
+    served: Vec<Option<u8>>,
+}
+
+impl Ties {
+    fn of(cards: usize, list: &[Accepted]) -> Ties {
+        Ties {
+            ends: round_ends(cards, list),
+            served: served_cards(list),
+        }
+    }
+}
+
 /// Whether the step at `s` is before the later one at `t` without chaining:
 /// "a card's steps in their order; each release before every later acquire of
 /// that lock; every arrival of a completed round before every step any card
-/// takes after that round's last arrival".
-fn directly_before(list: &[Accepted], ends: &[Option<usize>], s: usize, t: usize) -> bool {
+/// takes after that round's last arrival"; and L1's "the release precedes the
+/// waiter's next step".
+fn directly_before(list: &[Accepted], ties: &Ties, s: usize, t: usize) -> bool {
     let (first, second) = (list[s].step, list[t].step);
     let same_card = first.card == second.card;
     let by_lock = first.kind == RELEASE && second.kind == ACQUIRE && first.object == second.object;
-    let by_round = ends[s].is_some_and(|end| end < t);
-    same_card || by_lock || by_round
+    let by_round = ties.ends[s].is_some_and(|end| end < t);
+    let by_grant = ties.served[s] == Some(second.card);
+    same_card || by_lock || by_round || by_grant
 }
 
 /// "and what follows by chaining": for each step the set of those before it.
 fn happens_before(cards: usize, list: &[Accepted]) -> Vec<Set> {
-    let ends = round_ends(cards, list);
+    let ties = Ties::of(cards, list);
     let mut before: Vec<Set> = Vec::new();
     for t in 0..list.len() {
         let mut set = Set(vec![0; list.len().div_ceil(64)]);
         for s in (0..t).rev() {
-            if directly_before(list, &ends, s, t) && !set.has(s) {
+            if directly_before(list, &ties, s, t) && !set.has(s) {
                 set.put(s);
                 set.unite(&before[s]);
             }
@@ -305,11 +364,30 @@ impl WordHistory {
     }
 }
 
+/// What the judge remembers of a lock.
+#[derive(Default)]
+struct LockHistory {
+    /// What its releases have handed on.
+    released: Known,
+    /// Who asked for it, in their order.
+    askers: Vec<u8>,
+    releases: usize,
+}
+
+impl LockHistory {
+    /// Counts a release, and gives the waiter that it serves: each release
+    /// ends one asker's turn, and the next asker is there already or not.
+    fn serve(&mut self) -> Option<u8> {
+        self.releases += 1;
+        self.askers.get(self.releases).copied()
+    }
+}
+
 /// The judge's own vectors: of each card, of each lock, of each round.
 #[derive(Default)]
 struct Clocks {
     card: BTreeMap<u8, Known>,
-    lock: BTreeMap<u16, Known>,
+    lock: BTreeMap<u16, LockHistory>,
     round: Known,
     arrivals: usize,
     /// What the arrivals of all completed rounds give to each later step.
@@ -321,8 +399,10 @@ impl Clocks {
     fn enter(&mut self, step: &Step) -> Known {
         let known = self.card.entry(step.card).or_default();
         learn(known, &self.completed);
-        if let (ACQUIRE, Some(released)) = (step.kind, self.lock.get(&step.object)) {
-            learn(known, released);
+        if step.kind == ACQUIRE {
+            let lock = self.lock.entry(step.object).or_default();
+            lock.askers.push(step.card);
+            learn(known, &lock.released);
         }
         *known.entry(step.card).or_insert(0) += 1;
         known.clone()
@@ -331,7 +411,11 @@ impl Clocks {
     /// What the step hands on.
     fn leave(&mut self, step: &Step, known: &Known, cards: usize) {
         if step.kind == RELEASE {
-            learn(self.lock.entry(step.object).or_default(), known);
+            let lock = self.lock.entry(step.object).or_default();
+            learn(&mut lock.released, known);
+            if let Some(waiter) = lock.serve() {
+                learn(self.card.entry(waiter).or_default(), known);
+            }
         }
         if step.kind == ARRIVE {
             learn(&mut self.round, known);

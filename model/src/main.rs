@@ -1,8 +1,9 @@
-//! A second model of document 01. `model` alone prints what it can do.
+//! A second model of documents 01 and 02. `model` alone prints what it can do.
 
 #![forbid(unsafe_code)]
 
 mod agree;
+mod batons;
 mod blend;
 mod case;
 mod cases;
@@ -27,6 +28,9 @@ mod stepfile;
 mod sweep;
 #[cfg(test)]
 mod tests;
+mod wait_cases;
+#[cfg(test)]
+mod wait_tests;
 
 use options::{number, Options};
 use std::env;

@@ -1,12 +1,14 @@
-//! The rules of document 01: opening, the six kinds of step, their refusals.
+//! The rules of document 01 with request L1 of document 02: opening, the six
+//! kinds of step, their refusals, and the lines of cards that wait for locks.
 //!
-//! Written from the document alone, as plainly as it states them. Quoted
-//! text is the document's. A card is a processor here; nothing is encoded.
+//! Written from the documents alone, as plainly as they state them. Quoted
+//! text is theirs; "L1" stands before that of document 02. A card is a
+//! processor here; nothing is encoded.
 
 use crate::clock::{IntervalId, LockId, PageId, ProcId, VectorClock};
 use crate::diff::{Diff, PAGE_WORDS};
 use crate::fault::Fault;
-use std::collections::BTreeMap;
+use std::collections::{BTreeMap, VecDeque};
 
 pub const READ: u8 = 1;
 pub const WRITE: u8 = 2;
@@ -83,11 +85,14 @@ pub struct Record {
     pub diff: Diff,
 }
 
-/// "A lock has a holder and a clock."
+/// "A lock has a holder and a clock." L1: "The lock's record gains its line of
+/// waiters."
 #[derive(Clone)]
 pub struct Lock {
     pub holder: Option<ProcId>,
     pub clock: VectorClock,
+    /// The cards that wait, the longest first.
+    pub line: VecDeque<ProcId>,
 }
 
 /// "The barrier has an arrived mark for each card, a clock and a mark that
@@ -137,6 +142,7 @@ fn fresh_lock() -> Lock {
     Lock {
         holder: None,
         clock: VectorClock::zeros(),
+        line: VecDeque::new(),
     }
 }
 
@@ -229,6 +235,13 @@ impl Model {
     pub fn has_arrived(&self, card: ProcId) -> bool {
         self.barrier.arrived[&card]
     }
+
+    /// The lock in whose line the card stands.
+    pub fn awaited_by(&self, card: ProcId) -> Option<LockId> {
+        let mut locks = self.locks.iter();
+        let found = locks.find(|(_, lock)| lock.line.contains(&card));
+        found.map(|(name, _)| *name)
+    }
 }
 
 // Refusals, "top to bottom ... the first that applies is given, and only
@@ -252,6 +265,10 @@ impl Model {
         if self.has_arrived(card) {
             return Some(6);
         }
+        // L1: "17, a step by a waiting card, after 6"
+        if self.awaited_by(card).is_some() {
+            return Some(17);
+        }
         self.refusal_by_kind(step, card)
     }
 
@@ -268,8 +285,8 @@ impl Model {
 
     fn refusal_by_kind(&self, step: &Step, card: ProcId) -> Option<u32> {
         match step.kind {
-            // "Acquire 7: lock held, by this card too"
-            ACQUIRE if self.locks[&LockId(step.object)].holder.is_some() => Some(7),
+            // L1: "7 remains for the holder's own acquire"
+            ACQUIRE if self.locks[&LockId(step.object)].holder == Some(card) => Some(7),
             // "Release 8: this card is not the holder"
             RELEASE if self.locks[&LockId(step.object)].holder != Some(card) => Some(8),
             WRITE if !self.is_dirty(card, place(step.object).0) => self.refusal_on_clean(card),
@@ -332,19 +349,23 @@ impl Model {
     }
 
     /// "Acquire: close; the card becomes holder; its clock joins the lock's."
+    /// L1: "An acquire of a lock held by another card is now accepted: the
+    /// asker's interval closes and the card waits."
     fn acquire(&mut self, card: ProcId, lock: LockId) -> Answer {
-        let news = self.locks[&lock].clock.clone();
         if self.fault == Some(Fault::LearnFirst) {
-            self.processor_mut(card).clock.join(&news);
+            self.learn(card, lock);
         }
         self.close(card);
-        self.lock_mut(lock).holder = Some(card);
-        self.processor_mut(card).clock.join(&news);
+        match self.locks[&lock].holder {
+            None => self.hand_to(card, lock),
+            Some(_) => self.lock_mut(lock).line.push_back(card),
+        }
         Answer::accepted(0, 0)
     }
 
     /// "Release: close; holder becomes 0; the lock's clock becomes the
-    /// card's."
+    /// card's." L1: "At a release the lock goes to the longest waiter, which
+    /// becomes holder and learns the lock's clock in that same step."
     fn release(&mut self, card: ProcId, lock: LockId) -> Answer {
         self.close(card);
         let mut clock = self.processors[&card].clock.clone();
@@ -353,7 +374,21 @@ impl Model {
         }
         self.lock_mut(lock).holder = None;
         self.lock_mut(lock).clock = clock;
+        if let Some(waiter) = self.lock_mut(lock).line.pop_front() {
+            self.hand_to(waiter, lock);
+        }
         Answer::accepted(0, 0)
+    }
+
+    /// "the card becomes holder; its clock joins the lock's"
+    fn hand_to(&mut self, card: ProcId, lock: LockId) {
+        self.lock_mut(lock).holder = Some(card);
+        self.learn(card, lock);
+    }
+
+    fn learn(&mut self, card: ProcId, lock: LockId) {
+        let news = self.locks[&lock].clock.clone();
+        self.processor_mut(card).clock.join(&news);
     }
 
     /// "Arrive: close; the barrier's clock joins the card's; mark the card."

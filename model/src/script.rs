@@ -1,5 +1,7 @@
 //! A step file in the making. Each step is tried on the model as it is
-//! written, so that a profile can see what was refused and steer.
+//! written, so that a profile can see what was refused and steer. Nobody
+//! hangs: no card waits for a card that has arrived or that waits for it, over
+//! any number of locks. So there is always a card that may act.
 
 use crate::clock::{LockId, ProcId};
 use crate::model::{Answer, Model, Step, ACQUIRE, ARRIVE, READ, RELEASE, WANT, WRITE};
@@ -11,6 +13,8 @@ pub struct Script {
     pub cards: u8,
     pub pages: u16,
     pub locks: u16,
+    /// Whether a card may ask for a lock that another card holds.
+    pub waiting: bool,
     bytes: Vec<u8>,
     steps: usize,
     fresh: u32,
@@ -27,6 +31,7 @@ impl Script {
             cards,
             pages: pages.into(),
             locks: locks.into(),
+            waiting: true,
             bytes: opening.to_vec(),
             steps,
             fresh: 0,
@@ -71,7 +76,14 @@ impl Script {
         self.put(RELEASE, card, lock, 0)
     }
 
+    /// The card arrives; before that it frees its locks, but now and then
+    /// keeps one for which nobody waits.
     pub fn arrive(&mut self, card: u8) -> Answer {
+        for lock in self.held_by(card) {
+            if self.acts(card) && (self.waiters(lock) > 0 || self.rng.percent(90)) {
+                self.release(card, lock);
+            }
+        }
         self.put(ARRIVE, card, 0, 0)
     }
 
@@ -92,12 +104,17 @@ impl Script {
         }
     }
 
-    /// Any card, most often one that may still act in this round.
+    /// Whether the card has not arrived and waits for no lock.
+    pub fn acts(&self, card: u8) -> bool {
+        let card = ProcId(card);
+        !self.model.has_arrived(card) && self.model.awaited_by(card).is_none()
+    }
+
+    /// Any card, most often one that may act.
     pub fn any_card(&mut self) -> u8 {
-        let free = |card: &u8| !self.model.has_arrived(ProcId(*card));
-        let free: Vec<u8> = (1..=self.cards).filter(free).collect();
+        let acting: Vec<u8> = (1..=self.cards).filter(|card| self.acts(*card)).collect();
         if self.rng.percent(85) {
-            self.rng.pick(&free)
+            self.rng.pick(&acting)
         } else {
             self.rng.within(1, self.cards.into()) as u8
         }
@@ -120,29 +137,80 @@ impl Script {
         (0..self.locks).filter(held).collect()
     }
 
-    /// Releases a lock the card holds; without one it tries any lock.
+    /// How many cards wait for the lock.
+    fn waiters(&self, lock: u16) -> usize {
+        self.model.locks[&LockId(lock)].line.len()
+    }
+
+    /// On whom the lock depends, and by which lock: its holder, or whom that
+    /// one waits for, and so on to a card that does not wait.
+    fn keeper(&self, mut lock: u16) -> Option<(u8, u16)> {
+        loop {
+            let holder = self.holder(lock)?;
+            match self.model.awaited_by(ProcId(holder)) {
+                Some(next) => lock = next.0,
+                None => return Some((holder, lock)),
+            }
+        }
+    }
+
+    /// Whether the card may ask for the lock and nobody hangs by it.
+    pub fn may_ask(&self, card: u8, lock: u16) -> bool {
+        match self.keeper(lock) {
+            None => true,
+            Some((keeper, _)) => self.waiting && keeper != card && self.acts(keeper),
+        }
+    }
+
+    /// The card asks for a lock, more often a free one than one that is held.
+    /// If it may not, the keeper should free what it holds.
+    pub fn ask(&mut self, card: u8) {
+        let is_free = |lock: &u16| self.holder(*lock).is_none();
+        let (free, held): (Vec<u16>, Vec<u16>) = (0..self.locks).partition(is_free);
+        let wait = self.waiting && !held.is_empty() && self.rng.percent(40);
+        let list = if free.is_empty() || wait { held } else { free };
+        let lock = self.rng.pick(&list);
+        match self.keeper(lock) {
+            Some((keeper, held)) if !self.may_ask(card, lock) => self.release(keeper, held),
+            _ => self.acquire(card, lock),
+        };
+    }
+
+    /// Releases a lock the card holds, most often one for which others wait;
+    /// without one it tries any lock.
     pub fn release_some(&mut self, card: u8) -> Answer {
         let held = self.held_by(card);
         if held.is_empty() || self.rng.percent(4) {
             let lock = self.any_lock();
             return self.release(card, lock);
         }
-        let lock = self.rng.pick(&held);
+        let is_awaited = |lock: &u16| self.waiters(*lock) > 0;
+        let awaited: Vec<u16> = held.iter().copied().filter(is_awaited).collect();
+        let lock = match awaited.is_empty() || self.rng.percent(30) {
+            true => self.rng.pick(&held),
+            false => self.rng.pick(&awaited),
+        };
         self.release(card, lock)
     }
 
-    /// Closes the card's interval by taking or freeing a lock. Some other
-    /// card's lock is freed first if there is no other way.
+    /// Closes the card's interval, if it may act, by freeing a lock or asking
+    /// for one.
     pub fn close_by_lock(&mut self, card: u8) {
-        if let Some(lock) = self.held_by(card).first() {
-            self.release(card, *lock);
-            return;
+        match self.held_by(card).first() {
+            Some(lock) => {
+                self.release(card, *lock);
+            }
+            None => self.ask(card),
         }
-        let free = |lock: &u16| self.holder(*lock).is_none();
-        match (0..self.locks).find(free) {
-            Some(lock) => self.acquire(card, lock),
-            None => self.release_some(self.holder(0).unwrap_or(card)),
-        };
+    }
+
+    /// Locks are freed until the card waits no more.
+    pub fn serve(&mut self, card: u8) {
+        while let Some(lock) = self.model.awaited_by(ProcId(card)) {
+            if let Some((keeper, held)) = self.keeper(lock.0) {
+                self.release(keeper, held);
+            }
+        }
     }
 
     /// Everybody arrives, in any order, with other turns in between (none
@@ -154,6 +222,7 @@ impl Script {
             while self.rng.percent(30) {
                 between(self);
             }
+            self.serve(card);
             self.arrive(card);
         }
     }

@@ -6,6 +6,8 @@ use crate::model::{Answer, Model, Step};
 
 /// "the 1,000,000th step record"
 pub const MOST_STEPS: usize = 1_000_000;
+/// One more than the largest refusal that a line may have.
+pub const REFUSALS: usize = 18;
 
 /// A printed line: "record number (opening 0), refusal or 0, value, count".
 #[derive(Clone, Copy, Debug, PartialEq, Eq)]
@@ -92,7 +94,7 @@ pub fn run_watched(
         let answer = answer_record(&mut model, file, number);
         lines.push(Line { number, answer });
         // "After 2, 15 or 16 it stops."
-        if answer.refusal >= 15 {
+        if matches!(answer.refusal, 15 | 16) {
             break;
         }
         seen(&model, number);

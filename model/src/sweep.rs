@@ -1,24 +1,27 @@
 //! `model sweep SEEDS STEPS`: all profiles and many seeds through the model
-//! and the judge, with each state asked whether it is in order.
+//! and the judge, with each state asked whether it is in order, and how many
+//! of the steps are accepted.
 
 use crate::fault::FAULTS;
 use crate::files::effect;
 use crate::generate::{generate, PROFILES};
 use crate::in_order::broken_clause;
 use crate::judge::{judge, Verdict};
-use crate::stepfile::{run, run_watched, Line};
+use crate::stepfile::{run, run_watched, Line, REFUSALS};
 
 /// What the files of one profile came to.
 struct Tally {
     lines: usize,
-    /// How often each refusal 0 to 16 was printed.
-    refusals: [usize; 17],
+    /// How often each refusal was printed.
+    refusals: [usize; REFUSALS],
+    /// The smallest share of accepted steps in a file, of 100.
+    least_accepted: f64,
     verdict: Verdict,
 }
 
 pub fn sweep(seeds: u64, steps: usize) -> Result<String, String> {
     let mut text = head();
-    let mut total = [0; 17];
+    let mut total = [0; REFUSALS];
     for profile in PROFILES {
         let tally = sweep_profile(profile, seeds, steps)?;
         for (sum, n) in total.iter_mut().zip(tally.refusals) {
@@ -31,15 +34,22 @@ pub fn sweep(seeds: u64, steps: usize) -> Result<String, String> {
 }
 
 fn head() -> String {
-    "profile: lines, accepted reads, reads under the strong half (written before), broken\n"
-        .to_string()
+    let columns = [
+        "profile: lines",
+        "least share of accepted steps in a file",
+        "accepted reads",
+        "reads under the strong half (written before)",
+        "broken",
+    ];
+    columns.join(", ") + "\n"
 }
 
 fn row(profile: &str, tally: &Tally) -> String {
     let v = &tally.verdict;
     let found = format!(
-        "{profile}: {} lines, {} reads, {} strong ({} written), {} broken",
+        "{profile}: {} lines, {:.1} % or more accepted, {} reads, {} strong ({} written), {} broken",
         tally.lines,
+        tally.least_accepted,
         v.reads,
         v.strong,
         v.strong_written,
@@ -48,7 +58,7 @@ fn row(profile: &str, tally: &Tally) -> String {
     format!("{found}\n    {}\n", by_refusal(&tally.refusals))
 }
 
-fn by_refusal(counts: &[usize; 17]) -> String {
+fn by_refusal(counts: &[usize; REFUSALS]) -> String {
     let seen = counts.iter().enumerate().filter(|(_, n)| **n > 0);
     let words: Vec<String> = seen.map(|(refusal, n)| format!("{refusal}:{n}")).collect();
     words.join(" ")
@@ -57,7 +67,8 @@ fn by_refusal(counts: &[usize; 17]) -> String {
 fn sweep_profile(profile: &str, seeds: u64, steps: usize) -> Result<Tally, String> {
     let mut tally = Tally {
         lines: 0,
-        refusals: [0; 17],
+        refusals: [0; REFUSALS],
+        least_accepted: 100.0,
         verdict: Verdict::default(),
     };
     for seed in 0..seeds {
@@ -84,12 +95,24 @@ fn run_in_order(file: &[u8]) -> Result<Vec<Line>, String> {
     }
 }
 
+/// How many of 100 steps that were run are accepted; all, if none was run.
+pub fn accepted_share(lines: &[Line]) -> f64 {
+    let is_step = |line: &&Line| line.number > 0 && !matches!(line.answer.refusal, 15 | 16);
+    let steps: Vec<&Line> = lines.iter().filter(is_step).collect();
+    let accepted = steps.iter().filter(|line| line.answer.refusal == 0).count();
+    match steps.len() {
+        0 => 100.0,
+        run => 100.0 * accepted as f64 / run as f64,
+    }
+}
+
 impl Tally {
     fn add(&mut self, lines: &[Line], verdict: Verdict) {
         self.lines += lines.len();
         for line in lines {
             self.refusals[line.answer.refusal as usize] += 1;
         }
+        self.least_accepted = self.least_accepted.min(accepted_share(lines));
         self.verdict.reads += verdict.reads;
         self.verdict.strong += verdict.strong;
         self.verdict.strong_written += verdict.strong_written;

@@ -1,4 +1,5 @@
-//! The starred bench cases asked of the model, and the judge's own tests.
+//! The starred bench cases asked of the model, and the judge's own tests. The
+//! tests of cards that wait are in `wait_tests.rs`.
 
 use crate::clock::{ProcId, VectorClock};
 use crate::diff;
@@ -11,9 +12,9 @@ const LISTING_A: &str = "0 0 0 0
 1 0 0 0
 2 0 0 0
 3 0 0 0
-4 7 0 0
+4 0 0 0
 5 0 0 0
-6 0 0 0
+6 7 0 0
 7 0 700 1
 8 0 700 0
 9 0 0 0
@@ -22,20 +23,20 @@ const LISTING_A: &str = "0 0 0 0
 12 0 0 0
 ";
 
-fn case(name: &str) -> crate::case::Case {
+pub fn case(name: &str) -> crate::case::Case {
     let mut cases = crate::cases::all_cases().into_iter();
     cases.find(|case| case.name == name).expect(name)
 }
 
 /// The state a named file leaves.
-fn state_after(name: &str) -> Model {
+pub fn state_after(name: &str) -> Model {
     let mut last = None;
     let file = case(name).file;
     crate::stepfile::run_watched(&file, None, &mut |model, _| last = Some(model.clone()));
     last.expect("an accepted opening")
 }
 
-fn entries(clock: &VectorClock, cards: u8) -> Vec<u32> {
+pub fn entries(clock: &VectorClock, cards: u8) -> Vec<u32> {
     (1..=cards).map(|card| clock.entry(ProcId(card))).collect()
 }
 
@@ -166,8 +167,8 @@ fn clocks() {
     assert!(a.covers(&b) && a.sum() == 2);
 }
 
-/// Lines of a file with the value of one record changed.
-fn with_value(name: &str, number: usize, value: u32) -> Result<usize, String> {
+/// How many broken reads the judge finds with the value of one line changed.
+pub fn with_value(name: &str, number: usize, value: u32) -> Result<usize, String> {
     let case = case(name);
     let mut lines = case.lines;
     lines[number].answer.value = value;

@@ -1,6 +1,7 @@
-//! What a step on a state in order must be answered, as far as it can be read
-//! off the state before: the refusal, and the count of a fetch. Written from
-//! document 01's table and "Pending".
+//! What a step on a state in order must be answered and leave, as far as it
+//! can be read off the state before: the refusal, the count of a fetch, who
+//! holds and who waits. Written from document 01's table and "Pending", and
+//! from request L1 of document 02.
 
 use crate::areas::*;
 use crate::library::Step;
@@ -33,14 +34,51 @@ pub fn refusal(s: State, step: Step) -> u8 {
     if s.arrived(p) {
         return 6;
     }
+    if s.awaited(p).is_some() {
+        return 17;
+    }
     match step.kind {
-        ACQUIRE if s.holder(object) != 0 => 7,
+        ACQUIRE if s.holder(object) == p => 7,
         RELEASE if s.holder(object) != p => 8,
         WRITE if s.dirty(p, object / PAGE_WORDS) => 0,
         WRITE if s.own(p) == INTERVALS => 9,
         WRITE if s.standing() + s.dirty_pages() == SLOTS => 10,
         _ => 0,
     }
+}
+
+/// The marks that say who holds and who waits: holders, locks waited for,
+/// turns.
+pub fn line_marks(marks: &[u8]) -> Vec<u8> {
+    [&marks[HOLDERS], &marks[LINES]].concat()
+}
+
+/// Those marks after an accepted step. An asker goes to the line's end; at a
+/// release the first of the line becomes the holder and the others move up.
+pub fn line_marks_after(s: State, step: Step) -> Vec<u8> {
+    let (p, lock) = (step.processor as usize, step.object as usize);
+    let mut marks = s.0.marks.to_vec();
+    match step.kind {
+        ACQUIRE if s.holder(lock) == 0 => marks[holder_at(lock)] = p as u8,
+        ACQUIRE => {
+            marks[awaited_at(p)] = lock as u8 + 1;
+            marks[turn_at(p)] = s.waiters(lock).count() as u8;
+        }
+        RELEASE => {
+            marks[holder_at(lock)] = 0;
+            for waiter in s.waiters(lock) {
+                match s.turn(waiter).checked_sub(1) {
+                    Some(turn) => marks[turn_at(waiter)] = turn as u8,
+                    None => {
+                        marks[holder_at(lock)] = waiter as u8;
+                        marks[awaited_at(waiter)] = 0;
+                    }
+                }
+            }
+        }
+        _ => {}
+    }
+    line_marks(&marks)
 }
 
 /// The count of an accepted step, or nothing where it takes more than the

@@ -2,6 +2,7 @@
 //! everything lies in them.
 
 use crate::library::{Lent, Shown, CLOCKS, MARKS, RECORDS, WORDS};
+use std::ops::Range;
 
 pub const PROCESSORS: usize = 8;
 pub const PAGES: usize = 8;
@@ -52,19 +53,36 @@ pub fn twin_at(p: usize, page: usize) -> usize {
 pub const PROCESSORS_AT: usize = 0;
 pub const PAGES_AT: usize = 1;
 pub const LOCKS_AT: usize = 2;
+/// The number of standing records: its low byte, and its high byte.
 pub const STANDING_AT: usize = 3;
-pub const WISH_AT: usize = 4;
+pub const STANDING_HIGH_AT: usize = 4;
+pub const WISH_AT: usize = 5;
+
+/// All dirty marks, and the marks that say who holds and who waits.
+pub const DIRTY: Range<usize> = 30..94;
+pub const HOLDERS: Range<usize> = 14..30;
+pub const LINES: Range<usize> = 94..110;
 
 pub fn arrived_at(p: usize) -> usize {
-    5 + (p - 1)
+    6 + (p - 1)
 }
 
 pub fn holder_at(lock: usize) -> usize {
-    13 + lock
+    14 + lock
 }
 
 pub fn dirty_at(p: usize, page: usize) -> usize {
-    29 + 8 * (p - 1) + page
+    30 + 8 * (p - 1) + page
+}
+
+/// The lock that a processor waits for, plus 1; 0 where it waits for none.
+pub fn awaited_at(p: usize) -> usize {
+    94 + (p - 1)
+}
+
+/// How many of that lock's waiters stand before the processor.
+pub fn turn_at(p: usize) -> usize {
+    102 + (p - 1)
 }
 
 /// Elements lent to a call, with a margin before and behind them.

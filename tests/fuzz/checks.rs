@@ -1,7 +1,7 @@
 //! What is checked of every call. Each check gives what is wrong in words.
 
-use crate::answers::{self, READ};
-use crate::areas::{copy_at, Areas, PAGE_WORDS};
+use crate::answers::{self, ACQUIRE, READ, RELEASE};
+use crate::areas::{copy_at, lock_row, processor_row, Areas, PAGE_WORDS};
 use crate::library::{self, Step};
 use crate::order;
 use crate::random::Random;
@@ -10,13 +10,28 @@ use crate::state::State;
 /// What the checks have met, for the report.
 #[derive(Default)]
 pub struct Met {
-    /// Steps by refusal, 0 to 10.
-    pub refusals: [u64; 11],
+    /// Steps by refusal, 0 to 17.
+    pub refusals: [u64; 18],
     /// States that broke this clause of "in order" and no other.
     pub alone: [u64; order::CLAUSES.len()],
     /// States whose order was asked: in order, not in order.
     pub in_order: u64,
     pub out_of_order: u64,
+    /// Accepted acquires of a lock that another held, and releases to one who
+    /// waited.
+    pub waits: u64,
+    pub grants: u64,
+}
+
+impl Met {
+    fn add_lock_use(&mut self, s: State, step: Step) {
+        let lock = step.object as usize;
+        match step.kind {
+            ACQUIRE => self.waits += u64::from(s.holder(lock) != 0),
+            RELEASE => self.grants += u64::from(s.waiters(lock).next().is_some()),
+            _ => {}
+        }
+    }
 }
 
 /// `in_order` agrees with document 01's list, and writes nothing. Gives
@@ -76,6 +91,7 @@ pub fn check_step(
     met.refusals[usize::from(due)] += 1;
     let [_, value, count] = answer;
     if due == 0 {
+        met.add_lock_use(State(before.shown()), step);
         accepted(areas, before, step, value, count).map_err(|e| format!("{step:?}: {e}"))
     } else if [value, count] != [0, 0] {
         Err(format!("{step:?}: refused {refusal} with {value} {count}"))
@@ -96,7 +112,8 @@ fn same(areas: &Areas, before: &Areas, wrong: &str) -> Result<(), String> {
 }
 
 /// An accepted step leaves a state in order and touches nothing outside; its
-/// value is the word that stands in the copy, its count the pending records.
+/// value is the word that stands in the copy, its count the pending records;
+/// locks and their lines are as they must be.
 fn accepted(
     areas: &Areas,
     before: &Areas,
@@ -117,6 +134,13 @@ fn accepted(
             "leaves no order; in_order says {theirs}; broken: {broken:?}"
         ));
     }
+    let (was, is) = (State(before.shown()), State(areas.shown()));
+    if answers::line_marks(is.0.marks) != answers::line_marks_after(was, step) {
+        return Err("leaves other holders or lines".to_string());
+    }
+    if step.kind == RELEASE && !is_told(was, is, step) {
+        return Err("tells the lock or the waiter something else".to_string());
+    }
     let word = match step.kind {
         READ => word_of(areas, step),
         _ => 0,
@@ -126,6 +150,20 @@ fn accepted(
         return Err(format!("answers {value} {count}, due {word} {due:?}"));
     }
     Ok(())
+}
+
+/// After a release: the lock's clock is the releaser's, and a waiter that has
+/// become the holder has joined it.
+fn is_told(was: State, is: State, step: Step) -> bool {
+    let (p, lock) = (step.processor as usize, step.object as usize);
+    let told = is.clock(lock_row(lock));
+    let joined = |q| {
+        let (old, new) = (was.clock(processor_row(q)), is.clock(processor_row(q)));
+        let join = old.iter().zip(told).map(|(old, told)| *old.max(told));
+        join.eq(new.iter().copied())
+    };
+    let holder = is.holder(lock);
+    told == is.clock(processor_row(p)) && (holder == 0 || joined(holder))
 }
 
 /// The word of a read in the reader's copy.

@@ -4,9 +4,10 @@
 use crate::areas::*;
 use crate::made::put_change;
 use crate::random::Random;
+use crate::state::State;
 
 pub fn damage(random: &mut Random, areas: &mut Areas) {
-    match random.below(24) {
+    match random.below(32) {
         0 => flip_byte(random, areas),
         1 => flip_word(random, areas),
         2 => change(random, areas, PROCESSORS_AT, &[0, 1, 8, 9, 255]),
@@ -35,7 +36,15 @@ pub fn damage(random: &mut Random, areas: &mut Areas) {
             put_change(random, areas.slot(slot));
         }
         22 => noise_beyond(random, areas),
-        _ => absent_word(random, areas),
+        23 => absent_word(random, areas),
+        24 => change(random, areas, STANDING_HIGH_AT, &[0, 1, 2, 128, 255]),
+        25 => change_awaited(random, areas),
+        26 => {
+            let at = turn_at(random.within(1, PROCESSORS));
+            change(random, areas, at, &[0, 1, 2, 6, 7, 8, 255]);
+        }
+        27..=28 => one_more_waiter(random, areas),
+        _ => change_line(random, areas),
     }
 }
 
@@ -221,4 +230,46 @@ fn absent_word(random: &mut Random, areas: &mut Areas) {
     let page_at = random.pick(&[copy_at, twin_at]);
     let at = page_at(p, page) + random.below(PAGE_WORDS);
     areas.words.part_mut()[at] = random.pick(&[0, 1, 1 << 31, u32::MAX]);
+}
+
+/// The lock that a processor waits for, often the last one or one beyond.
+fn change_awaited(random: &mut Random, areas: &mut Areas) {
+    let locks = *areas.mark(LOCKS_AT);
+    let at = awaited_at(random.within(1, PROCESSORS));
+    let list = [0, 1, locks, locks.wrapping_add(1), 16, 17, 255];
+    change(random, areas, at, &list);
+}
+
+/// A processor goes to the end of a line, or just before or behind its end.
+fn one_more_waiter(random: &mut Random, areas: &mut Areas) {
+    let p = random.within(1, PROCESSORS);
+    let lock = random.below(LOCKS);
+    let end = State(areas.shown()).waiters(lock).count() as u8;
+    *areas.mark(awaited_at(p)) = lock as u8 + 1;
+    *areas.mark(turn_at(p)) = random.pick(&[end, end, end.wrapping_sub(1), end + 1]);
+}
+
+/// A present processor that waits, and its lock, if there is one.
+fn any_waiter(random: &mut Random, areas: &Areas) -> Option<(usize, usize)> {
+    let s = State(areas.shown());
+    let waiting = (0..LOCKS).flat_map(|lock| s.waiters(lock).map(move |p| (p, lock)));
+    let waiting: Vec<(usize, usize)> = waiting.collect();
+    (!waiting.is_empty()).then(|| random.pick(&waiting))
+}
+
+/// Something that a line must not have: a free lock, a waiter that holds the
+/// lock or has arrived or has left its place, two with one turn, a gap.
+fn change_line(random: &mut Random, areas: &mut Areas) {
+    let Some((p, lock)) = any_waiter(random, areas) else {
+        return change_awaited(random, areas);
+    };
+    let turn = *areas.mark(turn_at(p));
+    match random.below(7) {
+        0 => *areas.mark(holder_at(lock)) = 0,
+        1 => *areas.mark(holder_at(lock)) = p as u8,
+        2 => *areas.mark(arrived_at(p)) = 1,
+        3 => *areas.mark(awaited_at(p)) = 0,
+        4 => *areas.mark(turn_at(p)) = turn.wrapping_add(1),
+        _ => *areas.mark(turn_at(p)) = turn.wrapping_sub(1),
+    }
 }

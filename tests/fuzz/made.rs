@@ -88,6 +88,28 @@ fn make_marks(random: &mut Random, areas: &mut Areas, counts: [usize; 3], own: &
         (0..pages).for_each(|page| *areas.mark(dirty_at(p, page)) = mark(random, may));
     }
     *areas.mark(arrived_at(random.within(1, processors))) = 0;
+    make_lines(random, areas, processors, locks);
+}
+
+/// Some of those who have not arrived wait for locks that others hold, in any
+/// order. The turn of one who does not wait says nothing.
+fn make_lines(random: &mut Random, areas: &mut Areas, processors: usize, locks: usize) {
+    let chance = random.pick(&[0, 20, 60, 100]);
+    let among = random.pick(&[1, locks.min(2), locks]);
+    let mut waiting = [0; LOCKS];
+    let mut order: Vec<usize> = (1..=processors).collect();
+    random.shuffle(&mut order);
+    for p in order {
+        *areas.mark(turn_at(p)) = random.byte();
+        let lock = random.below(among);
+        let holder = usize::from(*areas.mark(holder_at(lock)));
+        let may = *areas.mark(arrived_at(p)) == 0 && holder != 0 && holder != p;
+        if may && random.percent(chance) {
+            *areas.mark(awaited_at(p)) = lock as u8 + 1;
+            *areas.mark(turn_at(p)) = waiting[lock];
+            waiting[lock] += 1;
+        }
+    }
 }
 
 /// A mark, set with that chance by 1 or another number.
@@ -101,7 +123,7 @@ fn mark(random: &mut Random, chance: usize) -> u8 {
 /// Records of intervals made, no two alike, as many as there is space for or
 /// fewer.
 fn make_records(random: &mut Random, areas: &mut Areas, pages: usize, own: &[u8]) {
-    let dirty = areas.marks.part()[dirty_at(1, 0)..].iter();
+    let dirty = areas.marks.part()[DIRTY].iter();
     let space = SLOTS - dirty.filter(|mark| **mark != 0).count();
     let fewer = random.within(0, space);
     let wanted = random.pick(&[0, fewer, space]);

@@ -30,6 +30,8 @@ const CASES: u64 = 200_000;
 const FULL: u64 = 10_000_000;
 /// Failures shown in words.
 const SHOWN: u64 = 10;
+/// Steps that a run goes on in which nobody acts.
+const STUCK: usize = 20;
 
 fn main() -> ExitCode {
     let args: Vec<String> = env::args().skip(1).collect();
@@ -75,8 +77,10 @@ fn options(args: &[String]) -> Option<(u64, u64)> {
 
 fn report(met: &Met) {
     let refusals = met.refusals.iter().enumerate();
+    let refusals = refusals.filter(|(_, times)| **times > 0);
     let refusals: Vec<String> = refusals.map(|(n, times)| format!("{n}:{times}")).collect();
     println!("steps by refusal: {}", refusals.join(" "));
+    println!("locks: {} waits, {} grants", met.waits, met.grants);
     println!(
         "order asked: {} in order, {} not",
         met.in_order, met.out_of_order
@@ -144,6 +148,9 @@ impl Fuzz {
 
     /// The run's next step.
     fn run_on(&mut self) -> Result<(), String> {
+        if State(self.run.shown()).hangs() {
+            self.left = self.left.min(STUCK);
+        }
         self.left -= 1;
         let step = any_step(&mut self.random, State(self.run.shown()), self.habits);
         let Fuzz {

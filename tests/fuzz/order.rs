@@ -1,6 +1,7 @@
-//! "A state is in order when: ..." of document 01, clause by clause, in plain
-//! Rust. It is written from the document and the layout alone, and is what
-//! the library's `in_order` is compared with.
+//! "A state is in order when: ..." of document 01 and, of lines, request L1 of
+//! document 02, clause by clause, in plain Rust. It is written from the
+//! documents and the layout alone, and is what the library's `in_order` is
+//! compared with.
 
 use crate::areas::*;
 use crate::library::Shown;
@@ -8,8 +9,10 @@ use crate::state::{Record, State};
 
 type Clause = (&'static str, fn(State) -> bool);
 
-/// The clauses after the first (the sizes), in the document's order.
-pub const CLAUSES: [Clause; 19] = [
+/// The clauses after the first (the sizes), in the documents' order. That a
+/// card waits at most once in all holds by the layout: it has one place for
+/// the lock it waits for. Turns number the waiters of a lock from 0.
+pub const CLAUSES: [Clause; 27] = [
     ("counts in range", counts_in_range),
     ("absent entries are 0", absent_entries_zero),
     ("absent copies' words are 0", absent_copies_zero),
@@ -29,13 +32,21 @@ pub const CLAUSES: [Clause; 19] = [
     ("own entry at most 62 with a dirty page", dirty_leaves_one),
     ("holders present or 0", holders_present),
     ("not all have arrived", not_all_arrived),
+    ("absent processors wait for nothing", absent_awaited_zero),
+    ("absent processors' turns are 0", absent_turns_zero),
+    ("locks waited for are present", awaited_present),
+    ("no line at a free lock", lines_held),
+    ("no waiter holds the lock", waiters_hold_not),
+    ("no waiter has arrived", waiters_arrived_not),
+    ("no two waiters have one turn", turns_unlike),
+    ("turns count those before", turns_count),
 ];
 
 pub fn sizes_hold(areas: Shown) -> bool {
     areas.clocks.len() == 593 * 8
         && areas.words.len() == 128 * 32
         && areas.records.len() == 128 * 135
-        && areas.marks.len() == 93
+        && areas.marks.len() == 110
 }
 
 pub fn in_order(areas: Shown) -> bool {
@@ -236,4 +247,55 @@ fn holders_present(s: State) -> bool {
 /// "not all cards have arrived"
 fn not_all_arrived(s: State) -> bool {
     !(1..=s.processors().min(8)).all(|p| s.arrived(p))
+}
+
+/// "only present cards in lines"
+fn absent_awaited_zero(s: State) -> bool {
+    all_processors().all(|p| s.has_processor(p) || s.awaited(p).is_none())
+}
+
+/// "marks ... for absent cards"
+fn absent_turns_zero(s: State) -> bool {
+    all_processors().all(|p| s.has_processor(p) || s.turn(p) == 0)
+}
+
+/// Each present processor that waits, with its lock.
+fn waiters(s: State<'_>) -> impl Iterator<Item = (usize, usize)> + '_ {
+    let present = all_processors().filter(move |p| s.has_processor(*p));
+    present.filter_map(move |p| Some((p, s.awaited(p)?)))
+}
+
+/// A line is a present lock's.
+fn awaited_present(s: State) -> bool {
+    waiters(s).all(|(_, lock)| s.has_lock(lock))
+}
+
+/// "no line at a free lock"
+fn lines_held(s: State) -> bool {
+    waiters(s).all(|(_, lock)| lock >= LOCKS || s.holder(lock) != 0)
+}
+
+/// "no waiter that ... holds the lock it waits for"
+fn waiters_hold_not(s: State) -> bool {
+    waiters(s).all(|(p, lock)| lock >= LOCKS || s.holder(lock) != p)
+}
+
+/// "no waiter that has arrived"
+fn waiters_arrived_not(s: State) -> bool {
+    waiters(s).all(|(p, _)| !s.arrived(p))
+}
+
+/// No two waiters stand at one place of a line.
+fn turns_unlike(s: State) -> bool {
+    let mut turns: Vec<_> = waiters(s).map(|(p, lock)| (lock, s.turn(p))).collect();
+    turns.sort_unstable();
+    turns.windows(2).all(|two| two[0] != two[1])
+}
+
+/// A waiter's turn is how many of its lock's waiters stand before it.
+fn turns_count(s: State) -> bool {
+    waiters(s).all(|(p, lock)| {
+        let before = s.waiters(lock).filter(|q| s.turn(*q) < s.turn(p));
+        before.count() == s.turn(p)
+    })
 }

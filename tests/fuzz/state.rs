@@ -33,7 +33,8 @@ impl<'a> State<'a> {
     }
 
     pub fn standing(self) -> usize {
-        self.0.marks[STANDING_AT].into()
+        let high = usize::from(self.0.marks[STANDING_HIGH_AT]);
+        usize::from(self.0.marks[STANDING_AT]) + 256 * high
     }
 
     pub fn wish(self) -> bool {
@@ -66,8 +67,33 @@ impl<'a> State<'a> {
 
     /// How many pages are dirty, counted over all processors.
     pub fn dirty_pages(self) -> usize {
-        let marks = &self.0.marks[dirty_at(1, 0)..];
+        let marks = &self.0.marks[DIRTY];
         marks.iter().filter(|mark| **mark != 0).count()
+    }
+
+    /// The lock that a processor waits for, present or not.
+    pub fn awaited(self, p: usize) -> Option<usize> {
+        usize::from(self.0.marks[awaited_at(p)]).checked_sub(1)
+    }
+
+    pub fn turn(self, p: usize) -> usize {
+        self.0.marks[turn_at(p)].into()
+    }
+
+    /// The present processors that wait for a lock.
+    pub fn waiters(self, lock: usize) -> impl Iterator<Item = usize> + 'a {
+        let present = 1..=self.processors().min(PROCESSORS);
+        present.filter(move |p| self.awaited(*p) == Some(lock))
+    }
+
+    /// Whether a processor has not arrived and waits for no lock.
+    pub fn acts(self, p: usize) -> bool {
+        !self.arrived(p) && self.awaited(p).is_none()
+    }
+
+    /// Whether no processor acts: each step is refused for good.
+    pub fn hangs(self) -> bool {
+        !(1..=self.processors().min(PROCESSORS)).any(|p| self.acts(p))
     }
 
     pub fn clock(self, row: usize) -> &'a [u8] {

@@ -37,7 +37,7 @@ pub fn any_step(random: &mut Random, s: State, habits: Habits) -> Step {
     } else if turn < read + write + lock {
         use_lock(random, s)
     } else if turn < read + write + lock + arrive {
-        step(ARRIVE, any_processor(random, s), 0, 0)
+        any_arrival(random, s)
     } else {
         step(WANT, any_processor(random, s), 0, 0)
     }
@@ -53,12 +53,12 @@ fn step(kind: u32, processor: usize, object: usize, value: u32) -> Step {
     }
 }
 
-/// A present processor, most often one that has not arrived.
+/// A present processor, most often one that may act.
 fn any_processor(random: &mut Random, s: State) -> usize {
     let mut p = 1;
     for _ in 0..4 {
         p = random.within(1, s.processors().clamp(1, PROCESSORS));
-        if !s.arrived(p) {
+        if s.acts(p) {
             break;
         }
     }
@@ -78,16 +78,47 @@ fn use_word(random: &mut Random, s: State, kind: u32) -> Step {
     step(kind, any_processor(random, s), word, value)
 }
 
-/// Mostly a held lock is freed by its holder and a free one taken.
+/// Mostly a free lock is taken, and one that is held is asked for or freed,
+/// in such a way that nobody hangs.
 fn use_lock(random: &mut Random, s: State) -> Step {
     let lock = random.below(s.locks().clamp(1, LOCKS));
-    if random.percent(8) {
-        let kind = random.pick(&[ACQUIRE, RELEASE]);
-        return step(kind, any_processor(random, s), lock, 0);
+    let p = any_processor(random, s);
+    match (keeper(s, lock), random.below(100)) {
+        (_, 0) => step(ACQUIRE, p, lock, 0),
+        (_, 1..=4) => step(RELEASE, p, lock, 0),
+        (None, _) => step(ACQUIRE, p, lock, 0),
+        (Some((keeper, held)), 5..=7) => step(ACQUIRE, keeper, held, 0),
+        (Some((keeper, _)), 8..=50) if keeper != p && s.acts(keeper) => step(ACQUIRE, p, lock, 0),
+        (Some((keeper, held)), _) => step(RELEASE, keeper, held, 0),
     }
-    match s.holder(lock) {
-        0 => step(ACQUIRE, any_processor(random, s), lock, 0),
-        holder => step(RELEASE, holder, lock, 0),
+}
+
+/// On whom a lock depends, and by which lock: its holder, or whom that one
+/// waits for, and so on. Where processors wait in a ring, one of them.
+fn keeper(s: State, mut lock: usize) -> Option<(usize, usize)> {
+    let mut found = None;
+    for _ in 0..PROCESSORS {
+        let holder = s.holder(lock);
+        if !(1..=PROCESSORS).contains(&holder) {
+            break;
+        }
+        found = Some((holder, lock));
+        match s.awaited(holder) {
+            Some(next) if next < LOCKS => lock = next,
+            _ => break,
+        }
+    }
+    found
+}
+
+/// An arrival, mostly after the locks for which others wait are freed.
+fn any_arrival(random: &mut Random, s: State) -> Step {
+    let p = any_processor(random, s);
+    let mut locks = 0..LOCKS;
+    let awaited = locks.find(|lock| s.holder(*lock) == p && s.waiters(*lock).next().is_some());
+    match awaited {
+        Some(lock) if random.percent(95) => step(RELEASE, p, lock, 0),
+        _ => step(ARRIVE, p, 0, 0),
     }
 }
 

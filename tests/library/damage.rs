@@ -16,7 +16,7 @@ pub fn check(tally: &mut Tally, reached: &Areas) {
     harmless(tally, reached);
 }
 
-// ---- where things lie (crates/memory/specs/Areas.antt)
+// ---- where things lie (crates/layout/specs/Areas.antt)
 
 /// The entry of processor q in a row of clocks; row 0 is the barrier's, row p processor p's.
 fn entry(row: usize, q: usize) -> usize {
@@ -49,16 +49,29 @@ fn slot(i: usize) -> usize {
 }
 
 fn arrived(p: usize) -> usize {
-    4 + p
+    5 + p
 }
 
-fn holder(l: usize) -> usize {
-    13 + l
+pub fn holder(l: usize) -> usize {
+    14 + l
 }
 
 fn dirty(p: usize, g: usize) -> usize {
-    29 + (p - 1) * 8 + g
+    30 + (p - 1) * 8 + g
 }
+
+/// The lock that a processor waits for, plus 1.
+pub fn awaited(p: usize) -> usize {
+    93 + p
+}
+
+/// How many of that lock's waiters stand before it.
+pub fn turn(p: usize) -> usize {
+    101 + p
+}
+
+/// The high byte of the number of standing records.
+const STANDING_HIGH: usize = 4;
 
 // ---- damage
 
@@ -66,8 +79,8 @@ fn dirty(p: usize, g: usize) -> usize {
 fn damages(reached: &Areas) -> Vec<(String, Areas)> {
     let mut all = Vec::new();
     let clocks: [(&str, usize, u8); 17] = [
-        ("an entry for an absent processor", entry(1, 4), 1),
-        ("a clock of an absent processor", entry(4, 1), 1),
+        ("an entry for an absent processor", entry(1, 6), 1),
+        ("a clock of an absent processor", entry(6, 1), 1),
         ("a clock of an absent lock", entry(lock_row(2), 1), 1),
         (
             "an applied clock of an absent page",
@@ -81,7 +94,7 @@ fn damages(reached: &Areas) -> Vec<(String, Areas)> {
         ),
         (
             "an interval's clock of an absent processor",
-            entry(interval_row(4, 1), 1),
+            entry(interval_row(6, 1), 1),
             1,
         ),
         (
@@ -128,11 +141,11 @@ fn damages(reached: &Areas) -> Vec<(String, Areas)> {
     let words = [
         ("a word of an absent page", copy(1, 2)),
         ("the last word of an absent page", copy(2, 7) + 31),
-        ("a word of an absent processor", copy(4, 0)),
+        ("a word of an absent processor", copy(6, 0)),
         ("the last word of an absent processor", copy(8, 7) + 31),
         ("a twin's word of an absent page", twin(1, 2)),
         ("the last twin's word of an absent page", twin(2, 7) + 31),
-        ("a twin's word of an absent processor", twin(4, 0)),
+        ("a twin's word of an absent processor", twin(6, 0)),
         ("the last word of all the twins", twin(8, 7) + 31),
     ];
     for (name, place) in words {
@@ -142,7 +155,7 @@ fn damages(reached: &Areas) -> Vec<(String, Areas)> {
     }
     let records: [(&str, usize, u8); 13] = [
         ("a record of nobody", slot(0), 0),
-        ("a record of an absent processor", slot(0), 4),
+        ("a record of an absent processor", slot(0), 6),
         ("a record of a processor that made no interval", slot(0), 2),
         ("a record's interval 0", slot(0) + 1, 0),
         ("a record's interval above the own entry", slot(0) + 1, 2),
@@ -164,7 +177,7 @@ fn damages(reached: &Areas) -> Vec<(String, Areas)> {
         areas.records[place] = byte;
         all.push((name.to_string(), areas));
     }
-    let marks: [(&str, usize, u8); 17] = [
+    let marks: [(&str, usize, u8); 32] = [
         ("no processors", 0, 0),
         ("nine processors", 0, 9),
         ("fewer processors than are used", 0, 2),
@@ -175,23 +188,62 @@ fn damages(reached: &Areas) -> Vec<(String, Areas)> {
         ("seventeen locks", 2, 17),
         ("a record standing that is none", 3, 3),
         ("129 records standing", 3, 129),
-        ("an absent processor has arrived", arrived(4), 1),
+        ("an absent processor has arrived", arrived(6), 1),
         ("an absent lock has a holder", holder(2), 1),
-        ("a lock held by an absent processor", holder(0), 4),
+        ("a lock held by an absent processor", holder(0), 6),
         ("a lock held by processor 255", holder(1), 255),
         ("an absent page is dirty", dirty(1, 2), 1),
-        ("a page of an absent processor is dirty", dirty(4, 0), 1),
+        ("a page of an absent processor is dirty", dirty(6, 0), 1),
         ("the last dirty mark", dirty(8, 7), 1),
+        ("258 records standing", STANDING_HIGH, 1),
+        ("an absent processor waits", awaited(6), 1),
+        ("the last processor waits", awaited(8), 1),
+        ("an absent processor has a turn", turn(6), 1),
+        ("the last turn", turn(8), 255),
+        ("a waiter of an absent lock", awaited(4), 3),
+        ("a waiter of lock 254", awaited(5), 255),
+        ("a waiter of a free lock", awaited(4), 2),
+        ("a line at a free lock", holder(0), 0),
+        ("a waiter that holds the lock", holder(0), 4),
+        ("a waiter that has arrived", arrived(5), 1),
+        ("two waiters with the first turn", turn(5), 0),
+        ("two waiters with the second turn", turn(4), 1),
+        ("a gap between two turns", turn(5), 2),
+        ("a first turn that nobody has", awaited(4), 0),
     ];
     for (name, place, byte) in marks {
         let mut areas = reached.clone();
         areas.marks[place] = byte;
         all.push((name.to_string(), areas));
     }
-    let mut areas = reached.clone();
-    areas.marks[arrived(1)] = 1;
-    areas.marks[arrived(2)] = 1;
-    all.push(("all have arrived".to_string(), areas));
+    let many: [(&str, &[(usize, u8)]); 3] = [
+        (
+            "all have arrived",
+            &[
+                (awaited(4), 0),
+                (awaited(5), 0),
+                (arrived(1), 1),
+                (arrived(2), 1),
+                (arrived(4), 1),
+                (arrived(5), 1),
+            ],
+        ),
+        (
+            "the holder waits for its own lock",
+            &[(awaited(2), 1), (turn(2), 2)],
+        ),
+        (
+            "one that has arrived waits",
+            &[(awaited(3), 1), (turn(3), 2)],
+        ),
+    ];
+    for (name, places) in many {
+        let mut areas = reached.clone();
+        places
+            .iter()
+            .for_each(|&(place, byte)| areas.marks[place] = byte);
+        all.push((name.to_string(), areas));
+    }
     all
 }
 
@@ -270,16 +322,27 @@ fn sweep(
 
 /// Changes of which "in order" says nothing: the step is done.
 fn harmless(tally: &mut Tally, reached: &Areas) {
-    let changes: [(&str, fn(&mut Areas)); 6] = [
+    let changes: [(&str, fn(&mut Areas)); 10] = [
         ("a word of a copy", |a| a.words[copy(3, 1)] = 1),
         ("a twin of a clean page", |a| a.words[twin(1, 0)] = 1),
         ("a slot behind the standing records", |a| {
             a.records[slot(2)] = 255
         }),
         ("the rest of a slot", |a| a.records[slot(0) + 134] = 255),
-        ("a wish of 255", |a| a.marks[4] = 255),
+        ("a wish of 255", |a| a.marks[5] = 255),
         ("own entry 62 with a dirty page", |a| {
             a.clocks[entry(2, 2)] = 62
+        }),
+        ("the turn of one who does not wait", |a| {
+            a.marks[turn(1)] = 255
+        }),
+        ("a waiter with a dirty page", |a| a.marks[dirty(4, 1)] = 1),
+        ("the line in another order", |a| {
+            (a.marks[turn(4)], a.marks[turn(5)]) = (1, 0)
+        }),
+        ("two that wait for each other", |a| {
+            a.marks[holder(1)] = 4;
+            a.marks[awaited(2)] = 2;
         }),
     ];
     for (name, change) in changes {

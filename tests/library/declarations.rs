@@ -8,7 +8,7 @@
 pub const CLOCKS: usize = 4744;
 pub const WORDS: usize = 4096;
 pub const RECORDS: usize = 17280;
-pub const MARKS: usize = 93;
+pub const MARKS: usize = 110;
 
 unsafe extern "C" {
     pub fn lughtsavi_open(

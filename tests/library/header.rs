@@ -20,6 +20,26 @@ pub fn check(tally: &mut Tally) {
     for (name, length) in lengths {
         tally.check(&format!("header: {name}"), defined(name) == Some(length));
     }
+    let refusals: Vec<usize> = (0..=14).chain([17]).collect();
+    tally.check("header: the refusals", refusals_named() == refusals);
+}
+
+/// The numbers of the enumeration of refusals, sorted.
+fn refusals_named() -> Vec<usize> {
+    let behind = HEADER.split("enum lughtsavi_refusal {").nth(1);
+    let inside = behind.and_then(|rest| rest.split('}').next());
+    let lines = inside.unwrap_or_default().lines();
+    let number = |line: &str| {
+        let (name, rest) = line.trim().split_once(" = ")?;
+        let digits = rest.split(|c: char| !c.is_ascii_digit()).next()?;
+        digits
+            .parse()
+            .ok()
+            .filter(|_| name.starts_with("LUGHTSAVI_"))
+    };
+    let mut numbers: Vec<usize> = lines.filter_map(number).collect();
+    numbers.sort();
+    numbers
 }
 
 /// The number that the header defines a name as.

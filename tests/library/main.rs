@@ -6,6 +6,7 @@ mod diffs;
 mod files;
 mod header;
 mod library;
+mod lines;
 mod openings;
 mod runs;
 mod steps;
@@ -41,6 +42,7 @@ fn main() -> ExitCode {
     runs::check(&mut tally);
     let reached = steps::reached(&mut tally);
     steps::check(&mut tally, &reached);
+    lines::check(&mut tally, &reached);
     damage::check(&mut tally, &reached);
     diffs::check(&mut tally);
     println!("{} passed, {} failed", tally.passed, tally.failed);

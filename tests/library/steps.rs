@@ -8,13 +8,13 @@ pub fn check(tally: &mut Tally, reached: &Areas) {
     refused_steps(tally, reached);
 }
 
-/// Three processors, two pages, two locks: processor 1 has made an interval with a record for each page, processor 2 holds lock 0, knows
-/// that interval and has page 0 dirty, processor 3 has arrived.
+/// Five processors, two pages, two locks: processor 1 has made an interval with a record for each page, processor 2 holds lock 0, knows
+/// that interval and has page 0 dirty, processor 3 has arrived, processors 4 and 5 wait for lock 0 in this order.
 pub fn reached(tally: &mut Tally) -> Areas {
     let mut areas = Areas::garbage(5);
-    let opened = open(&[0, 3, 2, 2, 0, 0, 0, 0], &mut areas);
+    let opened = open(&[0, 5, 2, 2, 0, 0, 0, 0], &mut areas);
     tally.check("reached state: opened", opened == 0);
-    let steps: [(Step, [u32; 3]); 8] = [
+    let steps: [(Step, [u32; 3]); 10] = [
         ((3, 1, 0, 0), [0, 0, 0]),
         ((2, 1, 0, 7), [0, 0, 0]),
         ((2, 1, 40, 0xffff_fffe), [0, 0, 0]),
@@ -23,6 +23,8 @@ pub fn reached(tally: &mut Tally) -> Areas {
         ((1, 2, 40, 0), [0, 0xffff_fffe, 1]),
         ((2, 2, 1, 9), [0, 0, 1]),
         ((5, 3, 0, 0), [0, 0, 0]),
+        ((3, 4, 0, 0), [0, 0, 0]),
+        ((3, 5, 0, 0), [0, 0, 0]),
     ];
     for (fields, expected) in steps {
         let mut answer = [77; 3];
@@ -52,15 +54,15 @@ fn answers_of_wrong_lengths(tally: &mut Tally, reached: &Areas) {
     }
 }
 
-/// The refusals 3 to 8, each in its place of the table: every byte is left as it was.
+/// The refusals 3 to 8 and 17, each in its place of the table: every byte is left as it was.
 fn refused_steps(tally: &mut Tally, reached: &Areas) {
-    let steps: [(u8, Step); 31] = [
+    let steps: [(u8, Step); 42] = [
         (3, (0, 1, 0, 0)),
         (3, (7, 1, 0, 0)),
         (3, (257, 1, 0, 0)),
         (3, (u32::MAX, u32::MAX, u32::MAX, u32::MAX)),
         (4, (1, 0, 0, 0)),
-        (4, (2, 4, 0, 5)),
+        (4, (2, 6, 0, 5)),
         (4, (3, 257, 0, 0)),
         (4, (6, u32::MAX, 1, 1)),
         (5, (1, 1, 64, 0)),
@@ -82,7 +84,18 @@ fn refused_steps(tally: &mut Tally, reached: &Areas) {
         (6, (4, 3, 0, 0)),
         (6, (5, 3, 0, 0)),
         (6, (6, 3, 0, 0)),
-        (7, (3, 1, 0, 0)),
+        (3, (7, 4, 0, 0)),
+        (5, (1, 4, 64, 0)),
+        (5, (3, 5, 2, 0)),
+        (17, (1, 4, 0, 0)),
+        (17, (2, 4, 0, 5)),
+        (17, (3, 4, 0, 0)),
+        (17, (3, 4, 1, 0)),
+        (17, (3, 5, 0, 0)),
+        (17, (4, 4, 0, 0)),
+        (17, (4, 5, 1, 0)),
+        (17, (5, 4, 0, 0)),
+        (17, (6, 5, 0, 0)),
         (7, (3, 2, 0, 0)),
         (8, (4, 1, 0, 0)),
         (8, (4, 2, 1, 0)),

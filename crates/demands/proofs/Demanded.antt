@@ -2,7 +2,7 @@
 use Prim.Native.Nat.{ℕ, suc, _+_, _<_}
 use native.Mathlib.Omega.{arith}
 use mathlib.Core.Path.{_≡_, refl, sym, ap, _∙_}
-use mathlib.Core.Bool.{Bool, true, false, cond, false≢true}
+use mathlib.Core.Bool.{Bool, true, false, cond, _&&_, false≢true}
 use mathlib.Core.List.{List}
 use mathlib.Core.Option.{Option, none}
 use mathlib.Core.Logic.{_↔_}
@@ -22,7 +22,6 @@ use Rattle.rules.specs.Demand.{ReadsJudged, DemandThree}
 use Rattle.rules.specs.InOrder.{dirtyPages, inOrder}
 use Rattle.rules.specs.Opening.{opened}
 use Rattle.rules.specs.Refusals.{Step, actionOf, Answer, refusedAs, effect, refusalInOrder, answerInOrder, refusal, answer, next}
-use Rattle.rules.specs.Runs.{answers}
 use Rattle.rules.specs.State.{mainframe, State, dirtyAt, own}
 use Rattle.rules.specs.Steps.{pageOfWord}
 use Rattle.rules.proofs.DemandThree.{demand-three}
@@ -32,7 +31,8 @@ use Rattle.rules.proofs.inorder.InOrderWhen.{in-order-when}
 use Rattle.rules.proofs.demand.ListRuns.{answer-refusal}
 use Rattle.rules.proofs.Space.{WriteSoFar, nine-exactly-when, ten-exactly-when}
 use Rattle.layout.specs.Areas.{Areas, areas, heldBy, holding, rightSizes, stateIn, marksIn}
-use Rattle.layout.proofs.Encoding.{held-again, right-lent}
+use Rattle.inorder.specs.Areas.{areasInOrder}
+use Rattle.layout.proofs.Encoding.{holding-is, right-lent}
 use Rattle.opening.specs.Promises.{openingOf, openRefusal, areasOpened}
 use Rattle.opening.proofs.Following.{accepted-opening}
 use Rattle.engine.specs.Promises.{answerOf, areasAfter}
@@ -77,22 +77,29 @@ ruled-refusal s t = go (inOrder mainframe s)
 
 -- ---- areas
 
--- areas of the right sizes hold the areas that their state gives
-again : (a : Areas) → rightSizes a ≡ true → holding (heldBy a) ≡ a
+-- areas in order are those that their state gives
+again : (a : Areas) → Sound a → holding (heldBy a) ≡ a
 unfolding rightSizes heldBy areas
-again a e = held-again (a .clocks) (a .words) (a .records) (a .marks) (right-lent (a .clocks) (a .words) (a .records) (a .marks) e)
+again a h =
+    sym (holding-is (a .clocks) (a .words) (a .records) (a .marks) (heldBy a)
+    (record { lent = right-lent (a .clocks) (a .words) (a .records) (a .marks) (h .sizes); is = refl }) (in-order-says mainframe (heldBy a) (h .in-order)))
 
 -- areas in order hold a state that steps carry on
 carried : (a : Areas) → Sound a → Carried (heldBy a)
 unfolding heldBy stateIn marksIn
-carried a h = record { in-order = in-order-says mainframe (heldBy a) (h .in-order); nobody = refl }
+carried a h = record { in-order = in-order-says mainframe (heldBy a) (h .in-order); nobody = record { arrived = refl; awaited = refl; turn = refl } }
 
--- the areas after a step on areas of the right sizes
-after-held : (a : Areas) (t : Step) → rightSizes a ≡ true → areasAfter a t ≡ holding (next mainframe (heldBy a) t)
-unfolding areasAfter
-after-held a t e = ap (λ (b : Bool). cond b (holding (next mainframe (heldBy a) t)) a) e
+-- the areas after a step on areas in order
+after-held : (a : Areas) (t : Step) → Sound a → areasAfter a t ≡ holding (next mainframe (heldBy a) t)
+unfolding areasAfter areasInOrder rightSizes heldBy next
+after-held a t h = rw (h .sizes, h .in-order)
 
--- its answer
+-- areas that are not in order stay as they are
+left-alone : (a : Areas) (t : Step) → (rightSizes a && inOrder mainframe (heldBy a)) ≡ false → areasAfter a t ≡ a
+unfolding areasAfter areasInOrder rightSizes heldBy
+left-alone a t e = rw e
+
+-- the answer of a step
 answer-held : (a : Areas) (t : Step) → rightSizes a ≡ true → answerOf a t ≡ answer mainframe (heldBy a) t
 unfolding answerOf
 answer-held a t e = ap (λ (b : Bool). cond b (answer mainframe (heldBy a) t) (refusedAs 1)) e
@@ -124,15 +131,17 @@ refused-answer a t = go (rightSizes a)
     go false h = refl
 
 refused-step : (a : Areas) (t : Step) → (answerOf a t .refusal ≡ 0 → ⊥) → areasAfter a t ≡ a
-unfolding areasAfter
-refused-step a t h = go (rightSizes a) refl
+refused-step a t h = go (rightSizes a) (inOrder mainframe (heldBy a)) refl refl
   where
-    go : (b : Bool) → rightSizes a ≡ b → cond b (holding (next mainframe (heldBy a) t)) a ≡ a
-    go false e = refl
-    go true e =
-        ap (λ (s : State). holding s)
+    go : (b d : Bool) → rightSizes a ≡ b → inOrder mainframe (heldBy a) ≡ d → areasAfter a t ≡ a
+    go false d e f = left-alone a t (rw e)
+    go true false e f = left-alone a t (rw (e, f))
+    go true true e f =
+        let fine : Sound a = record { sizes = e; in-order = f } in
+        after-held a t fine
+        ∙ ap (λ (s : State). holding s)
         (refused-leaves-state mainframe (heldBy a) t (λ z. h (ap (λ (x : Answer). x .refusal) (answer-held a t e) ∙ ruled-refusal (heldBy a) t ∙ z)))
-        ∙ again a e
+        ∙ again a fine
 
 -- where a number is not 0 the second of two is chosen
 not-chosen : {A : Type 0} (n : ℕ) (x y : A) → (n ≡ 0 → ⊥) → cond (eqb n 0) x y ≡ y
@@ -173,7 +182,7 @@ module _ (a : Areas) (t : Step) (w v : ℕ) (h : WriteComes a t w v) where
   -- the same of the state
   so-far : WriteSoFar mainframe (heldBy a) t w v
   unfolding mainframe
-  so-far = record { action = h .action; processor-present = h .processor-present; word-present = h .word-present; not-arrived = h .not-arrived }
+  so-far = record { action = h .action; processor-present = h .processor-present; word-present = h .word-present; not-arrived = h .not-arrived; not-waiting = h .not-waiting }
 
   -- the refusal is that of the table
   refused-by-table : answerOf a t .refusal ≡ refusalInOrder mainframe (heldBy a) t
@@ -230,8 +239,8 @@ demand-two =
           λ bytes a e. rw (opened-held bytes a e) (laid-sound (opened mainframe (openingOf bytes .counts)) (first-carried bytes a e));
       step-answer = λ a t h. answer-held a t (h .sizes);
       step-state =
-          λ a t h. ap heldBy (after-held a t (h .sizes)) ∙ carried-held (next mainframe (heldBy a) t) (next-carried (heldBy a) t (carried a h));
-      step-sound = λ a t h. rw (after-held a t (h .sizes)) (laid-sound (next mainframe (heldBy a) t) (next-carried (heldBy a) t (carried a h)));
+          λ a t h. ap heldBy (after-held a t h) ∙ carried-held (next mainframe (heldBy a) t) (next-carried (heldBy a) t (carried a h));
+      step-sound = λ a t h. rw (after-held a t h) (laid-sound (next mainframe (heldBy a) t) (next-carried (heldBy a) t (carried a h)));
       written-applied = applying-what-is-written pageWidth;
       read-exactly = λ bytes b. from-pages bytes (exactly-the-written-form pageWidth bytes b);
       one-form = λ bytes other b c r s same. one-form pageWidth bytes other b c r s (λ i h. ap (λ (d : List (Option ℕ)). getD d i none) same);

@@ -24,6 +24,7 @@ use Rattle.rules.specs.InOrder.{present, dirtyPages, inOrder}
 use Rattle.rules.specs.Opening.{Opening, openingRefusal, opened}
 use Rattle.rules.specs.Refusals.{Step, Write, actionOf, refusedAs, answer, next}
 use Rattle.rules.specs.Runs.{answers}
+use Rattle.rules.specs.Lines.{waits}
 use Rattle.rules.specs.State.{mainframe, dirtyAt, own, hasArrived}
 use Rattle.rules.specs.Steps.{pageOfWord}
 use Rattle.layout.specs.Areas.{Areas, heldBy, rightSizes}
@@ -51,6 +52,7 @@ pub record WriteComes (a : Areas) (t : Step) (w v : ℕ) : Type 0 where
   pub processor-present : present (heldBy a) (t .processor) ≡ true
   pub word-present : w < heldBy a .counts .pages * pageWidth
   pub not-arrived : hasArrived (heldBy a) (t .processor) ≡ false
+  pub not-waiting : waits (heldBy a .marks) (t .processor) ≡ false
 
 -- ---- demand 1: "A bad one is refused by its number, with value 0, count 0 and all lent memory unchanged. A write is refused for lack of space
 -- only when it must be"

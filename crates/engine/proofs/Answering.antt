@@ -10,12 +10,13 @@ use borrow.Author.Tests.{not-false}
 use borrow.Author.Needs.{needs}
 use Rattle.limits.specs.inner.Sizes.{markArea}
 use Rattle.rules.specs.InOrder.{inOrder}
-use Rattle.rules.specs.Refusals.{Step, refusedAs, answerInOrder, nextInOrder, answer, next}
+use Rattle.rules.specs.Refusals.{Step, refusedAs, answerInOrder, nextInOrder, answer}
 use Rattle.rules.specs.State.{mainframe, State}
 use Rattle.rules.proofs.inorder.InOrderSays.{in-order-says}
+use Rattle.rules.proofs.inorder.Kept.{next-keeps-order}
 use Rattle.layout.specs.Areas.{stateIn, sizesRight, areas, heldBy, holding, rightSizes}
 use Rattle.layout.specs.inner.Needed.{Ready}
-use Rattle.layout.proofs.Encoding.{right-lent, held-again, holding-is}
+use Rattle.layout.proofs.Encoding.{right-lent, holding-is}
 use Rattle.inorder.specs.Areas.{areasInOrder, OrderIs}
 use Rattle.fetch_index.specs.inner.Index.{unranked}
 use Rattle.fetch_index.proofs.Kept.{new-kept}
@@ -42,18 +43,8 @@ module _ (c w r m : List ℕ) (t : Step) where
 
   -- the areas by the same test
   areas-by-test : areasAfter (areas c w r m) t ≡ cond (areasInOrder c w r m) (holding (nextInOrder mainframe (stateIn mainframe c w r m) t)) (areas c w r m)
-  unfolding areasAfter next areas heldBy rightSizes areasInOrder
-  areas-by-test = go (sizesRight mainframe c w r m) (inOrder mainframe (stateIn mainframe c w r m)) refl
-    where
-      s : State
-      s = stateIn mainframe c w r m
-
-      go : (b d : Bool) → sizesRight mainframe c w r m ≡ b
-          → cond b (holding (cond d (nextInOrder mainframe s t) s)) (areas c w r m)
-          ≡ cond (b && d) (holding (nextInOrder mainframe s t)) (areas c w r m)
-      go true true e = refl
-      go true false e = held-again c w r m (right-lent c w r m e)
-      go false d e = refl
+  unfolding areasAfter areas heldBy
+  areas-by-test = refl
 
 module _ (c w r m : List ℕ) (b : Bool) (e : OrderIs b c w r m) where
   module _ (t : Step) (z : not b ≡ true) where
@@ -93,7 +84,7 @@ module _ (c w r m : List ℕ) (b : Bool) (e : OrderIs b c w r m) where
       -- the step's areas
       pub in-order-after : areas c′ w′ r′ m′ ≡ areasAfter (areas c w r m) t
       in-order-after =
-          holding-is c′ w′ r′ m′ (nextInOrder mainframe (stateIn mainframe c w r m) t) (d .areas)
+          holding-is c′ w′ r′ m′ (nextInOrder mainframe (stateIn mainframe c w r m) t) (d .areas) (next-keeps-order mainframe (stateIn mainframe c w r m) t (ready-when-fine .in-order))
           ∙ ap (λ (y : Bool). cond y (holding (nextInOrder mainframe (stateIn mainframe c w r m) t)) (areas c w r m)) (sym fine)
           ∙ sym (areas-by-test c w r m t)
 

@@ -13,7 +13,7 @@ use Rattle.rules.specs.State.{mainframe, State, own}
 use Rattle.rules.proofs.inorder.Kept.{next-keeps-order}
 use Rattle.layout.specs.Areas.{stateIn, areas, holding}
 use Rattle.layout.specs.inner.Needed.{Ready, OwnEntry, ClocksOf}
-use Rattle.layout.proofs.Encoding.{held-again, holding-is}
+use Rattle.layout.proofs.Encoding.{holding-is}
 use Rattle.refusals.specs.inner.Bounds.{boundsOf}
 use Rattle.refusals.specs.inner.Parts.{seen, stepFits, earlyRefusal, refusalOfKind}
 use Rattle.refusals.specs.inner.Needed.{MarksCountable, BoundsOf, FittingStep}
@@ -160,8 +160,8 @@ stepped-ready c w r m t x c′ w′ r′ m′ h d =
 pub refused-leaves-areas : (c w r m : List ℕ) (t : Step) (n : ℕ) (x : Outcome) (c′ w′ r′ m′ : List ℕ) → Ready c w r m → RefusalIs (stateIn mainframe c w r m) t n
     → (n ≡ 0 → ⊥) → SteppedAs (stateIn mainframe c w r m) t x c′ w′ r′ m′ → areas c′ w′ r′ m′ ≡ areas c w r m
 refused-leaves-areas c w r m t n x c′ w′ r′ m′ h e z d =
-    holding-is c′ w′ r′ m′ (nextInOrder mainframe (stateIn mainframe c w r m) t) (d .areas)
+    holding-is c′ w′ r′ m′ (nextInOrder mainframe (stateIn mainframe c w r m) t) (d .areas) (next-keeps-order mainframe (stateIn mainframe c w r m) t (h .in-order))
     ∙ ap (λ (s : State). holding s) (refused-next (stateIn mainframe c w r m) t n (e .is) z)
-    ∙ held-again c w r m (h .lent)
+    ∙ sym (holding-is c w r m (stateIn mainframe c w r m) (record { lent = h .lent; is = refl }) (h .in-order))
 
 pub ruleset stepping-laws = (bounds-within, marks-counted, bounds-lent, refused-early, step-fits, own-there, refused-late, ready-refusable, step-refused, step-done, needs)

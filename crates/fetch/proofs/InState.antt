@@ -4,7 +4,7 @@ use native.Mathlib.Omega.{arith}
 use mathlib.Core.Path.{_≡_, refl, sym, ap, _∙_}
 use mathlib.Core.List.{List, _∷_, map}
 use lib.ListN.{take}
-use Rattle.lists.specs.Tables.{select, sortBy}
+use Rattle.lists.specs.Tables.{select, sortBy, tabulate}
 use Rattle.limits.specs.Limits.{recordLimit}
 use Rattle.limits.specs.inner.Sizes.{clockWidth, diffLimit, slotWidth}
 use Rattle.clock.specs.Clocks.{entryOf}
@@ -13,11 +13,11 @@ use Rattle.rules.specs.InOrder.{slotSize, recordAt}
 use Rattle.rules.specs.State.{mainframe, Processor, Applied, clockOf, Record, recordIn, recordsOf, State, clock, standing}
 use Rattle.rules.proofs.inorder.Facts.{Within}
 use Rattle.layout.specs.Areas.{appliedRow, clockRow, clocksIn, recordsIn, stateIn, standingCount}
-use Rattle.layout.specs.Layout.{rowOf, tabulate}
+use Rattle.layout.specs.Layout.{rowOf}
 use Rattle.layout.specs.inner.Marks.{recordOf, slotLength}
 use Rattle.layout.specs.inner.Needed.{OnPage, Ready}
 use Rattle.layout.proofs.ClockLaws.{clock-read}
-use Rattle.layout.proofs.RowLaws.{tabulate-same, map-tabulate}
+use Rattle.lists.proofs.Tabulated.{tabulate-same, map-tabulate}
 use Rattle.layout.proofs.SlotLaws.{slot-read, record-read}
 use Rattle.fetch_index.specs.inner.Needed.{SlotsSound}
 use Rattle.fetch_index.proofs.InState.{slots-sound}

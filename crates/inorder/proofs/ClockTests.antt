@@ -16,7 +16,7 @@ use Rattle.limits.specs.Limits.{intervalLimit, lockLimit, pageLimit, processorL
 use Rattle.limits.specs.inner.Sizes.{clockArea, clockWidth, firstAppliedRow, firstIntervalRow, firstLockRow, ownStep}
 use Rattle.layout.specs.Layout.{rowOf}
 use Rattle.layout.specs.inner.Needed.{RowThere}
-use Rattle.layout.proofs.RowLaws.{length-tabulate, get-tabulate}
+use Rattle.lists.proofs.Tabulated.{length-tabulate, get-tabulate}
 use Rattle.inorder_marks.specs.inner.Tests.{zeroAt, pagesOf}
 use Rattle.inorder_marks.specs.inner.Needed.{PlacesThere}
 use Rattle.inorder_records.specs.inner.Tests.{ownFits}

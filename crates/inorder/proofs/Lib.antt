@@ -2,10 +2,12 @@ pub mod ClockTests
 pub mod WordTests
 pub mod AreaTests
 pub mod PlaceFacts
+pub mod PlaceLines
 pub mod StateReads
 pub mod ClocksSay
-pub mod MarksSay
 pub mod ClocksWhen
+pub mod LineConditions
+pub mod MarksSay
 pub mod ClockConditions
 pub mod PageConditions
 pub mod RecordConditions

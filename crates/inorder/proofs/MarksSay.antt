@@ -27,6 +27,7 @@ use Rattle.inorder.specs.inner.Tests.{ownEntries, countsHold, areasHoldW
 use Rattle.inorder.proofs.PlaceFacts.{marks-zero-when}
 use Rattle.inorder.proofs.StateReads.{own-read, dirty-mark-read, arrived-mark-read, holder-mark-read, dirty-pages-read, record-processor, record-interval, record-page, record-length, record-diff, same-notice-read, present-read, page-present-read, lock-present-read, own-of-read}
 use Rattle.inorder.proofs.ClocksSay.{clocks-say, copies-say, twins-say}
+use Rattle.inorder.proofs.LineConditions.{lines-say}
 
 module _ (c w r m : List ℕ) (o : InOrder mainframe (stateIn mainframe c w r m)) where
   -- ---- marks
@@ -86,7 +87,7 @@ module _ (c w r m : List ℕ) (o : InOrder mainframe (stateIn mainframe c w r m)
 
   marks-say : marksHoldWith (ownEntries c) m (processorCount m) (pageCount m) (lockCount m) (standingCount m) ≡ true
   unfolding marksHoldWith
-  marks-say = rw (dirty-say, holders-say, arrived-say, room-say)
+  marks-say = rw (dirty-say, holders-say, arrived-say, lines-say c w r m o, room-say)
 
   -- ---- records
 

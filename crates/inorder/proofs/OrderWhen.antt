@@ -19,7 +19,7 @@ use Rattle.layout.specs.Areas.{stateIn, standingCount}
 use Rattle.layout.specs.inner.Needed.{Lent}
 use Rattle.layout.specs.inner.Marks.{lockCount, pageCount, processorCount}
 use Rattle.layout.proofs.Encoding.{lent-sized, lent-right}
-use Rattle.inorder_marks.specs.inner.Tests.{dirtyHold, holdersHold, arrivedHold, roomHolds, marksHoldWith}
+use Rattle.inorder_marks.specs.inner.Tests.{dirtyHold, holdersHold, arrivedHold, roomHolds, linesHold, marksHoldWith}
 use Rattle.inorder_records.specs.inner.Tests.{recordsHoldWith}
 use Rattle.inorder.specs.Areas.{areasInOrder}
 use Rattle.inorder.specs.inner.Tests.{ownEntries, clocksHoldWith, wordsHold, countsHold, areasHoldWith, areasHold}
@@ -30,6 +30,7 @@ use Rattle.inorder.proofs.ClocksWhen.{held, ClocksPass, clocks-pass}
 use Rattle.inorder.proofs.ClockConditions.{absent-clocks, absent-entries, later-intervals-when, entries-known-when, applied-known-when}
 use Rattle.inorder.proofs.PageConditions.{absent-copies, absent-twins, absent-clean, dirty-have-interval-when, absent-not-held, holders-present-when, absent-not-arrived, someone-missing-when, room-kept-when}
 use Rattle.inorder.proofs.RecordConditions.{records-sound-when}
+use Rattle.inorder.proofs.LineConditions.{absent-awake, absent-turn, lines-sound-when}
 
 -- the tests on the four areas pass
 record AreasPass (c w r m : List ℕ) (processors pages locks standing : ℕ) : Type 0 where
@@ -39,6 +40,7 @@ record AreasPass (c w r m : List ℕ) (processors pages locks standing : ℕ) : 
   pub dirty : every processorLimit (dirtyHold (ownEntries c) m processors pages) ≡ true
   pub holders : holdersHold m processors locks ≡ true
   pub arrived : arrivedHold m processors ≡ true
+  pub lines : linesHold m processors locks ≡ true
   pub room : roomHolds m processors pages standing ≡ true
   pub records : recordsHoldWith (ownEntries c) r processors pages standing ≡ true
 
@@ -52,23 +54,26 @@ areas-pass c w r m processors pages locks standing e =
     let dirty : Bool = every processorLimit (dirtyHold (ownEntries c) m processors pages) in
     let holders : Bool = holdersHold m processors locks in
     let arrived : Bool = arrivedHold m processors in
+    let lines : Bool = linesHold m processors locks in
     let room : Bool = roomHolds m processors pages standing in
     let records : Bool = recordsHoldWith (ownEntries c) r processors pages standing in
-    let marks : Bool = dirty && (holders && (arrived && room)) in
+    let marks : Bool = dirty && (holders && (arrived && (lines && room))) in
     let a = and-right clocks (copies && (twins && (marks && records))) e in
     let t = and-right copies (twins && (marks && records)) a in
     let b = and-right twins (marks && records) t in
     let d = and-left marks records b in
-    let f = and-right dirty (holders && (arrived && room)) d in
-    let g = and-right holders (arrived && room) f in
+    let f = and-right dirty (holders && (arrived && (lines && room))) d in
+    let g = and-right holders (arrived && (lines && room)) f in
+    let h = and-right arrived (lines && room) g in
     record {
       clocks = clocks-pass c processors pages locks (and-left clocks (copies && (twins && (marks && records))) e);
       copies = and-left copies (twins && (marks && records)) a;
       twins = and-left twins (marks && records) t;
-      dirty = and-left dirty (holders && (arrived && room)) d;
-      holders = and-left holders (arrived && room) f;
-      arrived = and-left arrived room g;
-      room = and-right arrived room g;
+      dirty = and-left dirty (holders && (arrived && (lines && room))) d;
+      holders = and-left holders (arrived && (lines && room)) f;
+      arrived = and-left arrived (lines && room) g;
+      lines = and-left lines room h;
+      room = and-right lines room h;
       records = and-right marks records b;
     }
 
@@ -98,6 +103,8 @@ module _ (c w r m : List ℕ) (lent : Lent c w r m) where
       (absent-clean c w r m (z .dirty))
       (absent-not-arrived c w r m (z .arrived))
       (absent-not-held c w r m (z .holders))
+      (absent-awake c w r m (z .lines))
+      (absent-turn c w r m (z .lines))
 
   areas-when : areasHold c w r m ≡ true → inOrder mainframe (held c w r m) ≡ true
   unfolding areasHold orderTests Given
@@ -126,6 +133,7 @@ module _ (c w r m : List ℕ) (lent : Lent c w r m) where
           (dirty-have-interval-when c w r m (z .dirty))
           (holders-present-when c w r m (z .holders))
           (someone-missing-when c w r m (z .arrived) (fit .processors-fit))
+          (lines-sound-when c w r m (z .lines) (fit .processors-fit) (fit .locks-fit))
 
   -- in areas of the fixed sizes the tests on places are the rules' test
   pub areas-hold-in-order : areasHold c w r m ≡ areasInOrder c w r m

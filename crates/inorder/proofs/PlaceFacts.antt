@@ -13,7 +13,7 @@ use Rattle.lists.proofs.Tables.{every-at, every-holds}
 use Rattle.limits.specs.Limits.{pageLimit, pageWidth, processorLimit}
 use Rattle.limits.specs.inner.Sizes.{clockWidth, ownStep}
 use Rattle.clock.specs.Clocks.{zeros}
-use Rattle.layout.proofs.RowLaws.{get-tabulate}
+use Rattle.lists.proofs.Tabulated.{get-tabulate}
 use Rattle.inorder_marks.specs.inner.Tests.{zeroAt}
 use Rattle.inorder.specs.inner.Tests.{entryWithin, rowWithin, rowsHold, ownEntries}
 

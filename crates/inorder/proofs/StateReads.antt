@@ -11,20 +11,22 @@ use Rattle.lists.specs.Tables.{total}
 use Rattle.lists.proofs.Tables.{total-same}
 use Rattle.limits.specs.Limits.{lockLimit, pageLimit, pageWidth, processorLimit, recordLimit}
 use Rattle.limits.specs.Places.{firstArrived}
-use Rattle.limits.specs.inner.Sizes.{clockWidth, copyLimit, diffLimit, firstDirty, firstHolder, slotWidth}
+use Rattle.limits.specs.inner.Sizes.{clockWidth, copyLimit, diffLimit, firstAwaited, firstDirty, firstHolder, firstTurn, slotWidth}
 use Rattle.clock.specs.Clocks.{entryOf}
 use Rattle.rules.specs.InOrder.{present, presentHolder, recordAt, sameNotice, dirtyPages}
+use Rattle.rules.specs.Lines.{turnOf}
 use Rattle.rules.specs.State.{mainframe, Holder, Processor, Lock, Applied, clockOf, copyOf, twinOf, dirtyAt, Record, recordIn, clock, own, holder, hasArrived}
 use Rattle.rules.proofs.inorder.Facts.{Within}
-use Rattle.layout.specs.Areas.{clockRow, copyRow, twinRow, arrivedPlace, holderPlace, dirtyPlace, stateIn}
+use Rattle.rules.proofs.state.Waiters.{awaits}
+use Rattle.layout.specs.Areas.{clockRow, copyRow, twinRow, arrivedPlace, holderPlace, dirtyPlace, awaitedPlace, turnPlace, stateIn}
 use Rattle.layout.specs.Layout.{rowOf}
 use Rattle.layout.specs.inner.Marks.{lockCount, pageCount, processorCount, slotInterval, slotLength, slotPage, slotProcessor}
 use Rattle.layout.proofs.ClockLaws.{clock-read}
-use Rattle.layout.proofs.MarkLaws.{arrived-read, holder-read}
+use Rattle.layout.proofs.MarkLaws.{arrived-read, holder-read, awaited-read, turn-read}
 use Rattle.layout.proofs.PageLaws.{copy-read, twin-read, dirty-read}
 use Rattle.layout.proofs.RowLaws.{get-row}
 use Rattle.layout.proofs.SlotLaws.{slot-read, slot-byte, record-read}
-use Rattle.inorder_marks.specs.inner.Tests.{zeroAt, pagesOf, dirtyCount, dirtyOf}
+use Rattle.inorder_marks.specs.inner.Tests.{zeroAt, pagesOf, dirtyCount, dirtyOf, awaitedByte, turnByte}
 use Rattle.inorder_records.specs.inner.Tests.{noticesDiffer}
 use Rattle.inorder.specs.inner.Tests.{ownEntries}
 use Rattle.inorder.proofs.PlaceFacts.{own-entry}
@@ -67,7 +69,7 @@ dirty-mark-read c w r m k g a b =
 pub arrived-mark-read : (c w r m : List ℕ) (k : ℕ) → k < processorLimit → hasArrived (stateIn mainframe c w r m) (suc k) ≡ not (zeroAt m firstArrived k)
 unfolding hasArrived zeroAt arrivedPlace mainframe
 arrived-mark-read c w r m k a =
-    let place : arrivedPlace mainframe (suc k) ≡ 5 + k = omega arith in
+    let place : arrivedPlace mainframe (suc k) ≡ firstArrived + k = omega arith in
     ap (λ (x : ℕ). not (eqb x 0)) (arrived-read c w r m (suc k) (omega arith) a ∙ ap (λ (i : ℕ). getD m i 0) place)
 
 -- the holder of a lock
@@ -76,6 +78,20 @@ unfolding holder holderPlace mainframe
 holder-mark-read c w r m l a =
     let place : holderPlace mainframe l ≡ firstHolder + l = omega arith in
     holder-read c w r m l a ∙ ap (λ (i : ℕ). getD m i 0) place
+
+-- the lock that a processor waits for, plus 1
+pub awaited-mark-read : (c w r m : List ℕ) (k : ℕ) → k < processorLimit → awaits (stateIn mainframe c w r m .marks) k ≡ awaitedByte m k
+unfolding awaitedPlace mainframe
+awaited-mark-read c w r m k a =
+    let place : awaitedPlace mainframe (suc k) ≡ firstAwaited + k = omega arith in
+    awaited-read c w r m (suc k) (omega arith) a ∙ ap (λ (i : ℕ). getD m i 0) place
+
+-- its turn
+pub turn-mark-read : (c w r m : List ℕ) (k : ℕ) → k < processorLimit → turnOf (stateIn mainframe c w r m .marks) (suc k) ≡ turnByte m k
+unfolding turnOf turnPlace mainframe
+turn-mark-read c w r m k a =
+    let place : turnPlace mainframe (suc k) ≡ firstTurn + k = omega arith in
+    turn-read c w r m (suc k) (omega arith) a ∙ ap (λ (i : ℕ). getD m i 0) place
 
 -- the dirty pages of all processors
 pub dirty-pages-read : (c w r m : List ℕ) → processorCount m ≤ processorLimit → pageCount m ≤ pageLimit → dirtyPages (stateIn mainframe c w r m) ≡ total (processorCount m) (dirtyOf m (pageCount m))

@@ -1,1 +1,2 @@
 pub mod MarkTests
+pub mod LineTests

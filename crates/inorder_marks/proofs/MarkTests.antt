@@ -15,7 +15,7 @@ use Rattle.lists.proofs.Passing.{Passed, passed-none, pass-one, fail-one, passe
 use Rattle.limits.specs.Limits.{intervalLimit, lockLimit, pageLimit, processorLimit, recordLimit}
 use Rattle.limits.specs.Places.{firstArrived}
 use Rattle.limits.specs.inner.Sizes.{firstDirty, firstHolder, markArea}
-use Rattle.inorder_marks.specs.inner.Tests.{zeroAt, pagesOf, mayBeDirty, dirtyHold, holderWithin, holdersHold, arrivedHold, dirtyCount, dirtyOf, roomHolds, marksHoldWith}
+use Rattle.inorder_marks.specs.inner.Tests.{zeroAt, pagesOf, mayBeDirty, dirtyHold, holderWithin, holdersHold, arrivedHold, dirtyCount, dirtyOf, roomHolds, linesHold, marksHoldWith}
 use Rattle.inorder_marks.specs.inner.Needed.{PlacesThere, MarksOne}
 
 -- ---- places that are 0
@@ -188,7 +188,7 @@ room-is m processors pages standing d e = rw e
 
 -- the tests of all marks, one after the other
 pub marks-is : (own m : List ℕ) (processors pages locks standing : ℕ) (r : Bool)
-    → r ≡ (every processorLimit (dirtyHold own m processors pages) && (holdersHold m processors locks && (arrivedHold m processors && roomHolds m processors pages standing)))
+    → r ≡ (every processorLimit (dirtyHold own m processors pages) && (holdersHold m processors locks && (arrivedHold m processors && (linesHold m processors locks && roomHolds m processors pages standing))))
     → r ≡ marksHoldWith own m processors pages locks standing
 unfolding marksHoldWith
 marks-is own m processors pages locks standing r e = e

@@ -1,5 +1,7 @@
-// The tests of the marks: dirty pages, holders of locks, arrivals, and room for the records. `zeros_at` and `pages_of` are for the tests of
-// other areas too. Each contract is an equation with a definition of specs/Tests.antt.
+// The tests of the marks: dirty pages, holders of locks, arrivals, lines of waiters, and room for the records. `zeros_at` and `pages_of` are
+// for the tests of other areas too. Each contract is an equation with a definition of specs/Tests.antt.
+mod waiters;
+
 ghost use mathlib.Core.Path.{_≡_};
 ghost use Prim.Native.Nat.{_<_, _≤_};
 ghost use lib.ListN.{length};
@@ -9,6 +11,7 @@ ghost use Rattle.limits.specs.Places.{firstArrived};
 ghost use Rattle.limits.specs.inner.Sizes.{copyLimit, markArea};
 ghost use Rattle.inorder_marks.specs.inner.Tests.{zeroAt, pagesOf, mayBeDirty, dirtyHold, holderWithin, holdersHold, arrivedHold, dirtyOf, roomHolds, marksHoldWith};
 ghost use Rattle.inorder_marks.specs.inner.Needed.{PlacesThere, MarksOne, MarksThere};
+use crate::waiters::lines_hold;
 use layout::wide;
 use limits::CLOCK_WIDTH;
 use limits::FIRST_ARRIVED;
@@ -39,6 +42,9 @@ pub fn marks_hold(
         return false;
     }
     if !arrived_hold(marks, processors) {
+        return false;
+    }
+    if !lines_hold(marks, processors, locks) {
         return false;
     }
     room_holds(marks, processors, pages, standing)

@@ -8,17 +8,18 @@ use mathlib.Core.List.{List, [], map}
 use lib.ListN.{length, replicate}
 use lib.Seq.{sets}
 use lib.Dec.{eqb}
-use Rattle.lists.specs.Tables.{put, putCell}
+use Rattle.lists.specs.Tables.{put, putCell, tabulate}
 use Rattle.limits.specs.Limits.{intervalLimit, lockLimit, pageLimit, processorLimit}
 use Rattle.limits.specs.inner.Sizes.{clockArea, clockWidth, firstLockRow}
 use Rattle.diff.specs.Reading.{applied}
 use Rattle.rules.specs.State.{mainframe, Holder, Processor, Lock, Barrier, Applied, Interval, clockOf, withClock, cleared}
 use Rattle.rules.specs.Steps.{allCleared}
 use Rattle.rules.proofs.inorder.Facts.{Within}
-use Rattle.layout.specs.Layout.{rowOf, tabulate, perProcessor}
+use Rattle.layout.specs.Layout.{rowOf, perProcessor}
 use Rattle.layout.specs.Areas.{lockRow, appliedRow, intervalRow, clockRow, clocksIn}
 use Rattle.layout.proofs.Stores.{eqb-iff, eqb-pair}
-use Rattle.layout.proofs.RowLaws.{row-of-sets-same, row-of-sets-other, row-of-sets, get-tabulate, tabulate-same, put-tabulate, map-tabulate, get-per-processor, per-processor-same, put-per-processor, map-per-processor, get-page, page-table-same, put-page, get-interval, interval-table-same, put-interval, row-map, map-replicate}
+use Rattle.lists.proofs.Tabulated.{get-tabulate, tabulate-same, put-tabulate, map-tabulate}
+use Rattle.layout.proofs.RowLaws.{row-of-sets-same, row-of-sets-other, row-of-sets, get-per-processor, per-processor-same, put-per-processor, map-per-processor, get-page, page-table-same, put-page, get-interval, interval-table-same, put-interval, row-map, map-replicate}
 
 -- the row of a holder lies within the area
 pub holder-row-there : (h : Holder) → Within mainframe h → clockWidth * clockRow mainframe h + clockWidth ≤ clockArea

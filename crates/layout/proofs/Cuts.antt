@@ -7,10 +7,11 @@ use mathlib.Core.Path.{_≡_, refl, sym, ap, _∙_}
 use mathlib.Core.List.{List, [], _∷_, _++_}
 use lib.ListN.{length, getD, take, drop, length-append, length-drop}
 use lib.Seq.{take-append-le, drop-append-le, drop-append-add, getD-append-add, getD-take, getD-drop, drop-drop, take-at}
-use Rattle.lists.specs.Tables.{cell}
-use Rattle.layout.specs.Layout.{tabulate, perProcessor, joinRows}
+use Rattle.lists.specs.Tables.{cell, tabulate}
+use Rattle.layout.specs.Layout.{perProcessor, joinRows}
 use Rattle.layout.proofs.Stores.{part-of-part}
-use Rattle.layout.proofs.RowLaws.{tabulate-same, tabulate-get, per-processor-same}
+use Rattle.lists.proofs.Tabulated.{tabulate-same, tabulate-get}
+use Rattle.layout.proofs.RowLaws.{per-processor-same}
 use Rattle.layout.proofs.Joins.{join-per-processor, join-tables}
 
 -- ---- two lists, one behind the other

@@ -1,22 +1,25 @@
--- A state laid out as areas is held by them: decoded again it is the state itself, and the areas have the fixed sizes. It is asked that
--- its tables have the mainframe's sizes, and that place 0 of the arrived marks, nobody's, is 0. Rests on DecodingClocks. Assumes nothing.
-use Prim.Native.Nat.{ℕ, zero, suc, _+_, _-_, _*_, _≤_, _<_}
+-- A state laid out as areas is held by them: decoded again it is the state itself, and the areas have the fixed sizes. It is asked that its tables have
+-- the mainframe's sizes, and that nobody's places, of the arrived marks and of the marks of waiting, are 0. Rests on DecodingClocks. Assumes nothing.
+use Prim.Native.Nat.{ℕ, zero, suc, _+_, _-_, _*_, _/_, _%_, _≤_, _<_}
 use native.Mathlib.Omega.{arith}
+use native.Mathlib.Nat.{div-add-mod'}
 use mathlib.Core.Path.{_≡_, refl, sym, ap, _∙_}
 use mathlib.Core.List.{List, [], _∷_, _++_}
 use lib.ListN.{length, getD, take, drop, length-append, length-drop, List·getD-append}
 use lib.Seq.{getD-drop}
-use Rattle.lists.specs.Tables.{cell}
+use Rattle.lists.specs.Tables.{cell, tabulate}
 use Rattle.limits.specs.Limits.{lockLimit, pageLimit, pageWidth, processorLimit, recordLimit}
 use Rattle.limits.specs.Places.{firstArrived}
-use Rattle.limits.specs.inner.Sizes.{copyLimit, firstDirty, firstHolder, markArea, recordArea, slotWidth, wordArea, wordLimit}
+use Rattle.limits.specs.inner.Sizes.{copyLimit, firstAwaited, firstDirty, firstHolder, firstTurn, markArea, recordArea, slotWidth, wordArea, wordLimit}
 use Rattle.rules.specs.InOrder.{slotSize}
 use Rattle.rules.specs.State.{mainframe, copyOf, twinOf, State}
 use Rattle.rules.proofs.inorder.Facts.{Sized}
-use Rattle.layout.specs.Layout.{rowOf, tabulate, joinRows}
-use Rattle.layout.specs.Areas.{copyRow, twinRow, arrivedPlace, holderPlace, dirtyPlace, pagesIn, recordsIn, marksIn, stateIn, clockBytes, pageWords, recordBytes, markBytes, standingCount}
+use Rattle.rules.proofs.order.Nobody.{NobodyMarked}
+use Rattle.layout.specs.Layout.{rowOf, joinRows}
+use Rattle.layout.specs.Areas.{copyRow, twinRow, arrivedPlace, holderPlace, dirtyPlace, awaitedPlace, turnPlace, pagesIn, recordsIn, marksIn, stateIn, clockBytes, pageWords, recordBytes, markBytes, standingCount}
 use Rattle.layout.specs.inner.Needed.{Lent}
-use Rattle.layout.proofs.RowLaws.{tabulate-same, tabulate-get, page-table-same}
+use Rattle.lists.proofs.Tabulated.{tabulate-same, tabulate-get}
+use Rattle.layout.proofs.RowLaws.{page-table-same}
 use Rattle.layout.proofs.Cuts.{part-before, part-behind, get-behind, length-joined, joined-row, joined-get, first-and-rest, table-joined, table-of-elements, length-pages, page-cut}
 use Rattle.layout.proofs.DecodingClocks.{clock-size, clocks-again}
 
@@ -83,25 +86,31 @@ module _ (s : State) (h : Sized mainframe s) where
       ∙ joined-row recordLimit slotWidth (λ i. getD (s .records .slots) i []) i (h .slot) b)
       ∙ tabulate-get (s .records .slots) recordLimit [] (h .slots)
 
--- ---- the marks: five numbers, the arrived marks, the holders, the dirty marks
+-- ---- the marks: six numbers, the arrived marks, the holders, the dirty marks, the locks waited for, the turns
 
 -- where the marks of each part stand
-record MarkParts (a l g all : List ℕ) : Type 0 where
+record MarkParts (a l g w t all : List ℕ) : Type 0 where
   long : length all ≡ markArea
   arrived : (j : ℕ) → j < processorLimit → getD all (firstArrived + j) 0 ≡ getD a j 0
   holders : (j : ℕ) → j < lockLimit → getD all (firstHolder + j) 0 ≡ getD l j 0
-  dirty : (j : ℕ) → getD all (firstDirty + j) 0 ≡ getD g j 0
+  dirty : (j : ℕ) → j < copyLimit → getD all (firstDirty + j) 0 ≡ getD g j 0
+  awaited : (j : ℕ) → j < processorLimit → getD all (firstAwaited + j) 0 ≡ getD w j 0
+  turns : (j : ℕ) → j < processorLimit → getD all (firstTurn + j) 0 ≡ getD t j 0
 
-mark-parts : (n a l g : List ℕ) → length n ≡ firstArrived → length a ≡ processorLimit → length l ≡ lockLimit → length g ≡ copyLimit → MarkParts a l g (n ++ a ++ l ++ g)
-mark-parts n a l g ln la ll lg =
+mark-parts : (n a l g w t : List ℕ) → length n ≡ firstArrived → length a ≡ processorLimit → length l ≡ lockLimit → length g ≡ copyLimit → length w ≡ processorLimit → length t ≡ processorLimit
+    → MarkParts a l g w t (n ++ a ++ l ++ g ++ w ++ t)
+mark-parts n a l g w t ln la ll lg lw lt =
     record {
-      long = length-append (n ++ a ++ l) g ∙ omega (arith, three, lg);
+      long = length-append (n ++ a ++ l ++ g ++ w) t ∙ omega (arith, five, lt);
       arrived =
-          λ j h.
-          List·getD-append (n ++ a ++ l) g 0 (firstArrived + j) (omega (arith, three, h)) ∙ List·getD-append (n ++ a) l 0 (firstArrived + j) (omega (arith, two, h))
-          ∙ get-behind firstArrived j n a 0 ln;
-      holders = λ j h. List·getD-append (n ++ a ++ l) g 0 (firstHolder + j) (omega (arith, three, h)) ∙ get-behind firstHolder j (n ++ a) l 0 two;
-      dirty = λ j. get-behind firstDirty j (n ++ a ++ l) g 0 three;
+          λ j h. before-turns (firstArrived + j) (omega (arith, h)) ∙ before-awaited (firstArrived + j) (omega (arith, h)) ∙ before-dirty (firstArrived + j) (omega (arith, h))
+          ∙ List·getD-append (n ++ a) l 0 (firstArrived + j) (omega (arith, two, h)) ∙ get-behind firstArrived j n a 0 ln;
+      holders =
+          λ j h. before-turns (firstHolder + j) (omega (arith, h)) ∙ before-awaited (firstHolder + j) (omega (arith, h)) ∙ before-dirty (firstHolder + j) (omega (arith, h))
+          ∙ get-behind firstHolder j (n ++ a) l 0 two;
+      dirty = λ j h. before-turns (firstDirty + j) (omega (arith, h)) ∙ before-awaited (firstDirty + j) (omega (arith, h)) ∙ get-behind firstDirty j (n ++ a ++ l) g 0 three;
+      awaited = λ j h. before-turns (firstAwaited + j) (omega (arith, h)) ∙ get-behind firstAwaited j (n ++ a ++ l ++ g) w 0 four;
+      turns = λ j h. get-behind firstTurn j (n ++ a ++ l ++ g ++ w) t 0 five;
     }
   where
     two : length (n ++ a) ≡ firstHolder
@@ -109,6 +118,21 @@ mark-parts n a l g ln la ll lg =
 
     three : length (n ++ a ++ l) ≡ firstDirty
     three = length-append (n ++ a) l ∙ omega (arith, two, ll)
+
+    four : length (n ++ a ++ l ++ g) ≡ firstAwaited
+    four = length-append (n ++ a ++ l) g ∙ omega (arith, three, lg)
+
+    five : length (n ++ a ++ l ++ g ++ w) ≡ firstTurn
+    five = length-append (n ++ a ++ l ++ g) w ∙ omega (arith, four, lw)
+
+    before-turns : (k : ℕ) → k < firstTurn → getD (n ++ a ++ l ++ g ++ w ++ t) k 0 ≡ getD (n ++ a ++ l ++ g ++ w) k 0
+    before-turns k h = List·getD-append (n ++ a ++ l ++ g ++ w) t 0 k (omega (arith, five, h))
+
+    before-awaited : (k : ℕ) → k < firstAwaited → getD (n ++ a ++ l ++ g ++ w) k 0 ≡ getD (n ++ a ++ l ++ g) k 0
+    before-awaited k h = List·getD-append (n ++ a ++ l ++ g) w 0 k (omega (arith, four, h))
+
+    before-dirty : (k : ℕ) → k < firstDirty → getD (n ++ a ++ l ++ g) k 0 ≡ getD (n ++ a ++ l) k 0
+    before-dirty k h = List·getD-append (n ++ a ++ l) g 0 k (omega (arith, three, h))
 
 module _ (s : State) (h : Sized mainframe s) where
   dirty-joined : joinRows (s .pages .dirty) ≡ joinRows (tabulate processorLimit (λ k. getD (s .pages .dirty) (suc k) []))
@@ -119,14 +143,16 @@ module _ (s : State) (h : Sized mainframe s) where
   unfolding mainframe
   dirty-wide k b = h .dirty-row (suc k) (omega arith) (omega arith)
 
-  marks-of : MarkParts (drop 1 (s .marks .arrived)) (s .marks .holders) (joinRows (s .pages .dirty)) (markBytes s)
+  marks-of : MarkParts (drop 1 (s .marks .arrived)) (s .marks .holders) (joinRows (s .pages .dirty)) (drop 1 (s .marks .awaited)) (drop 1 (s .marks .turns)) (markBytes s)
   unfolding markBytes mainframe
   marks-of =
-      mark-parts (s .counts .processors ∷ s .counts .pages ∷ s .counts .locks ∷ s .records .standing ∷ s .marks .wanted ∷ []) (drop 1 (s .marks .arrived))
-      (s .marks .holders) (joinRows (s .pages .dirty)) refl
+      mark-parts (s .counts .processors ∷ s .counts .pages ∷ s .counts .locks ∷ s .records .standing % 256 ∷ s .records .standing / 256 ∷ s .marks .wanted ∷ [])
+      (drop 1 (s .marks .arrived)) (s .marks .holders) (joinRows (s .pages .dirty)) (drop 1 (s .marks .awaited)) (drop 1 (s .marks .turns)) refl
       (length-drop 1 (s .marks .arrived) ∙ omega (arith, h .arrived))
       (h .holders)
       (ap length dirty-joined ∙ length-joined processorLimit pageLimit (λ k. getD (s .pages .dirty) (suc k) []) dirty-wide)
+      (length-drop 1 (s .marks .awaited) ∙ omega (arith, h .awaited))
+      (length-drop 1 (s .marks .turns) ∙ omega (arith, h .turns))
 
   holders-again : marksIn mainframe (markBytes s) .holders ≡ s .marks .holders
   unfolding marksIn mainframe holderPlace
@@ -138,22 +164,30 @@ module _ (s : State) (h : Sized mainframe s) where
       at : (l : ℕ) → holderPlace mainframe l ≡ firstHolder + l
       at l = omega arith
 
-  arrived-again : getD (s .marks .arrived) 0 0 ≡ 0 → marksIn mainframe (markBytes s) .arrived ≡ s .marks .arrived
-  unfolding marksIn mainframe arrivedPlace
-  arrived-again z =
+  -- a table by processor with nobody's place 0
+  by-processor : (t : List ℕ) (place : ℕ → ℕ) (first : ℕ) → length t ≡ suc processorLimit → getD t 0 0 ≡ 0 → ((k : ℕ) → place k ≡ first + k)
+      → ((j : ℕ) → j < processorLimit → getD (markBytes s) (first + j) 0 ≡ getD (drop 1 t) j 0) → 0 ∷ tabulate processorLimit (λ k. getD (markBytes s) (place k) 0) ≡ t
+  by-processor t place first long z at there =
       ap (λ (l : List ℕ). 0 ∷ l)
-      (tabulate-same processorLimit (λ k. getD (markBytes s) (arrivedPlace mainframe (suc k)) 0) (λ k. getD (s .marks .arrived) (suc k) 0)
-      (λ k b.
-      ap (λ (j : ℕ). getD (markBytes s) j 0) (at k) ∙ marks-of .arrived k b ∙ getD-drop 1 (s .marks .arrived) k 0
-      ∙ ap (λ (j : ℕ). getD (s .marks .arrived) j 0) (next k)))
-      ∙ ap (λ (x : ℕ). x ∷ tabulate processorLimit (λ k. getD (s .marks .arrived) (suc k) 0)) (sym z)
-      ∙ first-and-rest (s .marks .arrived) processorLimit 0 (h .arrived)
+      (tabulate-same processorLimit (λ k. getD (markBytes s) (place k) 0) (λ k. getD t (suc k) 0)
+      (λ k b. ap (λ (j : ℕ). getD (markBytes s) j 0) (at k) ∙ there k b ∙ getD-drop 1 t k 0 ∙ ap (λ (j : ℕ). getD t j 0) (next k)))
+      ∙ ap (λ (x : ℕ). x ∷ tabulate processorLimit (λ k. getD t (suc k) 0)) (sym z)
+      ∙ first-and-rest t processorLimit 0 long
     where
-      at : (k : ℕ) → arrivedPlace mainframe (suc k) ≡ firstArrived + k
-      at k = omega arith
-
       next : (k : ℕ) → 1 + k ≡ suc k
       next k = omega arith
+
+  arrived-again : getD (s .marks .arrived) 0 0 ≡ 0 → marksIn mainframe (markBytes s) .arrived ≡ s .marks .arrived
+  unfolding marksIn mainframe arrivedPlace
+  arrived-again z = by-processor (s .marks .arrived) (λ k. arrivedPlace mainframe (suc k)) firstArrived (h .arrived) z (λ k. omega arith) (marks-of .arrived)
+
+  awaited-again : getD (s .marks .awaited) 0 0 ≡ 0 → marksIn mainframe (markBytes s) .awaited ≡ s .marks .awaited
+  unfolding marksIn mainframe awaitedPlace
+  awaited-again z = by-processor (s .marks .awaited) (λ k. awaitedPlace mainframe (suc k)) firstAwaited (h .awaited) z (λ k. omega arith) (marks-of .awaited)
+
+  turns-again : getD (s .marks .turns) 0 0 ≡ 0 → marksIn mainframe (markBytes s) .turns ≡ s .marks .turns
+  unfolding marksIn mainframe turnPlace
+  turns-again z = by-processor (s .marks .turns) (λ k. turnPlace mainframe (suc k)) firstTurn (h .turns) z (λ k. omega arith) (marks-of .turns)
 
   dirty-again : (w : List ℕ) → pagesIn mainframe w (markBytes s) .dirty ≡ s .pages .dirty
   unfolding pagesIn mainframe dirtyPlace
@@ -168,7 +202,7 @@ module _ (s : State) (h : Sized mainframe s) where
       each zero g a b c = absurd (omega arith)
       each (suc k) g a b c =
           ap (λ (j : ℕ). getD (markBytes s) j 0) (at k g)
-          ∙ marks-of .dirty (pageLimit * k + g)
+          ∙ marks-of .dirty (pageLimit * k + g) (omega arith)
           ∙ ap (λ (l : List ℕ). getD l (pageLimit * k + g) 0) dirty-joined
           ∙ joined-get processorLimit pageLimit (λ k. getD (s .pages .dirty) (suc k) []) k g 0 dirty-wide (omega arith) c
 
@@ -180,7 +214,7 @@ module _ (s : State) (h : Sized mainframe s) where
   encoded-lent = record { clocks = clock-size s h; words = word-size s h; records = record-size s h; marks = marks-of s h .long }
 
   -- and hold it
-  pub decoded : getD (s .marks .arrived) 0 0 ≡ 0
+  pub decoded : NobodyMarked (s .marks)
       → stateIn mainframe (clockBytes (s .clocks)) (pageWords (s .pages)) (recordBytes (s .records)) (markBytes s) ≡ s
   unfolding stateIn pagesIn recordsIn marksIn markBytes standingCount mainframe slotSize
   decoded z =
@@ -188,6 +222,16 @@ module _ (s : State) (h : Sized mainframe s) where
         counts = s .counts;
         clocks = clocks-again s h i;
         pages = record { copies = copies-again s h (markBytes s) i; twins = twins-again s h (markBytes s) i; dirty = dirty-again s h (pageWords (s .pages)) i };
-        records = record { standing = s .records .standing; slots = slots-again s h i };
-        marks = record { holders = holders-again s h i; arrived = arrived-again s h z i; wanted = s .marks .wanted };
+        records = record { standing = stands i; slots = slots-again s h i };
+        marks =
+            record {
+              holders = holders-again s h i;
+              arrived = arrived-again s h (z .arrived) i;
+              wanted = s .marks .wanted;
+              awaited = awaited-again s h (z .awaited) i;
+              turns = turns-again s h (z .turn) i;
+            };
       }
+    where
+      stands : s .records .standing % 256 + 256 * (s .records .standing / 256) ≡ s .records .standing
+      stands = omega (arith, div-add-mod' (s .records .standing) 256)

@@ -5,14 +5,15 @@ use mathlib.Core.Path.{_≡_, sym, ap, _∙_}
 use mathlib.Core.List.{List, [], _++_}
 use lib.ListN.{length, getD, take, drop, length-append}
 use lib.Seq.{take-at}
-use Rattle.lists.specs.Tables.{cell}
+use Rattle.lists.specs.Tables.{cell, tabulate}
 use Rattle.limits.specs.Limits.{intervalLimit, lockLimit, pageLimit, processorLimit}
 use Rattle.limits.specs.inner.Sizes.{clockArea, clockWidth, copyLimit, firstAppliedRow, firstIntervalRow, firstLockRow}
 use Rattle.rules.specs.State.{mainframe, Processor, Lock, Barrier, Applied, Interval, clockOf, State}
 use Rattle.rules.proofs.inorder.Facts.{Within, Sized}
-use Rattle.layout.specs.Layout.{rowOf, tabulate, joinRows}
+use Rattle.layout.specs.Layout.{rowOf, joinRows}
 use Rattle.layout.specs.Areas.{lockRow, appliedRow, intervalRow, clockRow, clocksIn, clockBytes}
-use Rattle.layout.proofs.RowLaws.{tabulate-same, tabulate-get, per-processor-same, page-table-same, interval-table-same}
+use Rattle.lists.proofs.Tabulated.{tabulate-same, tabulate-get}
+use Rattle.layout.proofs.RowLaws.{per-processor-same, page-table-same, interval-table-same}
 use Rattle.layout.proofs.Cuts.{part-before, part-behind, length-joined, joined-row, table-of-rows, table-joined, table-of-elements, length-pages, page-cut, table-of-intervals, length-intervals, interval-cut}
 
 -- ---- five parts, one behind the other: where the rows of each lie

@@ -1,6 +1,6 @@
--- The areas hold their state and nothing else: the state that they hold, laid out again, is the areas themselves; and its tables have the
--- sizes of the mainframe's. Assumes nothing.
-use Prim.Native.Nat.{ℕ, suc, _+_, _*_, _≤_}
+-- The areas hold their state and nothing else: the state that they hold, laid out again, is the areas themselves, where the low byte of the number of
+-- records is a byte; and its tables have the sizes of the mainframe's. Assumes nothing.
+use Prim.Native.Nat.{ℕ, suc, _+_, _*_, _/_, _%_, _≤_, _<_}
 use native.Mathlib.Omega.{arith}
 use mathlib.Core.Path.{_≡_, refl, sym, ap, _∙_}
 use mathlib.Core.Bool.{true, _&&_, and-eq-true-iff}
@@ -10,17 +10,19 @@ use lib.Seq.{take-all, take-add}
 use lib.Dec.{eqb}
 use borrow.Author.Tests.{eqb-true, eq-eqb}
 use Rattle.limits.specs.Limits.{intervalLimit, lockLimit, pageLimit, pageWidth, processorLimit, recordLimit}
-use Rattle.limits.specs.Places.{firstArrived}
-use Rattle.limits.specs.inner.Sizes.{clockArea, clockWidth, copyLimit, firstAppliedRow, firstDirty, firstHolder, firstIntervalRow, firstLockRow, markArea, recordArea, slotWidth, wordArea, wordLimit}
+use Rattle.limits.specs.Places.{firstArrived, standingHigh, standingPlace}
+use Rattle.limits.specs.inner.Sizes.{clockArea, clockWidth, copyLimit, firstAppliedRow, firstAwaited, firstDirty, firstHolder, firstIntervalRow, firstLockRow, firstTurn, markArea, recordArea, slotWidth, wordArea, wordLimit}
 use Rattle.diff.specs.Reading.{applied}
 use Rattle.rules.specs.InOrder.{slotSize}
 use Rattle.rules.specs.State.{mainframe, Processor, Lock, Applied, Interval, State, clockOf}
-use Rattle.rules.proofs.inorder.Facts.{Sized}
-use Rattle.layout.specs.Layout.{rowOf, tabulate, perProcessor, joinRows}
-use Rattle.layout.specs.Areas.{lockRow, appliedRow, intervalRow, clockRow, clockRows, copyRow, twinRow, wordRows, arrivedPlace, holderPlace, dirtyPlace, markPlaces, clocksIn, pagesIn, recordsIn, marksIn, stateIn, clockBytes, pageWords, recordBytes, markBytes, sizesRight, areas, holding, standingCount}
+use Rattle.rules.proofs.inorder.Facts.{Sized, InOrder}
+use Rattle.lists.specs.Tables.{tabulate}
+use Rattle.layout.specs.Layout.{rowOf, perProcessor, joinRows}
+use Rattle.layout.specs.Areas.{lockRow, appliedRow, intervalRow, clockRow, clockRows, copyRow, twinRow, wordRows, arrivedPlace, holderPlace, dirtyPlace, awaitedPlace, turnPlace, markPlaces, clocksIn, pagesIn, recordsIn, marksIn, stateIn, clockBytes, pageWords, recordBytes, markBytes, sizesRight, areas, holding, standingCount}
 use Rattle.layout.specs.inner.Needed.{Lent, Holds}
 use Rattle.layout.specs.inner.Marks.{lockCount, pageCount, processorCount, wishMark}
-use Rattle.layout.proofs.RowLaws.{length-row, length-tabulate, length-per-processor, get-nobody, get-per-processor}
+use Rattle.lists.proofs.Tabulated.{length-tabulate}
+use Rattle.layout.proofs.RowLaws.{length-row, length-per-processor, get-nobody, get-per-processor}
 use Rattle.layout.proofs.ClockLaws.{holder-row-there, clock-read}
 use Rattle.layout.proofs.PageLaws.{copy-row-there, twin-row-there, copy-read, twin-read}
 use Rattle.layout.proofs.SlotLaws.{slot-there, slot-read}
@@ -150,34 +152,72 @@ module _ (m : List ℕ) (h : length m ≡ markArea) where
       at : (k g : ℕ) → dirtyPlace mainframe (suc k) g ≡ firstDirty + pageLimit * k + g
       at k g = omega arith
 
-  first-marks : processorCount m ∷ pageCount m ∷ lockCount m ∷ standingCount m ∷ wishMark m ∷ [] ≡ take firstArrived m
-  unfolding tabulate standingCount
-  first-marks = tabulate-part firstArrived 0 m 0 (λ k. getD m k 0) (omega arith) (λ k b. ap (λ (j : ℕ). getD m j 0) (at k))
+  awaited-marks : drop 1 (marksIn mainframe m .awaited) ≡ take processorLimit (drop firstAwaited m)
+  unfolding marksIn mainframe awaitedPlace
+  awaited-marks =
+      tabulate-part processorLimit firstAwaited m 0 (λ k. getD m (awaitedPlace mainframe (suc k)) 0) (omega arith) (λ k b. ap (λ (j : ℕ). getD m j 0) (at k))
     where
-      at : (k : ℕ) → k ≡ 0 + k
+      at : (k : ℕ) → awaitedPlace mainframe (suc k) ≡ firstAwaited + k
       at k = omega arith
 
-  -- the marks laid out again are their area
-  mark-bytes : (c w r : List ℕ) → markBytes (stateIn mainframe c w r m) ≡ m
-  unfolding markBytes stateIn recordsIn marksIn standingCount
-  mark-bytes c w r =
-      rw (dirty-marks w, arrived-marks, holder-marks)
-      (ap (λ (s : List ℕ). s ++ take processorLimit (drop firstArrived m) ++ take lockLimit (drop firstHolder m) ++ take copyLimit (drop firstDirty m)) first-marks
-      ∙ ap (λ (s : List ℕ). s ++ take lockLimit (drop firstHolder m) ++ take copyLimit (drop firstDirty m)) (sym (take-add firstArrived processorLimit m))
-      ∙ ap (λ (s : List ℕ). s ++ take copyLimit (drop firstDirty m)) (sym (take-add firstHolder lockLimit m))
-      ∙ sym (take-add firstDirty copyLimit m)
-      ∙ take-all markArea m (omega arith))
+  turn-marks : drop 1 (marksIn mainframe m .turns) ≡ take processorLimit (drop firstTurn m)
+  unfolding marksIn mainframe turnPlace
+  turn-marks =
+      tabulate-part processorLimit firstTurn m 0 (λ k. getD m (turnPlace mainframe (suc k)) 0) (omega arith) (λ k b. ap (λ (j : ℕ). getD m j 0) (at k))
+    where
+      at : (k : ℕ) → turnPlace mainframe (suc k) ≡ firstTurn + k
+      at k = omega arith
+
+  module _ (byte : getD m standingPlace 0 < 256) where
+    -- the two bytes of the number of records
+    low-byte : standingCount m % 256 ≡ getD m standingPlace 0
+    unfolding standingCount
+    low-byte = omega arith
+
+    high-byte : standingCount m / 256 ≡ getD m standingHigh 0
+    unfolding standingCount
+    high-byte = omega arith
+
+    first-marks : processorCount m ∷ pageCount m ∷ lockCount m ∷ standingCount m % 256 ∷ standingCount m / 256 ∷ wishMark m ∷ [] ≡ take firstArrived m
+    unfolding tabulate
+    first-marks = rw (low-byte, high-byte) (tabulate-part firstArrived 0 m 0 (λ k. getD m k 0) (omega arith) (λ k b. ap (λ (j : ℕ). getD m j 0) (at k)))
+      where
+        at : (k : ℕ) → k ≡ 0 + k
+        at k = omega arith
+
+    -- the marks laid out again are their area
+    mark-bytes : (c w r : List ℕ) → markBytes (stateIn mainframe c w r m) ≡ m
+    unfolding markBytes stateIn recordsIn marksIn
+    mark-bytes c w r =
+        let arrived = take processorLimit (drop firstArrived m) in
+        let holders = take lockLimit (drop firstHolder m) in
+        let dirty = take copyLimit (drop firstDirty m) in
+        let awaited = take processorLimit (drop firstAwaited m) in
+        let turns = take processorLimit (drop firstTurn m) in
+        rw (dirty-marks w, arrived-marks, holder-marks, awaited-marks, turn-marks)
+        (ap (λ (s : List ℕ). s ++ arrived ++ holders ++ dirty ++ awaited ++ turns) first-marks
+        ∙ ap (λ (s : List ℕ). s ++ holders ++ dirty ++ awaited ++ turns) (sym (take-add firstArrived processorLimit m))
+        ∙ ap (λ (s : List ℕ). s ++ dirty ++ awaited ++ turns) (sym (take-add firstHolder lockLimit m))
+        ∙ ap (λ (s : List ℕ). s ++ awaited ++ turns) (sym (take-add firstDirty copyLimit m))
+        ∙ ap (λ (s : List ℕ). s ++ turns) (sym (take-add firstAwaited processorLimit m))
+        ∙ sym (take-add firstTurn processorLimit m)
+        ∙ take-all markArea m (omega arith))
+
+-- no more records stand than a byte says
+pub few-records : (m : List ℕ) → standingCount m ≤ recordLimit → getD m standingPlace 0 < 256
+unfolding standingCount
+few-records m few = omega arith
 
 -- ---- all four areas
 
 -- the state that four areas hold, laid out again, is the areas
-pub encoded : (c w r m : List ℕ) → Lent c w r m
+pub encoded : (c w r m : List ℕ) → Lent c w r m → getD m standingPlace 0 < 256
     → (clockBytes (clocksIn mainframe c) ≡ c)
     × (pageWords (pagesIn mainframe w m) ≡ w)
     × (recordBytes (recordsIn mainframe r m) ≡ r)
     × (markBytes (stateIn mainframe c w r m) ≡ m)
-encoded c w r m lent =
-    (clock-bytes c (lent .clocks), page-words w m (lent .words), record-bytes r m (lent .records), mark-bytes m (lent .marks) c w r)
+encoded c w r m lent byte =
+    (clock-bytes c (lent .clocks), page-words w m (lent .words), record-bytes r m (lent .records), mark-bytes m (lent .marks) byte c w r)
 
 -- the tables of the state that the areas hold have the mainframe's sizes
 pub lent-sized : (c w r m : List ℕ) → Lent c w r m → standingCount m ≤ recordLimit → Sized mainframe (stateIn mainframe c w r m)
@@ -220,6 +260,8 @@ lent-sized c w r m lent few =
       few-standing = few;
       holders = length-tabulate lockLimit (λ l. getD m (holderPlace mainframe l) 0);
       arrived = ap suc (length-tabulate processorLimit (λ k. getD m (arrivedPlace mainframe (suc k)) 0));
+      awaited = ap suc (length-tabulate processorLimit (λ k. getD m (awaitedPlace mainframe (suc k)) 0));
+      turns = ap suc (length-tabulate processorLimit (λ k. getD m (turnPlace mainframe (suc k)) 0));
     }
   where
     applied-clocks : ℕ → List (List ℕ)
@@ -262,14 +304,18 @@ right-lent c w r m e =
 -- ---- the areas as one
 
 -- areas of the right sizes are the areas that hold their state
-pub held-again : (c w r m : List ℕ) → Lent c w r m → holding (stateIn mainframe c w r m) ≡ areas c w r m
+pub held-again : (c w r m : List ℕ) → Lent c w r m → getD m standingPlace 0 < 256 → holding (stateIn mainframe c w r m) ≡ areas c w r m
 unfolding holding stateIn
-held-again c w r m h =
+held-again c w r m h byte =
     ap (λ (x : List ℕ). areas x (pageWords (pagesIn mainframe w m)) (recordBytes (recordsIn mainframe r m)) (markBytes (stateIn mainframe c w r m))) (clock-bytes c (h .clocks))
     ∙ ap (λ (x : List ℕ). areas c x (recordBytes (recordsIn mainframe r m)) (markBytes (stateIn mainframe c w r m))) (page-words w m (h .words))
     ∙ ap (λ (x : List ℕ). areas c w x (markBytes (stateIn mainframe c w r m))) (record-bytes r m (h .records))
-    ∙ ap (λ (x : List ℕ). areas c w r x) (mark-bytes m (h .marks) c w r)
+    ∙ ap (λ (x : List ℕ). areas c w r x) (mark-bytes m (h .marks) byte c w r)
 
--- areas that hold a state are the areas that the state gives
-pub holding-is : (c w r m : List ℕ) (s : State) → Holds c w r m s → areas c w r m ≡ holding s
-holding-is c w r m s h = sym (held-again c w r m (h .lent)) ∙ ap (λ (x : State). holding x) (h .is)
+-- areas that hold a state in order are the areas that the state gives
+pub holding-is : (c w r m : List ℕ) (s : State) → Holds c w r m s → InOrder mainframe s → areas c w r m ≡ holding s
+unfolding mainframe
+holding-is c w r m s h o = sym (held-again c w r m (h .lent) (few-records m (rw standing (o .sized .few-standing)))) ∙ ap (λ (x : State). holding x) (h .is)
+  where
+    standing : standingCount m ≡ s .records .standing
+    standing = unfold stateIn recordsIn in ap (λ (x : State). x .records .standing) (h .is)

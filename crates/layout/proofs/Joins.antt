@@ -6,8 +6,9 @@ use mathlib.Core.Path.{_≡_, refl, sym, ap, _∙_}
 use mathlib.Core.List.{List, [], _∷_, _++_, map, append-assoc}
 use lib.ListN.{length, getD, take, drop, length-drop}
 use lib.Seq.{length-take-le, getD-take, getD-drop, drop-drop, take-add}
-use Rattle.layout.specs.Layout.{tabulate, perProcessor, joinRows}
-use Rattle.layout.proofs.RowLaws.{tabulate-same, tabulate-get, map-tabulate}
+use Rattle.lists.specs.Tables.{tabulate}
+use Rattle.layout.specs.Layout.{perProcessor, joinRows}
+use Rattle.lists.proofs.Tabulated.{tabulate-same, tabulate-get, map-tabulate}
 
 module _ {A : Type 0} where
   -- parts of s elements, one behind the other, make one part

@@ -1,5 +1,5 @@
 -- What the functions that read and write marks and slots by name leave to show. Assumes nothing.
-use Prim.Native.Nat.{ℕ, _+_, _-_, _*_, _%_, _≤_, _<_}
+use Prim.Native.Nat.{ℕ, _+_, _-_, _*_, _/_, _%_, _≤_, _<_}
 use native.Mathlib.Omega.{arith}
 use mathlib.Core.Path.{_≡_, refl, ap, _∙_}
 use mathlib.Core.Bool.{not}
@@ -8,12 +8,12 @@ use lib.ListN.{length, getD, take, drop, set, replicate, length-replicate, lengt
 use lib.Seq.{length-take-le, sets}
 use lib.Dec.{eqb}
 use borrow.Author.Needs.{needs}
-use Rattle.limits.specs.Limits.{pageLimit, processorLimit, recordLimit, slotHead}
-use Rattle.limits.specs.Places.{firstArrived, standingPlace}
-use Rattle.limits.specs.inner.Sizes.{firstHolder, firstLockRow, markArea, slotWidth}
+use Rattle.limits.specs.Limits.{lockLimit, pageLimit, processorLimit, slotHead}
+use Rattle.limits.specs.Places.{firstArrived, standingHigh, standingPlace}
+use Rattle.limits.specs.inner.Sizes.{firstAwaited, firstHolder, firstLockRow, firstTurn, markArea, slotWidth}
 use Rattle.rules.specs.State.{mainframe}
-use Rattle.layout.specs.Areas.{lockRow, arrivedPlace, holderPlace, dirtyPlace, standingCount}
-use Rattle.layout.specs.inner.Marks.{withStanding, arrivedMark, holderMark, dirtyMark, slotLength, slotDiff}
+use Rattle.layout.specs.Areas.{lockRow, arrivedPlace, holderPlace, dirtyPlace, awaitedPlace, turnPlace, standingCount}
+use Rattle.layout.specs.inner.Marks.{withStanding, arrivedMark, holderMark, dirtyMark, awaitedMark, turnMark, slotLength, slotDiff}
 use Rattle.layout.specs.inner.Needed.{OnPage, MarksOf, PageMark, DiffIn}
 use Rattle.layout.proofs.Rows.{dirty-place-is}
 use Rattle.layout.proofs.Stores.{put-back}
@@ -36,14 +36,17 @@ part-cleared m part from n h e =
 -- ---- the records that stand
 
 -- their number is read
-pub standing-is : (m : List ℕ) (r : ℕ) → (r ≡ getD m standingPlace 0) × (r < 256) → r ≡ standingCount m
+pub standing-is : (m : List ℕ) (a b : ℕ) → (a ≡ getD m standingPlace 0) × (a < 256) → (b ≡ getD m standingHigh 0) × (b < 256) → a + 256 * b ≡ standingCount m
 unfolding standingCount
-standing-is m r e = e .0
+standing-is m a b e f = omega (arith, e .0, f .0)
+
+pub standing-small : (m : List ℕ) (a b : ℕ) → (a ≡ getD m standingPlace 0) × (a < 256) → (b ≡ getD m standingHigh 0) × (b < 256) → a + 256 * b < 65536
+standing-small m a b e f = omega (arith, e .1, f .1)
 
 -- and written
-pub standing-put : (m : List ℕ) (n : ℕ) → (length m ≡ markArea) × (n ≤ recordLimit) → set m standingPlace (n % 256) ≡ withStanding m n
+pub standing-put : (m : List ℕ) (n : ℕ) → set (set m standingPlace (n % 256)) standingHigh (n / 256) ≡ withStanding m n
 unfolding withStanding
-standing-put m n h = ap (λ (x : ℕ). set m standingPlace x) (omega (arith, h .1))
+standing-put m n = refl
 
 -- ---- arrived marks
 
@@ -75,6 +78,34 @@ module _ (m : List ℕ) (l p : ℕ) where
   pub holder-put : p ≤ processorLimit → set m (firstHolder + l) (p % 256) ≡ set m (holderPlace mainframe l) p
   unfolding holderPlace mainframe
   holder-put h = ap (λ (x : ℕ). set m (firstHolder + l) x) (omega arith)
+
+-- ---- marks of waiting
+
+module _ (m : List ℕ) (p : ℕ) where
+  -- whether a processor waits is read
+  pub waiting-is : not (eqb (getD m (firstAwaited + (p - 1)) 0) 0) ≡ not (eqb (awaitedMark m p) 0)
+  unfolding awaitedPlace mainframe
+  waiting-is = refl
+
+  -- for which lock
+  pub awaited-is : (x : ℕ) → (x ≡ getD m (firstAwaited + (p - 1)) 0) × (x < 256) → x ≡ awaitedMark m p
+  unfolding awaitedPlace mainframe
+  awaited-is x e = e .0
+
+  -- at which turn
+  pub turn-is : (x : ℕ) → (x ≡ getD m (firstTurn + (p - 1)) 0) × (x < 256) → x ≡ turnMark m p
+  unfolding turnPlace mainframe
+  turn-is x e = e .0
+
+  -- the lock is put
+  pub awaited-put : (x : ℕ) → x ≤ lockLimit → set m (firstAwaited + (p - 1)) (x % 256) ≡ set m (awaitedPlace mainframe p) x
+  unfolding awaitedPlace mainframe
+  awaited-put x h = ap (λ (y : ℕ). set m (firstAwaited + (p - 1)) y) (omega arith)
+
+  -- and the turn
+  pub turn-put : (x : ℕ) → x < 256 → set m (firstTurn + (p - 1)) (x % 256) ≡ set m (turnPlace mainframe p) x
+  unfolding turnPlace mainframe
+  turn-put x h = ap (λ (y : ℕ). set m (firstTurn + (p - 1)) y) (omega arith)
 
 -- ---- dirty marks
 
@@ -121,4 +152,4 @@ module _ (r : List ℕ) (slot len : ℕ) (h : DiffIn r slot) (e : (len ≡ slotL
       let k : slotWidth * slot + slotHead + len - (slotWidth * slot + slotHead) ≡ slotLength r slot = omega (arith, e .0) in
       ap (λ (n : ℕ). take n (drop (slotWidth * slot + slotHead) r)) k
 
-pub ruleset mark-laws = (lock-row-is, standing-is, standing-put, arrived-is, arrived-set, arrived-part, holder-is, holder-put, dirty-place-is, dirty-on-page, dirty-is, dirty-set, first-on-page, last-dirty-there, dirty-part, diff-end-there, diff-part, needs)
+pub ruleset mark-laws = (lock-row-is, standing-is, standing-small, standing-put, arrived-is, arrived-set, arrived-part, holder-is, holder-put, waiting-is, awaited-is, turn-is, awaited-put, turn-put, dirty-place-is, dirty-on-page, dirty-is, dirty-set, first-on-page, last-dirty-there, dirty-part, diff-end-there, diff-part, needs)

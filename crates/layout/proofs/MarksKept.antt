@@ -1,17 +1,18 @@
 -- The parts of the state that an area of marks holds: each stays when the marks that it reads stay. Assumes nothing.
-use Prim.Native.Nat.{ℕ, suc, _+_, _≤_, _<_}
+use Prim.Native.Nat.{ℕ, suc, _+_, _*_, _≤_, _<_}
 use native.Mathlib.Omega.{arith}
 use mathlib.Core.Path.{_≡_, ap}
 use mathlib.Core.List.{List, _∷_}
 use lib.ListN.{length, getD, set}
 use lib.Seq.{getD-set-other, sets}
 use Rattle.limits.specs.Limits.{lockLimit, pageLimit, processorLimit}
-use Rattle.limits.specs.Places.{firstArrived, locksPlace, pagesPlace, processorsPlace, standingPlace, wantedPlace}
-use Rattle.limits.specs.inner.Sizes.{firstDirty, firstHolder, markArea}
+use Rattle.limits.specs.Places.{firstArrived, locksPlace, pagesPlace, processorsPlace, standingPlace, standingHigh, wantedPlace}
+use Rattle.limits.specs.inner.Sizes.{firstAwaited, firstDirty, firstHolder, firstTurn, markArea}
 use Rattle.rules.specs.State.{mainframe, withPages, withMarks}
-use Rattle.layout.specs.Areas.{arrivedPlace, holderPlace, dirtyPlace, standingCount, clocksIn, pagesIn, recordsIn, marksIn, stateIn}
+use Rattle.layout.specs.Areas.{arrivedPlace, holderPlace, dirtyPlace, awaitedPlace, turnPlace, standingCount, clocksIn, pagesIn, recordsIn, marksIn, stateIn}
 use Rattle.layout.proofs.Stores.{get-sets-before, get-sets-behind}
-use Rattle.layout.proofs.RowLaws.{tabulate-same, page-table-same}
+use Rattle.lists.proofs.Tabulated.{tabulate-same}
+use Rattle.layout.proofs.RowLaws.{page-table-same}
 
 -- two areas of marks agree at the places from one up to another
 abbrev pub Agree : List ℕ → List ℕ → ℕ → ℕ → Type 0
@@ -27,7 +28,7 @@ module _ (n m : List ℕ) where
   -- the records: their number is a mark
   pub records-kept : (r : List ℕ) → Agree n m standingPlace wantedPlace → recordsIn mainframe r n ≡ recordsIn mainframe r m
   unfolding recordsIn standingCount
-  records-kept r e = λ i. record { standing = e standingPlace (omega arith) (omega arith) i; slots = recordsIn mainframe r m .slots }
+  records-kept r e = λ i. record { standing = e standingPlace (omega arith) (omega arith) i + 256 * e standingHigh (omega arith) (omega arith) i; slots = recordsIn mainframe r m .slots }
 
   -- the wish for collection
   pub wanted-kept : Agree n m wantedPlace firstArrived → marksIn mainframe n .wanted ≡ marksIn mainframe m .wanted
@@ -49,17 +50,35 @@ module _ (n m : List ℕ) where
       tabulate-same lockLimit (λ l. getD n (holderPlace mainframe l) 0) (λ l. getD m (holderPlace mainframe l) 0)
       (λ l b. e (holderPlace mainframe l) (omega arith) (omega arith))
 
-  -- wish, arrived marks and holders together
-  pub marks-kept : Agree n m wantedPlace firstDirty → marksIn mainframe n ≡ marksIn mainframe m
-  marks-kept e =
+  -- the locks waited for
+  pub awaited-kept : Agree n m firstAwaited firstTurn → marksIn mainframe n .awaited ≡ marksIn mainframe m .awaited
+  unfolding marksIn awaitedPlace mainframe
+  awaited-kept e =
+      ap (λ (a : List ℕ). 0 ∷ a)
+      (tabulate-same processorLimit (λ k. getD n (awaitedPlace mainframe (suc k)) 0) (λ k. getD m (awaitedPlace mainframe (suc k)) 0)
+      (λ k b. e (awaitedPlace mainframe (suc k)) (omega arith) (omega arith)))
+
+  -- the turns
+  pub turns-kept : Agree n m firstTurn markArea → marksIn mainframe n .turns ≡ marksIn mainframe m .turns
+  unfolding marksIn turnPlace mainframe
+  turns-kept e =
+      ap (λ (a : List ℕ). 0 ∷ a)
+      (tabulate-same processorLimit (λ k. getD n (turnPlace mainframe (suc k)) 0) (λ k. getD m (turnPlace mainframe (suc k)) 0)
+      (λ k b. e (turnPlace mainframe (suc k)) (omega arith) (omega arith)))
+
+  -- all of them together
+  pub marks-kept : Agree n m wantedPlace firstDirty → Agree n m firstAwaited markArea → marksIn mainframe n ≡ marksIn mainframe m
+  marks-kept e f =
       λ i. record {
         holders = holders-kept (λ j a b. e j (omega arith) b) i;
         arrived = arrived-kept (λ j a b. e j (omega arith) (omega arith)) i;
         wanted = wanted-kept (λ j a b. e j a (omega arith)) i;
+        awaited = awaited-kept (λ j a b. f j a (omega arith)) i;
+        turns = turns-kept (λ j a b. f j (omega arith) b) i;
       }
 
   -- the pages: their dirty marks
-  pub pages-kept : (w : List ℕ) → Agree n m firstDirty markArea → pagesIn mainframe w n ≡ pagesIn mainframe w m
+  pub pages-kept : (w : List ℕ) → Agree n m firstDirty firstAwaited → pagesIn mainframe w n ≡ pagesIn mainframe w m
   unfolding pagesIn dirtyPlace mainframe
   pages-kept w e =
       λ i. record {
@@ -71,7 +90,7 @@ module _ (n m : List ℕ) where
       }
 
   -- the state differs in its marks alone where the counts, the number of records and the dirty marks stay
-  pub marks-alone : (c w r : List ℕ) → Agree n m 0 wantedPlace → Agree n m firstDirty markArea → stateIn mainframe c w r n ≡ withMarks (stateIn mainframe c w r m) (marksIn mainframe n)
+  pub marks-alone : (c w r : List ℕ) → Agree n m 0 wantedPlace → Agree n m firstDirty firstAwaited → stateIn mainframe c w r n ≡ withMarks (stateIn mainframe c w r m) (marksIn mainframe n)
   unfolding stateIn
   marks-alone c w r e f =
       λ i. record {
@@ -83,15 +102,15 @@ module _ (n m : List ℕ) where
       }
 
   -- and in its pages alone where all but the dirty marks stay
-  pub pages-alone : (c w r : List ℕ) → Agree n m 0 firstDirty → stateIn mainframe c w r n ≡ withPages (stateIn mainframe c w r m) (pagesIn mainframe w n)
+  pub pages-alone : (c w r : List ℕ) → Agree n m 0 firstDirty → Agree n m firstAwaited markArea → stateIn mainframe c w r n ≡ withPages (stateIn mainframe c w r m) (pagesIn mainframe w n)
   unfolding stateIn
-  pages-alone c w r e =
+  pages-alone c w r e f =
       λ i. record {
         counts = counts-kept c w r (λ j a b. e j a (omega arith)) i;
         clocks = clocksIn mainframe c;
         pages = pagesIn mainframe w n;
         records = records-kept r (λ j a b. e j (omega arith) (omega arith)) i;
-        marks = marks-kept (λ j a b. e j (omega arith) b) i;
+        marks = marks-kept (λ j a b. e j (omega arith) b) f i;
       }
 
 -- one mark stored anew: all places but its own agree

@@ -10,16 +10,17 @@ use lib.ListN.{length, getD, set, replicate, length-replicate, getD-replicate}
 use lib.Seq.{sets}
 use lib.Dec.{eqb}
 use borrow.Author.Tests.{eq-eqb, ne-eqb}
-use Rattle.lists.specs.Tables.{put, cell, putCell}
+use Rattle.lists.specs.Tables.{put, cell, putCell, tabulate}
 use Rattle.limits.specs.Limits.{pageLimit, pageWidth, processorLimit}
 use Rattle.limits.specs.inner.Sizes.{markArea, wordArea}
 use Rattle.rules.specs.Close.{cleaned}
 use Rattle.rules.specs.Fetch.{withCopy}
 use Rattle.rules.specs.State.{mainframe, copyOf, twinOf}
-use Rattle.layout.specs.Layout.{rowOf, tabulate, perProcessor}
+use Rattle.layout.specs.Layout.{rowOf, perProcessor}
 use Rattle.layout.specs.Areas.{copyRow, twinRow, dirtyPlace, pagesIn}
 use Rattle.layout.proofs.Stores.{get-sets-before, get-sets-behind, get-sets-same, get-set, eqb-pair}
-use Rattle.layout.proofs.RowLaws.{row-of-sets-other, row-of-sets, tabulate-same, map-tabulate, get-per-processor, per-processor-same, put-per-processor, get-page, page-table-same, put-page}
+use Rattle.lists.proofs.Tabulated.{tabulate-same, map-tabulate}
+use Rattle.layout.proofs.RowLaws.{row-of-sets-other, row-of-sets, get-per-processor, per-processor-same, put-per-processor, get-page, page-table-same, put-page}
 
 -- ---- the rows and places lie within the areas
 

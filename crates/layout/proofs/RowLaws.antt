@@ -7,12 +7,12 @@ use mathlib.Core.Path.{_≡_, refl, sym, ap, _∙_}
 use mathlib.Core.Bool.{Bool, cond, _&&_}
 use mathlib.Core.List.{List, [], _∷_, _++_, map}
 use lib.ListN.{length, getD, take, drop, length-drop, replicate}
-use lib.Seq.{length-take-le, take-append-add, getD-take, getD-drop, drop-drop, ext-getD, sets}
+use lib.Seq.{length-take-le, take-append-add, getD-take, getD-drop, drop-drop, sets}
 use lib.Dec.{eqb, eqb·suc-suc}
 use borrow.Author.Tests.{eq-eqb, ne-eqb}
-use Rattle.lists.specs.Tables.{put, cell, putCell}
-use Rattle.lists.proofs.Tables.{get-put, length-put}
-use Rattle.layout.specs.Layout.{rowOf, tabulate, perProcessor}
+use Rattle.lists.specs.Tables.{put, cell, putCell, tabulate}
+use Rattle.lists.proofs.Tabulated.{length-tabulate, get-tabulate, tabulate-same, put-tabulate, map-tabulate}
+use Rattle.layout.specs.Layout.{rowOf, perProcessor}
 use Rattle.layout.proofs.Stores.{drop-take, part-of-part, drop-sets-behind, part-sets-before, drop-sets-same, part-sets-same}
 
 -- ---- rows
@@ -73,55 +73,6 @@ module _ {A : Type 0} where
       go : Dec (j ≡ k) → rowOf n (sets l (n * k) v) j ≡ cond (eqb j k) v (rowOf n l j)
       go (yes b) = rw (eq-eqb j k b) (rw b (row-of-sets-same n l v k e h))
       go (no b) = rw (ne-eqb j k b) (row-of-sets-other n l v k j (omega arith) b)
-
-  -- ---- lists of f 0 to f (n - 1)
-
-  -- it has n elements
-  pub length-tabulate : (n : ℕ) (f : ℕ → A) → length (tabulate n f) ≡ n
-  unfolding tabulate
-  length-tabulate zero f = refl
-  length-tabulate (suc n) f = ap suc (length-tabulate n (λ k. f (suc k)))
-
-  -- the element at i is f i
-  pub get-tabulate : (n : ℕ) (f : ℕ → A) (i : ℕ) (d : A) → i < n → getD (tabulate n f) i d ≡ f i
-  unfolding tabulate
-  get-tabulate zero f i d h = absurd (omega arith)
-  get-tabulate (suc n) f zero d h = refl
-  get-tabulate (suc n) f (suc i) d h = get-tabulate n (λ k. f (suc k)) i d (omega arith)
-
-  -- functions that agree below n list the same
-  pub tabulate-same : (n : ℕ) (f h : ℕ → A) → ((i : ℕ) → i < n → f i ≡ h i) → tabulate n f ≡ tabulate n h
-  unfolding tabulate
-  tabulate-same zero f h e = refl
-  tabulate-same (suc n) f h e =
-      λ i. e 0 (omega arith) i ∷ tabulate-same n (λ k. f (suc k)) (λ k. h (suc k)) (λ k b. e (suc k) (omega arith)) i
-
-  -- a list is the list of its elements
-  pub tabulate-get : (l : List A) (n : ℕ) (d : A) → length l ≡ n → tabulate n (λ i. getD l i d) ≡ l
-  unfolding tabulate
-  tabulate-get [] zero d e = refl
-  tabulate-get [] (suc n) d e = absurd (omega arith)
-  tabulate-get (x ∷ l) zero d e = absurd (omega arith)
-  tabulate-get (x ∷ l) (suc n) d e = ap (λ (r : List A). x ∷ r) (tabulate-get l n d (omega arith))
-
-  -- one element replaced
-  pub put-tabulate : (d : A) (n : ℕ) (f : ℕ → A) (i : ℕ) (v : A) → i < n → put d (tabulate n f) i v ≡ tabulate n (λ j. cond (eqb j i) v (f j))
-  put-tabulate d n f i v h = ext-getD d (put d (tabulate n f) i v) (tabulate n (λ j. cond (eqb j i) v (f j))) long at
-    where
-      long : length (put d (tabulate n f) i v) ≡ length (tabulate n (λ j. cond (eqb j i) v (f j)))
-      long = omega (arith, length-put d (tabulate n f) i v, length-tabulate n f, length-tabulate n (λ j. cond (eqb j i) v (f j)))
-
-      at : (j : ℕ) → j < length (put d (tabulate n f) i v) → getD (put d (tabulate n f) i v) j d ≡ getD (tabulate n (λ j. cond (eqb j i) v (f j))) j d
-      at j b =
-          let c : j < n = omega (arith, b, length-put d (tabulate n f) i v, length-tabulate n f) in
-          get-put d (tabulate n f) i j v ∙ ap (λ (x : A). cond (eqb j i) v x) (get-tabulate n f j d c)
-          ∙ sym (get-tabulate n (λ j. cond (eqb j i) v (f j)) j d c)
-
--- every element changed alike
-pub map-tabulate : {A B : Type 0} (g : A → B) (n : ℕ) (f : ℕ → A) → map g (tabulate n f) ≡ tabulate n (λ i. g (f i))
-unfolding tabulate
-map-tabulate g zero f = refl
-map-tabulate {B = B} g (suc n) f = ap (λ (r : List B). g (f 0) ∷ r) (map-tabulate g n (λ k. f (suc k)))
 
 -- ---- tables with a row for each processor
 

@@ -13,24 +13,13 @@ use Rattle.limits.specs.inner.Sizes.{clockArea, clockRowLimit, clockWidth, copy
 use Rattle.clock.specs.Clocks.{entryOf}
 use Rattle.rules.specs.State.{mainframe, Processor, clock, own}
 use Rattle.rules.proofs.inorder.Facts.{Within}
-use Rattle.layout.specs.Layout.{rowOf, tabulate}
+use Rattle.lists.specs.Tables.{tabulate}
+use Rattle.lists.proofs.Tabulated.{length-tabulate, get-tabulate}
+use Rattle.layout.specs.Layout.{rowOf}
 use Rattle.layout.specs.Areas.{appliedRow, intervalRow, clockRow, copyRow, twinRow, dirtyPlace, stateIn}
 use Rattle.layout.specs.inner.Needed.{RowThere, OnPage, MadeInterval, ClocksOf, OwnEntry, Acts}
 use Rattle.layout.proofs.ClockLaws.{clock-read}
 use Rattle.layout.proofs.RowLaws.{get-row}
-
--- ---- the elements of a tabulated list
-
-length-tabulate : {A : Type 0} (n : ℕ) (f : ℕ → A) → length (tabulate n f) ≡ n
-unfolding tabulate
-length-tabulate zero f = refl
-length-tabulate (suc n) f = ap suc (length-tabulate n (λ k. f (suc k)))
-
-tabulate-at : {A : Type 0} (n : ℕ) (f : ℕ → A) (i : ℕ) (d : A) → i < n → getD (tabulate n f) i d ≡ f i
-unfolding tabulate
-tabulate-at zero f i d h = absurd (omega arith)
-tabulate-at (suc n) f zero d h = refl
-tabulate-at (suc n) f (suc i) d h = tabulate-at n (λ k. f (suc k)) i d (omega arith)
 
 -- ---- a row is read: the first i elements of `out` are the row's
 
@@ -214,7 +203,7 @@ applied-read-more c p rows g r row h l er e =
       to = h .to;
       count = length-set rows g row ∙ h .count;
       upto = omega arith;
-      first = rw (add-one, take-suc-set rows g row hr, take-suc (tabulate pageLimit f) g [] ht, tabulate-at pageLimit f g [] l, h .first, e, er);
+      first = rw (add-one, take-suc-set rows g row hr, take-suc (tabulate pageLimit f) g [] ht, get-tabulate pageLimit f g [] l, h .first, e, er);
     }
 
 -- all eight rows are the processor's; f is what a contract writes for them

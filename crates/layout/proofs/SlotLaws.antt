@@ -10,15 +10,16 @@ use lib.ListN.{length, getD, take, drop}
 use lib.Seq.{sets}
 use lib.Dec.{eqb}
 use borrow.Author.Tests.{eq-eqb, ne-eqb}
-use Rattle.lists.specs.Tables.{put}
+use Rattle.lists.specs.Tables.{put, tabulate}
 use Rattle.limits.specs.Limits.{recordLimit, slotHead}
 use Rattle.limits.specs.inner.Sizes.{diffLimit, recordArea, slotWidth}
 use Rattle.rules.specs.InOrder.{slotSize, recordAt}
 use Rattle.rules.specs.State.{mainframe, recordIn, laidOver, standing}
-use Rattle.layout.specs.Layout.{rowOf, tabulate}
+use Rattle.layout.specs.Layout.{rowOf}
 use Rattle.layout.specs.Areas.{recordsIn, stateIn}
 use Rattle.layout.specs.inner.Marks.{slotDiff, slotInterval, slotLength, slotPage, slotProcessor}
-use Rattle.layout.proofs.RowLaws.{get-row, part-of-row, row-of-sets-other, row-of-sets-front, get-tabulate, tabulate-same, put-tabulate}
+use Rattle.lists.proofs.Tabulated.{get-tabulate, tabulate-same, put-tabulate}
+use Rattle.layout.proofs.RowLaws.{get-row, part-of-row, row-of-sets-other, row-of-sets-front}
 
 -- the slot lies within the area
 pub slot-there : (i : ℕ) → i < recordLimit → slotWidth * i + slotWidth ≤ recordArea

@@ -1,13 +1,14 @@
 -- The four areas as a state, and a state as the four areas. Assumes nothing.
-use Prim.Native.Nat.{ℕ, suc, _+_, _-_, _*_}
+use Prim.Native.Nat.{ℕ, suc, _+_, _-_, _*_, _/_, _%_}
 use mathlib.Core.Bool.{Bool, _&&_}
 use mathlib.Core.List.{List, _∷_, _++_}
 use lib.ListN.{length, getD, drop}
 use lib.Dec.{eqb}
-use Rattle.limits.specs.Places.{processorsPlace, pagesPlace, locksPlace, standingPlace, wantedPlace, firstArrived}
+use Rattle.limits.specs.Places.{processorsPlace, pagesPlace, locksPlace, standingPlace, standingHigh, wantedPlace, firstArrived}
 use Rattle.rules.specs.InOrder.{slotSize}
 use Rattle.rules.specs.State.{Limits, mainframe, Holder, Processor, Lock, Barrier, Applied, Interval, Clocks, Pages, Records, Marks, State, standing}
-use Rattle.layout.specs.Layout.{rowOf, tabulate, perProcessor, joinRows}
+use Rattle.lists.specs.Tables.{tabulate}
+use Rattle.layout.specs.Layout.{rowOf, perProcessor, joinRows}
 
 -- ---- which row a clock has: the barrier's first, then the processors', the locks', the applied clocks and the intervals'
 
@@ -49,7 +50,7 @@ twinRow lim p g = lim .processors * lim .pages + copyRow lim p g
 unfoldable pub wordRows : Limits → ℕ
 wordRows lim = lim .processors * lim .pages + lim .processors * lim .pages
 
--- ---- where a mark stands: processors, pages, locks, records standing, collection wanted, arrived, holders, dirty
+-- ---- where a mark stands: processors, pages, locks, records standing, collection wanted, arrived, holders, dirty, locks waited for, turns
 
 -- the arrived mark of processor p
 unfoldable pub arrivedPlace : Limits → ℕ → ℕ
@@ -63,13 +64,21 @@ holderPlace lim l = firstArrived + lim .processors + l
 unfoldable pub dirtyPlace : Limits → ℕ → ℕ → ℕ
 dirtyPlace lim p g = firstArrived + lim .processors + lim .locks + (p - 1) * lim .pages + g
 
+-- the lock that processor p waits for, plus 1
+unfoldable pub awaitedPlace : Limits → ℕ → ℕ
+awaitedPlace lim p = firstArrived + lim .processors + lim .locks + lim .processors * lim .pages + (p - 1)
+
+-- the turn of processor p
+unfoldable pub turnPlace : Limits → ℕ → ℕ
+turnPlace lim p = firstArrived + lim .processors + lim .locks + lim .processors * lim .pages + lim .processors + (p - 1)
+
 -- all marks
 unfoldable pub markPlaces : Limits → ℕ
-markPlaces lim = firstArrived + lim .processors + lim .locks + lim .processors * lim .pages
+markPlaces lim = firstArrived + lim .processors + lim .locks + lim .processors * lim .pages + lim .processors + lim .processors
 
--- how many records stand
+-- how many records stand: two bytes, the low one first
 unfoldable pub standingCount : List ℕ → ℕ
-standingCount m = getD m standingPlace 0
+standingCount m = getD m standingPlace 0 + 256 * getD m standingHigh 0
 
 -- ---- decode: the state that the areas hold
 
@@ -97,13 +106,15 @@ pagesIn lim w m =
 unfoldable pub recordsIn : Limits → List ℕ → List ℕ → Records
 recordsIn lim r m = record { standing = standingCount m; slots = tabulate (lim .records) (λ i. rowOf (slotSize lim) r i) }
 
--- holders, arrived marks and the wish
+-- holders, arrived marks, the wish, and who waits for which lock at which turn
 unfoldable pub marksIn : Limits → List ℕ → Marks
 marksIn lim m =
     record {
       holders = tabulate (lim .locks) (λ l. getD m (holderPlace lim l) 0);
       arrived = 0 ∷ tabulate (lim .processors) (λ k. getD m (arrivedPlace lim (suc k)) 0);
       wanted = getD m wantedPlace 0;
+      awaited = 0 ∷ tabulate (lim .processors) (λ k. getD m (awaitedPlace lim (suc k)) 0);
+      turns = 0 ∷ tabulate (lim .processors) (λ k. getD m (turnPlace lim (suc k)) 0);
     }
 
 -- the whole state
@@ -134,8 +145,8 @@ recordBytes r = joinRows (r .slots)
 -- the marks in their order
 unfoldable pub markBytes : State → List ℕ
 markBytes s =
-    s .counts .processors ∷ s .counts .pages ∷ s .counts .locks ∷ s .records .standing ∷ s .marks .wanted ∷ drop 1 (s .marks .arrived) ++ s .marks .holders
-    ++ joinRows (s .pages .dirty)
+    s .counts .processors ∷ s .counts .pages ∷ s .counts .locks ∷ s .records .standing % 256 ∷ s .records .standing / 256 ∷ s .marks .wanted
+    ∷ drop 1 (s .marks .arrived) ++ s .marks .holders ++ joinRows (s .pages .dirty) ++ drop 1 (s .marks .awaited) ++ drop 1 (s .marks .turns)
 
 -- ---- "its size is the fixed one"
 

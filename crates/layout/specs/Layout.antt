@@ -1,18 +1,14 @@
 -- How the state lies in lent memory: four areas, each a sequence of rows. Rows of clocks have an entry a processor, rows of words a page,
 -- rows of records a slot; marks stand one by one. Assumes nothing.
-use Prim.Native.Nat.{ℕ, zero, suc, _*_}
+use Prim.Native.Nat.{ℕ, suc, _*_}
 use mathlib.Core.List.{List, [], _∷_, _++_}
 use lib.ListN.{take, drop}
+use Rattle.lists.specs.Tables.{tabulate}
 use Rattle.rules.specs.Opening.{rows}
 
 -- the k-th row of n elements
 unfoldable pub rowOf : {A : Type 0} → ℕ → List A → ℕ → List A
 rowOf n l k = take n (drop (n * k) l)
-
--- the list of f 0 to f (n - 1)
-unfoldable pub tabulate : {A : Type 0} → ℕ → (ℕ → A) → List A
-tabulate zero f = []
-tabulate (suc n) f = f 0 ∷ tabulate n (λ k. f (suc k))
 
 -- a table with a row for each processor, 1 to n, behind nobody's empty one
 unfoldable pub perProcessor : {A : Type 0} → ℕ → (ℕ → List A) → List (List A)

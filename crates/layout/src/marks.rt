@@ -1,4 +1,5 @@
-// The marks by name: counts, the records that stand, the wish, who has arrived, who holds a lock, which pages are dirty.
+// The marks by name: counts, the records that stand, the wish, who has arrived, who holds a lock, which pages are dirty, who waits for which lock
+// at which turn.
 // Every contract is an equation over the list of the marks, with a definition of specs/Areas.antt.
 ghost use mathlib.Core.Path.{_≡_};
 ghost use mathlib.Core.Bool.{not};
@@ -6,24 +7,27 @@ ghost use Prim.Native.Nat.{_<_, _≤_};
 ghost use lib.ListN.{length, set, replicate};
 ghost use lib.Seq.{sets};
 ghost use lib.Dec.{eqb};
-ghost use Rattle.limits.specs.Limits.{pageLimit, processorLimit, recordLimit};
+ghost use Rattle.limits.specs.Limits.{lockLimit, pageLimit, processorLimit, recordLimit};
 ghost use Rattle.limits.specs.Places.{firstArrived, wantedPlace};
 ghost use Rattle.limits.specs.inner.Sizes.{markArea};
 ghost use Rattle.rules.specs.State.{mainframe};
-ghost use Rattle.layout.specs.Areas.{standingCount, arrivedPlace, holderPlace, dirtyPlace};
-ghost use Rattle.layout.specs.inner.Marks.{processorCount, pageCount, lockCount, withStanding, wishMark, arrivedMark, holderMark, dirtyMark};
+ghost use Rattle.layout.specs.Areas.{standingCount, arrivedPlace, holderPlace, dirtyPlace, awaitedPlace, turnPlace};
+ghost use Rattle.layout.specs.inner.Marks.{processorCount, pageCount, lockCount, withStanding, wishMark, arrivedMark, holderMark, dirtyMark, awaitedMark, turnMark};
 ghost use Rattle.layout.specs.inner.Needed.{OnPage, MarksOf, LockMark, PageMark};
 use crate::clear;
 use crate::wide;
 use clock::PageId;
 use clock::ProcessorId;
 use limits::FIRST_ARRIVED;
+use limits::FIRST_AWAITED;
 use limits::FIRST_DIRTY;
 use limits::FIRST_HOLDER;
+use limits::FIRST_TURN;
 use limits::LOCKS_PLACE;
 use limits::PAGE_LIMIT;
 use limits::PAGES_PLACE;
 use limits::PROCESSORS_PLACE;
+use limits::STANDING_HIGH;
 use limits::STANDING_PLACE;
 use limits::WANTED_PLACE;
 
@@ -56,7 +60,7 @@ pub fn standing_count(marks: &[u8]) -> usize
     requires { ⌜ length (now marks) ≡ markArea ⌝ }
     ensures { λ r. ⌜ (r ≡ standingCount (now (marks .entry))) × (r < 65536) ⌝ }
 {
-    wide(marks[STANDING_PLACE])
+    wide(marks[STANDING_PLACE]) + 256 * wide(marks[STANDING_HIGH])
 }
 
 // So many records stand.
@@ -65,6 +69,7 @@ pub fn put_standing_count(marks: &mut [u8], n: usize)
     ensures { λ _. ⌜ now (marks .exit) ≡ withStanding (now (marks .entry)) n ⌝ }
 {
     marks[STANDING_PLACE] = (n % 256) as u8;
+    marks[STANDING_HIGH] = (n / 256) as u8;
 }
 
 // Whether collection is wanted.
@@ -121,6 +126,46 @@ pub fn put_holder(marks: &mut [u8], lock: usize, p: ProcessorId)
     ensures { λ _. ⌜ now (marks .exit) ≡ set (now (marks .entry)) (holderPlace mainframe lock) (p .0) ⌝ }
 {
     marks[FIRST_HOLDER + lock] = (p.0 % 256) as u8;
+}
+
+// Whether a processor waits for a lock.
+pub fn is_waiting(marks: &[u8], p: ProcessorId) -> bool
+    requires { ⌜ MarksOf (now marks) (p .0) ⌝ }
+    ensures { λ r. ⌜ r ≡ not (eqb (awaitedMark (now (marks .entry)) (p .0)) 0) ⌝ }
+{
+    marks[FIRST_AWAITED + (p.0 - 1)] != 0
+}
+
+// The lock that a processor waits for, plus 1; 0 for none.
+pub fn awaited_of(marks: &[u8], p: ProcessorId) -> usize
+    requires { ⌜ MarksOf (now marks) (p .0) ⌝ }
+    ensures { λ r. ⌜ (r ≡ awaitedMark (now (marks .entry)) (p .0)) × (r < 256) ⌝ }
+{
+    wide(marks[FIRST_AWAITED + (p.0 - 1)])
+}
+
+// Its turn: how many of that lock's waiters stand before it.
+pub fn turn_of(marks: &[u8], p: ProcessorId) -> usize
+    requires { ⌜ MarksOf (now marks) (p .0) ⌝ }
+    ensures { λ r. ⌜ (r ≡ turnMark (now (marks .entry)) (p .0)) × (r < 256) ⌝ }
+{
+    wide(marks[FIRST_TURN + (p.0 - 1)])
+}
+
+// A processor waits for a lock, given plus 1, or for none.
+pub fn put_awaited(marks: &mut [u8], p: ProcessorId, lock: usize)
+    requires { ⌜ MarksOf (now marks) (p .0) × (lock ≤ lockLimit) ⌝ }
+    ensures { λ _. ⌜ now (marks .exit) ≡ set (now (marks .entry)) (awaitedPlace mainframe (p .0)) lock ⌝ }
+{
+    marks[FIRST_AWAITED + (p.0 - 1)] = (lock % 256) as u8;
+}
+
+// So many stand before it.
+pub fn put_turn(marks: &mut [u8], p: ProcessorId, turn: usize)
+    requires { ⌜ MarksOf (now marks) (p .0) × (turn < 256) ⌝ }
+    ensures { λ _. ⌜ now (marks .exit) ≡ set (now (marks .entry)) (turnPlace mainframe (p .0)) turn ⌝ }
+{
+    marks[FIRST_TURN + (p.0 - 1)] = (turn % 256) as u8;
 }
 
 // Whether a processor's copy of a page is dirty.

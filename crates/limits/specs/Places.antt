@@ -13,14 +13,18 @@ pagesPlace = 1
 abbrev pub locksPlace : ℕ
 locksPlace = 2
 
--- how many records stand
+-- how many records stand, in two bytes: the low one
 abbrev pub standingPlace : ℕ
 standingPlace = 3
 
+-- and the high one
+abbrev pub standingHigh : ℕ
+standingHigh = 4
+
 -- the wish for collection
 abbrev pub wantedPlace : ℕ
-wantedPlace = 4
+wantedPlace = 5
 
--- the arrived marks, one a processor; behind them the holders of the locks and the dirty marks
+-- the arrived marks, one a processor; behind them the holders of the locks, the dirty marks, and the two marks of waiting of each processor
 abbrev pub firstArrived : ℕ
-firstArrived = 5
+firstArrived = 6

@@ -48,7 +48,8 @@ pub const CLOCK_ROW_LIMIT: usize = FIRST_INTERVAL_ROW + PROCESSOR_LIMIT * INTERV
 // Rows of words: the copies, then the twins.
 pub const WORD_ROW_LIMIT: usize = COPY_LIMIT + COPY_LIMIT;
 
-// Marks: the counts of processors, pages and locks, the records that stand, the wish, then arrived, holders and dirty.
+// Marks: the counts of processors, pages and locks, the records that stand in two bytes, the wish, then arrived, holders and dirty, and for each
+// processor the lock that it waits for and its turn.
 pub const PROCESSORS_PLACE: usize = 0;
 
 pub const PAGES_PLACE: usize = 1;
@@ -57,13 +58,19 @@ pub const LOCKS_PLACE: usize = 2;
 
 pub const STANDING_PLACE: usize = 3;
 
-pub const WANTED_PLACE: usize = 4;
+pub const STANDING_HIGH: usize = 4;
 
-pub const FIRST_ARRIVED: usize = 5;
+pub const WANTED_PLACE: usize = 5;
+
+pub const FIRST_ARRIVED: usize = 6;
 
 pub const FIRST_HOLDER: usize = FIRST_ARRIVED + PROCESSOR_LIMIT;
 
 pub const FIRST_DIRTY: usize = FIRST_HOLDER + LOCK_LIMIT;
+
+pub const FIRST_AWAITED: usize = FIRST_DIRTY + COPY_LIMIT;
+
+pub const FIRST_TURN: usize = FIRST_AWAITED + PROCESSOR_LIMIT;
 
 // The four areas.
 pub const CLOCK_AREA: usize = CLOCK_WIDTH * CLOCK_ROW_LIMIT;
@@ -72,7 +79,7 @@ pub const WORD_AREA: usize = PAGE_WIDTH * WORD_ROW_LIMIT;
 
 pub const RECORD_AREA: usize = SLOT_WIDTH * RECORD_LIMIT;
 
-pub const MARK_AREA: usize = FIRST_DIRTY + COPY_LIMIT;
+pub const MARK_AREA: usize = FIRST_TURN + PROCESSOR_LIMIT;
 
 // A sort key: sum, processor, interval and slot as one number, each below its base.
 pub const SLOT_BASE: u32 = RECORD_LIMIT as u32;

@@ -3,6 +3,7 @@ use Prim.Native.Nat.{ℕ, zero, suc, _+_}
 use mathlib.Core.Bool.{Bool, true, false, cond, _&&_, _||_}
 use mathlib.Core.List.{List, [], _∷_}
 use lib.ListN.{getD}
+use lib.Dec.{eqb}
 
 -- a list with v at place i; where it is too short it is lengthened with d up to there
 unfoldable pub put : {A : Type 0} → A → List A → ℕ → A → List A
@@ -33,6 +34,16 @@ any (suc n) t = any n t || t n
 unfoldable pub total : ℕ → (ℕ → ℕ) → ℕ
 total zero f = 0
 total (suc n) f = total n f + f n
+
+-- the first number below n that passes a test, plus 1; 0 if none does
+unfoldable pub firstOf : ℕ → (ℕ → Bool) → ℕ
+firstOf zero t = 0
+firstOf (suc n) t = cond (eqb (firstOf n t) 0) (cond (t n) (suc n) 0) (firstOf n t)
+
+-- the list of f 0 to f (n - 1)
+unfoldable pub tabulate : {A : Type 0} → ℕ → (ℕ → A) → List A
+tabulate zero f = []
+tabulate (suc n) f = f 0 ∷ tabulate n (λ k. f (suc k))
 
 -- the elements that pass a test, in their order
 unfoldable pub select : {A : Type 0} → (A → Bool) → List A → List A

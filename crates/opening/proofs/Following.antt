@@ -1,6 +1,6 @@
 -- What a caller has after an accepted opening: memory in order, that holds the opened state. Assumes nothing.
 use Prim.Native.Nat.{ℕ}
-use mathlib.Core.Path.{_≡_, refl, ap, _∙_}
+use mathlib.Core.Path.{_≡_, ap, _∙_}
 use mathlib.Core.Bool.{Bool, true, false, cond, not}
 use mathlib.Core.List.{List}
 use lib.ListN.{length}
@@ -11,6 +11,7 @@ use Rattle.rules.specs.Opening.{openingRefusal, opened}
 use Rattle.rules.specs.State.{mainframe, State}
 use Rattle.rules.proofs.inorder.Facts.{Sized}
 use Rattle.rules.proofs.inorder.OpenedInOrder.{opened-sized, opened-in-order, opening-counts}
+use Rattle.rules.proofs.order.Nobody.{opened-nobody-marked}
 use Rattle.layout.specs.Areas.{Areas, areas, holding, rightSizes}
 use Rattle.layout.specs.inner.Needed.{Ready, Holds}
 use Rattle.layout.proofs.Decoding.{encoded-lent, decoded}
@@ -21,7 +22,7 @@ pub opened-holds : (bs c w r m : List ℕ) → areas c w r m ≡ holding (opened
 unfolding areas holding opened
 opened-holds bs c w r m e =
     rw (ap (λ (a : Areas). a .clocks) e, ap (λ (a : Areas). a .words) e, ap (λ (a : Areas). a .records) e, ap (λ (a : Areas). a .marks) e)
-    (record { lent = encoded-lent s sized; is = decoded s sized refl })
+    (record { lent = encoded-lent s sized; is = decoded s sized (opened-nobody-marked mainframe (openingOf bs .counts)) })
   where
     s : State
     s = opened mainframe (openingOf bs .counts)

@@ -13,7 +13,7 @@ use Rattle.limits.specs.Files.{fileRecordWidth}
 use Rattle.limits.specs.inner.Sizes.{clockArea, markArea, partLimit, recordArea, wordArea, wordLimit}
 use Rattle.clock.specs.Clocks.{zeros}
 use Rattle.rules.specs.InOrder.{slotSize, countsInRange}
-use Rattle.rules.specs.Opening.{openingRefusal, rows, zeroClocks, zeroPages, opened}
+use Rattle.rules.specs.Opening.{openingRefusal, rows, zeroClocks, zeroPages, zeroMarks, opened}
 use Rattle.rules.specs.State.{mainframe, Counts}
 use Rattle.layout.specs.Areas.{clockBytes, pageWords, recordBytes, markBytes, sizesRight, Areas, areas, holding, rightSizes}
 use Rattle.layout.specs.Layout.{joinRows}
@@ -144,7 +144,7 @@ unfolding recordBytes opened mainframe joinRows slotSize
 open-records k = refl
 
 pub open-marks : (bs : List ℕ) → markBytes (opened mainframe (openingOf bs .counts)) ≡ openedMarks bs
-unfolding markBytes opened openingOf openedMarks zeroPages mainframe rows joinRows
+unfolding markBytes opened openingOf openedMarks zeroPages zeroMarks mainframe rows joinRows
 open-marks bs = refl
 
 -- ---- the areas of an opened mainframe

@@ -140,15 +140,15 @@ module _ (m : List ℕ) (l x : ℕ) (there : LockMark m l) (mark : x ≡ holderM
   holds : x ≡ holder (seen m) l
   holds = holder-seen m l x there mark
 
-  -- a free lock
-  pub lock-free : x ≡ 0 → 0 ≡ lateRefusal mainframe (seen m) 0 0 (Acquire l)
+  -- 7: "7 remains for the holder's own acquire"
+  pub holder-asks : (p : ℕ) → p ≡ x → 7 ≡ lateRefusal mainframe (seen m) 0 p (Acquire l)
   unfolding lateRefusal
-  lock-free e = rw (← holds, e)
+  holder-asks p e = rw (← holds, eq-eqb x p (sym e))
 
-  -- 7: "lock held, by this card too"
-  pub lock-held : (x ≡ 0 → ⊥) → 7 ≡ lateRefusal mainframe (seen m) 0 0 (Acquire l)
+  -- any other may ask
+  pub other-asks : (p : ℕ) → (p ≡ x → ⊥) → 0 ≡ lateRefusal mainframe (seen m) 0 p (Acquire l)
   unfolding lateRefusal
-  lock-held e = rw (← holds, ne-eqb x 0 e)
+  other-asks p e = rw (← holds, ne-eqb x p (λ z. e (sym z)))
 
   -- the holder releases
   pub holder-releases : (p : ℕ) → x ≡ p → 0 ≡ lateRefusal mainframe (seen m) 0 p (Release l)
@@ -179,7 +179,7 @@ module _ (m : List ℕ) (n k p o : ℕ) where
   unfolding refusalOfKind
   write-decides r e i = rw e i
 
-  pub acquire-decides : (r : ℕ) → k ≡ 3 → r ≡ lateRefusal mainframe (seen m) 0 0 (Acquire o) → r ≡ refusalOfKind (seen m) n k p o
+  pub acquire-decides : (r : ℕ) → k ≡ 3 → r ≡ lateRefusal mainframe (seen m) 0 p (Acquire o) → r ≡ refusalOfKind (seen m) n k p o
   unfolding refusalOfKind
   acquire-decides r e i = rw e i
 

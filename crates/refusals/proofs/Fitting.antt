@@ -1,4 +1,4 @@
--- The rows 3 to 6 as one test: flags multiplied, by the bounds of the kinds and the marks. One law for each way of the code. Assumes nothing.
+-- The rows 3 to 6 and 17 as one test: flags multiplied, by the bounds of the kinds and the marks. One law for each way of the code. Assumes nothing.
 use Prim.Native.Nat.{ℕ, _+_, _*_, _%_, _^_, _≤_, _<_, min}
 use native.Mathlib.Nat.{zero-mul}
 use native.Mathlib.Decide.{decLe, decLt}
@@ -13,17 +13,18 @@ use mir.Syntax.{w8, w32, w64}
 use mir.Val.{Fits}
 use Rattle.limits.specs.Limits.{processorLimit}
 use Rattle.limits.specs.Places.{firstArrived}
-use Rattle.limits.specs.inner.Sizes.{boundArea, kindBounds, kindLimit, valueLimit}
+use Rattle.limits.specs.inner.Sizes.{boundArea, firstAwaited, kindBounds, kindLimit, markArea, valueLimit}
 use Rattle.rules.specs.InOrder.{present}
+use Rattle.rules.specs.Lines.{waits}
 use Rattle.rules.specs.Refusals.{knownKind, usesValue}
 use Rattle.rules.specs.State.{mainframe, hasArrived}
 use Rattle.rules.proofs.inorder.KindsOfSteps.{by-kind, known-says}
-use Rattle.layout.specs.Areas.{arrivedPlace, stateIn}
-use Rattle.layout.specs.inner.Marks.{processorCount, arrivedMark}
-use Rattle.refusals.specs.inner.Parts.{seen, boundOf, fieldsFit, mayAct, stepFits}
-use Rattle.refusals.specs.inner.Bounds.{objectBoundOf, valueBoundOf, inBounds, boundsOf}
+use Rattle.layout.specs.Areas.{arrivedPlace, awaitedPlace, stateIn}
+use Rattle.layout.specs.inner.Marks.{processorCount, arrivedMark, awaitedMark}
+use Rattle.refusals.specs.inner.Parts.{seen, boundOf, fieldsFit, isFree, mayAct, stepFits}
+use Rattle.refusals.specs.inner.Bounds.{objectBoundOf, valueBoundOf, inBounds, marksFree, boundsOf}
 use Rattle.refusals.specs.inner.Needed.{MarksCountable, BoundsOf}
-use Rattle.refusals.proofs.Marked.{arrived-seen}
+use Rattle.refusals.proofs.Marked.{arrived-seen, waiting-seen}
 
 -- ---- flags
 
@@ -101,28 +102,57 @@ in-bounds m bounds k o v h l =
 
 -- ---- the processor
 
--- its mark, or that behind the last, has its place
-pub arrived-place-there : (m : List ℕ) (d j : ℕ) → MarksCountable m → j ≡ min d processorLimit → firstArrived + j < length m
-arrived-place-there m d j h e = omega (arith, h .marks, e)
+-- its marks, or those behind the last, have their places
+pub processor-place : (m : List ℕ) (d j : ℕ) → MarksCountable m → j ≡ min d processorLimit → (length m ≡ markArea) × (j ≤ processorLimit)
+processor-place m d j h e = (h .marks, omega (arith, e))
 
--- by the number of processors and one mark
+module _ (m : List ℕ) (j : ℕ) (h : (length m ≡ markArea) × (j ≤ processorLimit)) where
+  pub arrived-place-there : firstArrived + j < length m
+  arrived-place-there = omega (arith, h .0, h .1)
+
+  pub awaited-place-there : firstAwaited + j < length m
+  awaited-place-there = omega (arith, h .0, h .1)
+
+  -- the flags of both marks
+  pub marks-flagged : (x y : ℕ) → x ≡ cond (eqb (getD m (firstArrived + j) 0) 0) 1 0 → y ≡ cond (eqb (getD m (firstAwaited + j) 0) 0) 1 0
+      → x * y ≡ cond (marksFree m j) 1 0
+  unfolding marksFree
+  marks-flagged x y ex ey = both (eqb (getD m (firstArrived + j) 0) 0) (eqb (getD m (firstAwaited + j) 0) 0) x y ex ey
+
+-- by the number of processors and two marks
 module _ (m : List ℕ) (q d j : ℕ) (h : MarksCountable m) (small : q < 4294967296) (wraps : (d + 1) % 18446744073709551616 ≡ q) (large : d < 18446744073709551616) (least : j ≡ min d processorLimit) where
   -- one that is among the processors
   there : j < processorCount m → q ≡ j + 1
   there l = omega (arith, h .processors, small, wraps, large, least)
 
-  own-mark : j < processorCount m → eqb (getD m (firstArrived + j) 0) 0 ≡ not (hasArrived (seen m) q)
-  unfolding arrivedPlace
-  own-mark l =
-      let is : q ≡ j + 1 = there l in
-      let place : firstArrived + j ≡ arrivedPlace mainframe q = omega arith in
-      not-not (eqb (getD m (firstArrived + j) 0) 0)
-      ∙ ap (λ (x : ℕ). not (not (eqb (getD m x 0) 0))) place
-      ∙ ap (λ (b : Bool). not b) (arrived-seen m (not (eqb (arrivedMark m q) 0)) q (omega arith) (omega (arith, h .processors)) refl)
+  own-marks : j < processorCount m → marksFree m j ≡ isFree (seen m) q
+  unfolding marksFree isFree arrivedPlace awaitedPlace mainframe
+  own-marks l = λ i. arrived i && awake i
     where
       not-not : (b : Bool) → b ≡ not (not b)
       not-not true = refl
       not-not false = refl
+
+      is : q ≡ j + 1
+      is = there l
+
+      arrived-place : firstArrived + j ≡ arrivedPlace mainframe q
+      arrived-place = omega (arith, is)
+
+      awaited-place : firstAwaited + j ≡ awaitedPlace mainframe q
+      awaited-place = omega (arith, is)
+
+      arrived : eqb (getD m (firstArrived + j) 0) 0 ≡ not (hasArrived (seen m) q)
+      arrived =
+          not-not (eqb (getD m (firstArrived + j) 0) 0)
+          ∙ ap (λ (x : ℕ). not (not (eqb (getD m x 0) 0))) arrived-place
+          ∙ ap (λ (b : Bool). not b) (arrived-seen m (not (eqb (arrivedMark m q) 0)) q (omega (arith, is)) (omega (arith, is, l, h .processors)) refl)
+
+      awake : eqb (getD m (firstAwaited + j) 0) 0 ≡ not (waits (seen m .marks) q)
+      awake =
+          not-not (eqb (getD m (firstAwaited + j) 0) 0)
+          ∙ ap (λ (x : ℕ). not (not (eqb (getD m x 0) 0))) awaited-place
+          ∙ ap (λ (b : Bool). not b) (waiting-seen m (not (eqb (awaitedMark m q) 0)) q (omega (arith, is)) (omega (arith, is, l, h .processors)) refl)
 
   -- one that is not
   absent : processorCount m ≤ j → (leb 1 q && leb q (processorCount m)) ≡ false
@@ -132,26 +162,26 @@ module _ (m : List ℕ) (q d j : ℕ) (h : MarksCountable m) (small : q < 429496
       go (yes k) = rw (lt-leb q (processorCount m) (omega (arith, h .processors, small, wraps, large, least, l))) (and-false (leb 1 q))
       go (no k) = rw (lt-leb 1 q (omega arith))
 
-  acts-by-mark : (ltb j (processorCount m) && eqb (getD m (firstArrived + j) 0) 0) ≡ mayAct (seen m) q
+  acts-by-marks : (ltb j (processorCount m) && marksFree m j) ≡ mayAct (seen m) q
   unfolding mayAct present seen stateIn
-  acts-by-mark = go (decLt j (processorCount m))
+  acts-by-marks = go (decLt j (processorCount m))
     where
       go : Dec (j < processorCount m)
-          → (ltb j (processorCount m) && eqb (getD m (firstArrived + j) 0) 0) ≡ (leb 1 q && leb q (processorCount m) && not (hasArrived (seen m) q))
-      go (yes l) = rw (lt-ltb j (processorCount m) l, le-leb 1 q (omega (arith, there l)), le-leb q (processorCount m) (omega (arith, there l))) (own-mark l)
+          → (ltb j (processorCount m) && marksFree m j) ≡ (leb 1 q && leb q (processorCount m) && isFree (seen m) q)
+      go (yes l) = rw (lt-ltb j (processorCount m) l, le-leb 1 q (omega (arith, there l)), le-leb q (processorCount m) (omega (arith, there l))) (own-marks l)
       go (no l) = rw (le-ltb j (processorCount m) (omega arith), absent (omega arith))
 
 -- the flags of both
 pub processor-flagged : (m : List ℕ) (q d j n x y : ℕ) → MarksCountable m → Fits w32 q → Fits w64 d → (d + 1) % 2 ^ 64 ≡ q → j ≡ min d processorLimit
-    → (n ≡ processorCount m) × (n < 256) → x ≡ cond (ltb j n) 1 0 → y ≡ cond (eqb (getD m (firstArrived + j) 0) 0) 1 0 → x * y ≡ cond (mayAct (seen m) q) 1 0
+    → (n ≡ processorCount m) × (n < 256) → x ≡ cond (ltb j n) 1 0 → y ≡ cond (marksFree m j) 1 0 → x * y ≡ cond (mayAct (seen m) q) 1 0
 processor-flagged m q d j n x y h fq fd wraps least count ex ey =
-    both (ltb j n) (eqb (getD m (firstArrived + j) 0) 0) x y ex ey
-    ∙ ap (λ (i : ℕ). cond (ltb j i && eqb (getD m (firstArrived + j) 0) 0) 1 0) (count .0)
-    ∙ ap (λ (b : Bool). cond b 1 0) (acts-by-mark m q d j h (fq .fits) wraps (fd .fits) least)
+    both (ltb j n) (marksFree m j) x y ex ey
+    ∙ ap (λ (i : ℕ). cond (ltb j i && marksFree m j) 1 0) (count .0)
+    ∙ ap (λ (b : Bool). cond b 1 0) (acts-by-marks m q d j h (fq .fits) wraps (fd .fits) least)
 
 -- ---- the step
 
--- both flags set: no row from 3 to 6 refuses
+-- both flags set: no row from 3 to 6 refuses, and not 17
 pub fits-by-flags : (m bounds : List ℕ) (k p o v x y : ℕ) → BoundsOf m bounds → Fits w32 v → x ≡ cond (inBounds bounds k o v) 1 0 → y ≡ cond (mayAct (seen m) p) 1 0
     → eqb (x * y) 1 ≡ stepFits (seen m) k p o v
 unfolding stepFits

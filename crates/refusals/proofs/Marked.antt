@@ -1,4 +1,4 @@
--- What the marks in lent memory say: present processors, arrived marks, holders, dirty pages. Assumes nothing.
+-- What the marks in lent memory say: present processors, arrived marks, waiters, holders, dirty pages. Assumes nothing.
 use Prim.Native.Nat.{ℕ, _≤_, _<_}
 use native.Mathlib.Omega.{arith}
 use mathlib.Core.Path.{_≡_, sym, ap, _∙_}
@@ -8,11 +8,12 @@ use lib.Dec.{leb, eqb}
 use borrow.Author.Tests.{le-leb}
 use Rattle.limits.specs.Limits.{pageLimit, processorLimit}
 use Rattle.rules.specs.InOrder.{present}
+use Rattle.rules.specs.Lines.{waits}
 use Rattle.rules.specs.State.{dirtyAt, holder, hasArrived}
 use Rattle.layout.specs.Areas.{stateIn}
-use Rattle.layout.specs.inner.Marks.{processorCount, arrivedMark, holderMark, dirtyMark}
+use Rattle.layout.specs.inner.Marks.{processorCount, arrivedMark, awaitedMark, holderMark, dirtyMark}
 use Rattle.layout.specs.inner.Needed.{LockMark}
-use Rattle.layout.proofs.MarkLaws.{arrived-read, holder-read}
+use Rattle.layout.proofs.MarkLaws.{arrived-read, awaited-read, holder-read}
 use Rattle.layout.proofs.PageLaws.{dirty-read}
 use Rattle.refusals.specs.inner.Parts.{seen}
 
@@ -35,6 +36,11 @@ module _ (m : List ℕ) (b : Bool) (p : ℕ) (from : 1 ≤ p) (to : p ≤ proces
   pub arrived-seen : b ≡ not (eqb (arrivedMark m p) 0) → b ≡ hasArrived (seen m) p
   unfolding hasArrived seen
   arrived-seen e = e ∙ ap (λ (k : ℕ). not (eqb k 0)) (sym (arrived-read [] [] [] m p from to))
+
+  -- whether it waits
+  pub waiting-seen : b ≡ not (eqb (awaitedMark m p) 0) → b ≡ waits (seen m .marks) p
+  unfolding waits seen
+  waiting-seen e = e ∙ ap (λ (k : ℕ). not (eqb k 0)) (sym (awaited-read [] [] [] m p from to))
 
   -- the dirty mark of one of its pages
   pub dirty-seen : (g : ℕ) → g < pageLimit → b ≡ not (eqb (dirtyMark m p g) 0) → b ≡ dirtyAt (seen m .pages) p g

@@ -1,4 +1,4 @@
--- The rows 3 to 6 in the table's order, the whole table, and `refusal-laws`, by which every function's proof searches. Assumes nothing.
+-- The rows 3 to 6 and 17 in the table's order, the whole table, and `refusal-laws`, by which every function's proof searches. Assumes nothing.
 use Prim.Native.Nat.{ℕ, _≤_}
 use native.Mathlib.Omega.{arith}
 use mathlib.Core.Path.{_≡_, refl, sym, ap, _∙_}
@@ -8,27 +8,28 @@ use lib.Dec.{ltb, eqb}
 use borrow.Author.Tests.{not-true, not-false}
 use borrow.Author.Needs.{needs}
 use Rattle.rules.specs.InOrder.{present, presentHolder, dirtyPages}
+use Rattle.rules.specs.Lines.{waits}
 use Rattle.rules.specs.Refusals.{Step, stepOf, Action, Read, Write, Acquire, Release, Arrive, Want, Unknown, actionOf, knownKind, objectBound, usesValue, fits, lateRefusal, refusalBy, refusalInOrder}
 use Rattle.rules.specs.State.{mainframe, dirtyAt, State, own, holder, hasArrived}
 use Rattle.rules.proofs.inorder.Accepted.{present-says}
 use Rattle.rules.proofs.inorder.KindsOfSteps.{by-kind, known-says}
 use Rattle.layout.specs.Areas.{pagesIn, recordsIn, stateIn}
-use Rattle.layout.specs.inner.Marks.{arrivedMark}
+use Rattle.layout.specs.inner.Marks.{arrivedMark, awaitedMark}
 use Rattle.layout.specs.inner.Needed.{MarksOf, Ready}
-use Rattle.refusals.specs.inner.Parts.{seen, boundOf, fieldsFit, mayAct, stepFits, earlyOfFields, earlyOfKnown, earlyRefusal, refusalOfKind}
+use Rattle.refusals.specs.inner.Parts.{seen, boundOf, fieldsFit, isFree, mayAct, stepFits, earlyOfFields, earlyOfKnown, earlyRefusal, refusalOfKind}
 use Rattle.refusals.specs.inner.Needed.{MarksCountable, KnownKind, KnownStep, FittingStep}
-use Rattle.refusals.proofs.Marked.{nobody-absent, count-decides, arrived-seen}
+use Rattle.refusals.proofs.Marked.{nobody-absent, count-decides, arrived-seen, waiting-seen}
 use Rattle.refusals.proofs.Counting.{counting-begins, counting-next, counting-more, counting-ends, few-counted, records-to-come-are, product-fits, room-sum-fits, marks-decide-room}
-use Rattle.refusals.proofs.ByKind.{zero-unknown, last-decides, words-fit, words-bound, locks-bound, no-bound, value-used, object-absent, any-value, no-value, word-there, lock-there, page-of-word, counted-of-write, dirty-takes-stores, no-interval-left, no-room-left, write-has-space, write-has-ample-space, lock-free, lock-held, holder-releases, not-the-holder, write-of-kind, lock-of-acquire, lock-of-release, write-decides, acquire-decides, release-decides, other-kinds-pass}
-use Rattle.refusals.proofs.Fitting.{flags-fit, object-bound-there, value-bound-there, fields-flagged, arrived-place-there, processor-flagged, fits-by-flags, bounds-long}
+use Rattle.refusals.proofs.ByKind.{zero-unknown, last-decides, words-fit, words-bound, locks-bound, no-bound, value-used, object-absent, any-value, no-value, word-there, lock-there, page-of-word, counted-of-write, dirty-takes-stores, no-interval-left, no-room-left, write-has-space, write-has-ample-space, holder-asks, other-asks, holder-releases, not-the-holder, write-of-kind, lock-of-acquire, lock-of-release, write-decides, acquire-decides, release-decides, other-kinds-pass}
+use Rattle.refusals.proofs.Fitting.{flags-fit, object-bound-there, value-bound-there, fields-flagged, processor-place, arrived-place-there, awaited-place-there, marks-flagged, processor-flagged, fits-by-flags, bounds-long}
 
--- ---- the rows 5 and 6
+-- ---- the rows 5, 6 and 17
 
 -- what row 5 asks for
 pub kind-of-step : (m : List ℕ) (k p : ℕ) → KnownStep m k p → KnownKind m k
 kind-of-step m k p h = h .kind-known
 
--- what row 6 asks for
+-- what the rows 6 and 17 ask for
 pub marks-of-step : (m : List ℕ) (k p : ℕ) → KnownStep m k p → MarksOf m p
 marks-of-step m k p h = record { marks = h .by .counted .marks; from = h .by .from; to = h .by .to }
 
@@ -47,10 +48,19 @@ module _ (m : List ℕ) (k p o v : ℕ) (h : KnownStep m k p) (b : Bool) (fit : 
     unfolding earlyOfFields
     arrived-refused t = rw (← fit, fits?, ← arrived, t)
 
-    -- then none of them refuses
-    pub fields-pass : a ≡ false → 0 ≡ earlyOfFields (seen m) k p o v
-    unfolding earlyOfFields
-    fields-pass t = rw (← fit, fits?, ← arrived, t)
+    module _ (away : a ≡ false) (w : Bool) (awaited : w ≡ not (eqb (awaitedMark m p) 0)) where
+      waiting : w ≡ waits (seen m .marks) p
+      waiting = waiting-seen m w p (h .by .from) (h .by .to) awaited
+
+      -- 17: "a step by a waiting card"
+      pub waiter-refused : w ≡ true → 17 ≡ earlyOfFields (seen m) k p o v
+      unfolding earlyOfFields
+      waiter-refused t = rw (← fit, fits?, ← arrived, away, ← waiting, t)
+
+      -- then none of them refuses
+      pub fields-pass : w ≡ false → 0 ≡ earlyOfFields (seen m) k p o v
+      unfolding earlyOfFields
+      fields-pass t = rw (← fit, fits?, ← arrived, away, ← waiting, t)
 
 -- ---- row 4
 
@@ -107,50 +117,55 @@ module _ (s : State) (k p o v : ℕ) where
     late-in-parts n = by-kind (λ j. lateRefusal mainframe s n p (actionOf (stepOf j p o v)) ≡ refusalOfKind s n j p o) refl refl refl refl refl refl k (known .0) (known .1)
 
     known-in-parts : (n : ℕ) → refusalBy mainframe s n (stepOf k p o v)
-        ≡ cond (not (knownKind k)) 3 (cond (not (present s p)) 4 (cond (not (fieldsFit s k o v)) 5 (cond (hasArrived s p) 6 (refusalOfKind s n k p o))))
+        ≡ cond (not (knownKind k)) 3 (cond (not (present s p)) 4 (cond (not (fieldsFit s k o v)) 5 (cond (hasArrived s p) 6 (cond (waits (s .marks) p) 17 (refusalOfKind s n k p o)))))
     unfolding refusalBy stepOf
     known-in-parts n = rw (fits-in-parts, late-in-parts n)
 
-  -- a step that fits is refused by its kind, any other by a row up to 6
+  -- a step that fits is refused by its kind, any other by a row up to 17
   pub refusal-in-two : (n : ℕ) → refusalBy mainframe s n (stepOf k p o v) ≡ cond (stepFits s k p o v) (refusalOfKind s n k p o) (earlyRefusal s k p o v)
-  unfolding refusalBy stepOf stepFits mayAct earlyRefusal earlyOfKnown earlyOfFields
+  unfolding refusalBy stepOf stepFits mayAct isFree earlyRefusal earlyOfKnown earlyOfFields
   refusal-in-two n = go (knownKind k) refl
     where
-      cases : (a b c : Bool) (r : ℕ)
-          → cond (not a) 4 (cond (not b) 5 (cond c 6 r)) ≡ cond (b && (a && not c)) r (cond (not a) 4 (cond (not b) 5 (cond c 6 0)))
-      cases false true c r = refl
-      cases false false c r = refl
-      cases true false c r = refl
-      cases true true true r = refl
-      cases true true false r = refl
+      cases : (a b c d : Bool) (r : ℕ)
+          → cond (not a) 4 (cond (not b) 5 (cond c 6 (cond d 17 r)))
+          ≡ cond (b && (a && (not c && not d))) r (cond (not a) 4 (cond (not b) 5 (cond c 6 (cond d 17 0))))
+      cases false true c d r = refl
+      cases false false c d r = refl
+      cases true false c d r = refl
+      cases true true true d r = refl
+      cases true true false true r = refl
+      cases true true false false r = refl
 
       go : (d : Bool) → knownKind k ≡ d
           → refusalBy mainframe s n (stepOf k p o v)
-          ≡ cond (knownKind k && fieldsFit s k o v && (present s p && not (hasArrived s p))) (refusalOfKind s n k p o)
-          (cond (not (knownKind k)) 3 (cond (not (present s p)) 4 (cond (not (fieldsFit s k o v)) 5 (cond (hasArrived s p) 6 0))))
+          ≡ cond (knownKind k && fieldsFit s k o v && (present s p && (not (hasArrived s p) && not (waits (s .marks) p)))) (refusalOfKind s n k p o)
+          (cond (not (knownKind k)) 3 (cond (not (present s p)) 4 (cond (not (fieldsFit s k o v)) 5 (cond (hasArrived s p) 6 (cond (waits (s .marks) p) 17 0)))))
       go false e = rw e
-      go true e = known-in-parts (known-says k e) n ∙ rw e (cases (present s p) (fieldsFit s k o v) (hasArrived s p) (refusalOfKind s n k p o))
+      go true e = known-in-parts (known-says k e) n ∙ rw e (cases (present s p) (fieldsFit s k o v) (hasArrived s p) (waits (s .marks) p) (refusalOfKind s n k p o))
 
-  -- a step fits where no row up to 6 refuses it
+  -- a step fits where no row up to 17 refuses it
   pub early-passes : earlyRefusal s k p o v ≡ 0 → stepFits s k p o v ≡ true
-  unfolding stepFits mayAct earlyRefusal earlyOfKnown earlyOfFields
-  early-passes e = go (knownKind k) (present s p) (fieldsFit s k o v) (hasArrived s p) e
+  unfolding stepFits mayAct isFree earlyRefusal earlyOfKnown earlyOfFields
+  early-passes e = go (knownKind k) (present s p) (fieldsFit s k o v) (hasArrived s p) (waits (s .marks) p) e
     where
-      go : (d a b c : Bool) → cond {A = ℕ} (not d) 3 (cond (not a) 4 (cond (not b) 5 (cond c 6 0))) ≡ 0 → (d && b && (a && not c)) ≡ true
-      go false a b c e = absurd (omega arith)
-      go true false b c e = absurd (omega arith)
-      go true true false c e = absurd (omega arith)
-      go true true true true e = absurd (omega arith)
-      go true true true false e = refl
+      go : (d a b c w : Bool) → cond {A = ℕ} (not d) 3 (cond (not a) 4 (cond (not b) 5 (cond c 6 (cond w 17 0)))) ≡ 0
+          → (d && b && (a && (not c && not w))) ≡ true
+      go false a b c w e = absurd (omega arith)
+      go true false b c w e = absurd (omega arith)
+      go true true false c w e = absurd (omega arith)
+      go true true true true w e = absurd (omega arith)
+      go true true true false true e = absurd (omega arith)
+      go true true true false false e = refl
 
   -- and only there
   pub fitting-not-refused : stepFits s k p o v ≡ true → earlyRefusal s k p o v ≡ 0
-  unfolding stepFits mayAct earlyRefusal earlyOfKnown earlyOfFields
+  unfolding stepFits mayAct isFree earlyRefusal earlyOfKnown earlyOfFields
   fitting-not-refused e =
-      let kind-and-fields = and-eq-true-iff (knownKind k && fieldsFit s k o v) (present s p && not (hasArrived s p)) .0 e in
+      let kind-and-fields = and-eq-true-iff (knownKind k && fieldsFit s k o v) (present s p && (not (hasArrived s p) && not (waits (s .marks) p))) .0 e in
       let kind-is = and-eq-true-iff (knownKind k) (fieldsFit s k o v) .0 (kind-and-fields .0) in
-      let acts = and-eq-true-iff (present s p) (not (hasArrived s p)) .0 (kind-and-fields .1) in
-      rw (kind-is .0, acts .0, kind-is .1, not-true (hasArrived s p) (acts .1))
+      let acts = and-eq-true-iff (present s p) (not (hasArrived s p) && not (waits (s .marks) p)) .0 (kind-and-fields .1) in
+      let free = and-eq-true-iff (not (hasArrived s p)) (not (waits (s .marks) p)) .0 (acts .1) in
+      rw (kind-is .0, acts .0, kind-is .1, not-true (hasArrived s p) (free .0), not-true (waits (s .marks) p) (free .1))
 
 module _ (m : List ℕ) (k p o v : ℕ) where
   -- what the rows from 7 on ask for
@@ -159,7 +174,7 @@ module _ (m : List ℕ) (k p o v : ℕ) where
   fitting-step h e =
       let kind-and-fields = and-eq-true-iff (knownKind k && fieldsFit (seen m) k o v) (mayAct (seen m) p) .0 e in
       let fit = and-eq-true-iff (knownKind k) (fieldsFit (seen m) k o v) .0 (kind-and-fields .0) .1 in
-      let is = present-says (seen m) p (and-eq-true-iff (present (seen m) p) (not (hasArrived (seen m) p)) .0 (kind-and-fields .1) .0) in
+      let is = present-says (seen m) p (and-eq-true-iff (present (seen m) p) (isFree (seen m) p) .0 (kind-and-fields .1) .0) in
       record {
         by = record { counted = h; from = is .0; to = omega (arith, is .1, h .processors) };
         word = word-there m k o v h fit;
@@ -167,7 +182,7 @@ module _ (m : List ℕ) (k p o v : ℕ) where
       }
 
   module _ (x : ℕ) (early : x ≡ earlyRefusal (seen m) k p o v) where
-    -- a row up to 6 refuses
+    -- a row up to 17 refuses
     pub early-decides : (n : ℕ) → (x ≡ 0 → ⊥) → x ≡ refusalBy mainframe (seen m) n (stepOf k p o v)
     early-decides n z = early ∙ sym (refusal-in-two (seen m) k p o v n ∙ go (stepFits (seen m) k p o v) refl)
       where
@@ -224,14 +239,14 @@ module _ (c w r m : List ℕ) where
   late-by-marks n p Want = refl
   late-by-marks n p Unknown = refl
 
-  -- the rows 3, 4 and 6 too
+  -- the rows 3, 4, 6 and 17 too
   same : (t : Step) (b l : ℕ)
       → cond (not (knownKind (t .kind))) 3
       (cond (not (present (stateIn mainframe c w r m) (t .processor))) 4
-      (cond (not (ltb (t .object) b && (usesValue (t .kind) || eqb (t .value) 0))) 5 (cond (hasArrived (stateIn mainframe c w r m) (t .processor)) 6 l)))
+      (cond (not (ltb (t .object) b && (usesValue (t .kind) || eqb (t .value) 0))) 5 (cond (hasArrived (stateIn mainframe c w r m) (t .processor)) 6 (cond (waits (stateIn mainframe c w r m .marks) (t .processor)) 17 l))))
       ≡ cond (not (knownKind (t .kind))) 3
       (cond (not (present (seen m) (t .processor))) 4
-      (cond (not (ltb (t .object) b && (usesValue (t .kind) || eqb (t .value) 0))) 5 (cond (hasArrived (seen m) (t .processor)) 6 l)))
+      (cond (not (ltb (t .object) b && (usesValue (t .kind) || eqb (t .value) 0))) 5 (cond (hasArrived (seen m) (t .processor)) 6 (cond (waits (seen m .marks) (t .processor)) 17 l))))
   unfolding present hasArrived seen stateIn
   same t b l = refl
 
@@ -246,4 +261,4 @@ module _ (c w r m : List ℕ) where
   unfolding refusalInOrder
   table-decides t n x e i = e ∙ sym (table-by-marks t n) ∙ ap (λ (j : ℕ). refusalBy mainframe (stateIn mainframe c w r m) j t) i
 
-pub ruleset refusal-laws = (nobody-absent, count-decides, counting-begins, counting-next, counting-more, counting-ends, few-counted, records-to-come-are, product-fits, room-sum-fits, marks-decide-room, zero-unknown, last-decides, words-fit, words-bound, locks-bound, no-bound, value-used, object-absent, any-value, no-value, page-of-word, counted-of-write, dirty-takes-stores, no-interval-left, no-room-left, write-has-space, write-has-ample-space, lock-free, lock-held, holder-releases, not-the-holder, write-of-kind, lock-of-acquire, lock-of-release, write-decides, acquire-decides, release-decides, other-kinds-pass, kind-of-step, marks-of-step, fields-refused, arrived-refused, fields-pass, processor-refused, fields-decide, counted-of-kind, step-known, kind-refused, known-decides, kind-known, early-decides, step-fits, kind-decides, flags-fit, object-bound-there, value-bound-there, fields-flagged, arrived-place-there, processor-flagged, fits-by-flags, bounds-long, needs)
+pub ruleset refusal-laws = (nobody-absent, count-decides, counting-begins, counting-next, counting-more, counting-ends, few-counted, records-to-come-are, product-fits, room-sum-fits, marks-decide-room, zero-unknown, last-decides, words-fit, words-bound, locks-bound, no-bound, value-used, object-absent, any-value, no-value, page-of-word, counted-of-write, dirty-takes-stores, no-interval-left, no-room-left, write-has-space, write-has-ample-space, holder-asks, other-asks, holder-releases, not-the-holder, write-of-kind, lock-of-acquire, lock-of-release, write-decides, acquire-decides, release-decides, other-kinds-pass, kind-of-step, marks-of-step, fields-refused, arrived-refused, waiter-refused, fields-pass, processor-refused, fields-decide, counted-of-kind, step-known, kind-refused, known-decides, kind-known, early-decides, step-fits, kind-decides, flags-fit, object-bound-there, value-bound-there, fields-flagged, processor-place, arrived-place-there, awaited-place-there, marks-flagged, processor-flagged, fits-by-flags, bounds-long, needs)

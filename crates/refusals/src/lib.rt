@@ -1,17 +1,18 @@
-// The refusals 3 to 10 of a step, in the order of document 01's table: from the marks of a state in order and the own entry of the step's
+// The refusals 3 to 10 and 17 of a step, in the order of document 01's table: from the marks of a state in order and the own entry of the step's
 // processor, and from nothing else. Every contract is an equation over the state that the marks alone show, with a definition of the rules
 // or of specs/Parts.antt and specs/Bounds.antt.
 ghost use mathlib.Core.Path.{_≡_};
 ghost use mathlib.Core.Bool.{cond};
 ghost use Prim.Native.Nat.{_≤_, min};
 ghost use lib.ListN.{length};
-ghost use Rattle.limits.specs.inner.Sizes.{boundArea, copyLimit};
+ghost use Rattle.limits.specs.Limits.{processorLimit};
+ghost use Rattle.limits.specs.inner.Sizes.{boundArea, copyLimit, markArea};
 ghost use Rattle.rules.specs.State.{mainframe};
 ghost use Rattle.rules.specs.InOrder.{present, dirtyPages};
 ghost use Rattle.rules.specs.Refusals.{Write, Acquire, Release, knownKind, usesValue, lateRefusal};
 ghost use Rattle.layout.specs.inner.Needed.{LockMark};
 ghost use Rattle.refusals.specs.inner.Parts.{seen, boundOf, fieldsFit, mayAct, stepFits, earlyRefusal, earlyOfKnown, earlyOfFields, refusalOfKind, recordsToCome, roomIfAllDirty};
-ghost use Rattle.refusals.specs.inner.Bounds.{inBounds};
+ghost use Rattle.refusals.specs.inner.Bounds.{inBounds, marksFree};
 ghost use Rattle.refusals.specs.inner.Needed.{MarksCountable, BoundsOf, KnownKind, KnownStep, FittingStep, WriteOf};
 use clock::PageId;
 use clock::ProcessorId;
@@ -19,6 +20,7 @@ use layout::flag;
 use layout::marks::has_arrived;
 use layout::marks::holder_of;
 use layout::marks::is_dirty;
+use layout::marks::is_waiting;
 use layout::marks::lock_count;
 use layout::marks::page_count;
 use layout::marks::processor_count;
@@ -26,6 +28,7 @@ use layout::marks::standing_count;
 use layout::wide;
 use limits::COPY_LIMIT;
 use limits::FIRST_ARRIVED;
+use limits::FIRST_AWAITED;
 use limits::FIRST_DIRTY;
 use limits::KIND_BOUNDS;
 use limits::KIND_LIMIT;
@@ -34,7 +37,7 @@ use limits::PAGE_WIDTH;
 use limits::PROCESSOR_LIMIT;
 use limits::RECORD_LIMIT;
 
-// Whether no row from 3 to 6 refuses a step, as one test: by the bounds of the kinds, flags multiplied.
+// Whether no row from 3 to 6 refuses a step, nor 17, as one test: by the bounds of the kinds, flags multiplied.
 pub fn fits(
     kind: u32,
     processor: u32,
@@ -59,8 +62,8 @@ fn fields_flag(kind: u32, object: u32, value: u32, bounds: &[u32]) -> u8
     flag(object < bounds[k]) * flag(value <= bounds[KIND_BOUNDS + k])
 }
 
-// Rows 4 and 6: 1 where a processor is present and has not arrived. Nobody's number less 1 wraps to a large one; behind the last
-// processor's mark stands another, which does not count, since no processor is there.
+// Rows 4, 6 and 17: 1 where a processor is present, has not arrived and does not wait. Nobody's number less 1 wraps to a large one; behind
+// the last processor's mark stands another, which does not count, since no processor is there.
 fn processor_flag(processor: u32, marks: &[u8]) -> u8
     requires { ⌜ MarksCountable (now marks) ⌝ }
     ensures { λ r. ⌜ r ≡ cond (mayAct (seen (now (marks .entry))) processor) 1 0 ⌝ }
@@ -69,7 +72,15 @@ fn processor_flag(processor: u32, marks: &[u8]) -> u8
         std::num::wrapping_sub_usize(processor as usize, 1),
         PROCESSOR_LIMIT,
     );
-    flag(k < processor_count(marks)) * flag(marks[FIRST_ARRIVED + k] == 0)
+    flag(k < processor_count(marks)) * free_flag(k, marks)
+}
+
+// Of rows 6 and 17: 1 where neither mark at the place of a processor is set.
+fn free_flag(k: usize, marks: &[u8]) -> u8
+    requires { ⌜ (length (now marks) ≡ markArea) × (k ≤ processorLimit) ⌝ }
+    ensures { λ r. ⌜ r ≡ cond (marksFree (now (marks .entry)) k) 1 0 ⌝ }
+{
+    flag(marks[FIRST_ARRIVED + k] == 0) * flag(marks[FIRST_AWAITED + k] == 0)
 }
 
 // The smaller of two numbers.
@@ -82,7 +93,7 @@ fn least(a: usize, b: usize) -> usize
     b
 }
 
-// The number of the row from 3 to 6 that refuses a step, or 0: row 3, then the others.
+// The number of the row from 3 to 6 that refuses a step, or 17, or 0: row 3, then the others.
 pub fn early_refusal(kind: u32, processor: u32, object: u32, value: u32, marks: &[u8]) -> u8
     requires { ⌜ MarksCountable (now marks) ⌝ }
     ensures { λ r. ⌜ r ≡ earlyRefusal (seen (now (marks .entry))) kind processor object value ⌝ }
@@ -109,7 +120,7 @@ fn is_known(kind: u32) -> bool
     kind <= 6
 }
 
-// Rows 4 to 6, for a known kind.
+// Rows 4 to 6 and 17, for a known kind.
 fn early_of_known(kind: u32, processor: ProcessorId, object: usize, value: u32, marks: &[u8]) -> u8
     requires { ⌜ KnownKind (now marks) kind ⌝ }
     ensures { λ r. ⌜ r ≡ earlyOfKnown (seen (now (marks .entry))) kind (processor .0) object value ⌝ }
@@ -131,7 +142,7 @@ fn is_present(processor: ProcessorId, marks: &[u8]) -> bool
     processor.0 <= processor_count(marks)
 }
 
-// Rows 5 and 6, for a known kind and a present processor.
+// Rows 5, 6 and 17, for a known kind and a present processor.
 fn early_of_fields(kind: u32, processor: ProcessorId, object: usize, value: u32, marks: &[u8]) -> u8
     requires { ⌜ KnownStep (now marks) kind (processor .0) ⌝ }
     ensures { λ r. ⌜ r ≡ earlyOfFields (seen (now (marks .entry))) kind (processor .0) object value ⌝ }
@@ -141,6 +152,9 @@ fn early_of_fields(kind: u32, processor: ProcessorId, object: usize, value: u32,
     }
     if has_arrived(marks, processor) {
         return 6;
+    }
+    if is_waiting(marks, processor) {
+        return 17;
     }
     0
 }
@@ -189,7 +203,7 @@ pub fn late_refusal(kind: u32, processor: ProcessorId, object: usize, own: u8, m
         return refusal_of_write(processor, object, own, marks);
     }
     if kind == 3 {
-        return refusal_of_acquire(object, marks);
+        return refusal_of_acquire(processor, object, marks);
     }
     if kind == 4 {
         return refusal_of_release(processor, object, marks);
@@ -197,16 +211,16 @@ pub fn late_refusal(kind: u32, processor: ProcessorId, object: usize, own: u8, m
     0
 }
 
-// Row 7: the lock is held, by this processor or another.
-fn refusal_of_acquire(lock: usize, marks: &[u8]) -> u8
+// Row 7: this processor is the holder.
+fn refusal_of_acquire(processor: ProcessorId, lock: usize, marks: &[u8]) -> u8
     requires { ⌜ LockMark (now marks) lock ⌝ }
-    ensures { λ r. ⌜ r ≡ lateRefusal mainframe (seen (now (marks .entry))) 0 0 (Acquire lock) ⌝ }
+    ensures { λ r. ⌜ r ≡ lateRefusal mainframe (seen (now (marks .entry))) 0 (processor .0) (Acquire lock) ⌝ }
 {
     let holder = holder_of(marks, lock);
-    if holder.0 == 0 {
-        return 0;
+    if processor.0 == holder.0 {
+        return 7;
     }
-    7
+    0
 }
 
 // Row 8: this processor is not the holder.

@@ -17,6 +17,7 @@ use Rattle.rules.specs.Steps.{pageOfWord, wordOf}
 use Rattle.rules.specs.Refusals.{Step, Answer, next}
 use Rattle.rules.specs.Runs.{answers, stateAfter, answersInOrder, stateInOrder}
 use Rattle.rules.specs.Order.{events, eventAt, isArrival, countedOff, groupsBefore, rounds}
+use Rattle.rules.proofs.inorder.Facts.{InOrder}
 use Rattle.rules.proofs.inorder.InOrderSays.{in-order-says}
 use Rattle.rules.proofs.InOrderRuns.{state-in-order}
 use Rattle.rules.proofs.runs.Listing.{writes, acquires, releases, arrives, start, answering}
@@ -120,12 +121,12 @@ not-in-order-stays lim s [] e = refl
 not-in-order-stays lim s (t ∷ ts) e = rw e (not-in-order-stays lim s ts e)
 
 -- so a run that makes no interval from a state in order makes none from any state
-makes-none-anywhere : (s : State) (ts : List Step) → NoInterval s (stateInOrder mainframe s ts) → NoInterval s (stateAfter mainframe s ts)
+makes-none-anywhere : (s : State) (ts : List Step) → (InOrder mainframe s → NoInterval s (stateInOrder mainframe s ts)) → NoInterval s (stateAfter mainframe s ts)
 makes-none-anywhere s ts h = go (inOrder mainframe s) refl
   where
     go : (b : Bool) → inOrder mainframe s ≡ b → NoInterval s (stateAfter mainframe s ts)
-    go true e = rw (state-in-order mainframe s ts (in-order-says mainframe s e)) h
-    go false e = rw (not-in-order-stays mainframe s ts e) (record { processors = refl; intervals = refl; records = refl })
+    go true e = rw (state-in-order mainframe s ts (in-order-says mainframe s e)) (h (in-order-says mainframe s e))
+    go false e = rw (not-in-order-stays mainframe s ts e) (record { own-entries = λ q. refl; intervals = refl; records = refl })
 
 case-F : CaseF
 unfolding countsInRange inRange mainframe
@@ -135,7 +136,7 @@ case-F =
       own-entry = ap (λ (s : State). own s 1) (state-from-start 1 1 1 refl stepsF) ∙ computed-own-entry;
       records = ap standing (state-from-start 1 1 1 refl stepsF) ∙ computed-records;
       in-any-state = λ s p w l clean zero-there.
-          makes-none-anywhere s (writes p w 0 ∷ releases p l ∷ []) (store-and-release mainframe s p w 0 clean zero-there l);
+          makes-none-anywhere s (writes p w 0 ∷ releases p l ∷ []) (λ o. store-and-release mainframe s p w 0 o clean zero-there l);
     }
 
 case-M : CaseM

@@ -2,6 +2,8 @@
 pub mod Space
 pub mod InOrderRuns
 pub mod StrictOrder
+pub mod WaitsItsTurn
+pub mod WaitingCases
 pub mod Fetching
 pub mod DemandThree
 pub mod Cases

@@ -12,7 +12,7 @@ use Rattle.rules.specs.Runs.{answers, answersInOrder}
 use Rattle.rules.specs.Order.{events, Before}
 use Rattle.rules.proofs.InOrderRuns.{answers-in-order}
 use Rattle.rules.proofs.inorder.OpenedInOrder.{opened-in-order}
-use Rattle.rules.proofs.order.Edges.{apart, apart-not-before}
+use Rattle.rules.proofs.order.Edges.{apart, apart-not-before, alone, alone-not-before}
 use Rattle.rules.proofs.runs.Listing.{reads, writes, acquires, releases, arrives, start, answering}
 use Rattle.rules.proofs.runs.StoredCases.{accepted}
 use Rattle.rules.proofs.runs.JudgedRuns.{counting, openingWith, in-range-accepted, eventsFrom, allAccepted}
@@ -23,17 +23,27 @@ pub record NotBefore (c : Counts) (ts : List Step) (answered : List Answer) (i j
   pub answers-are : answers mainframe (opened mainframe c) ts ≡ answered
   pub not-before : Before (c .processors) (eventsFrom c ts) i j → ⊥
 
--- the answers and the test are computed
-shown : {c : Counts} {ts : List Step} {answered : List Answer} {i j : ℕ} → countsInRange mainframe c ≡ true
-    → answersInOrder mainframe (opened mainframe c) ts ≡ answered → apart (c .processors) (events ts answered) i j ≡ true → NotBefore c ts answered i j
-shown {c} {ts} {answered} {i} {j} in-range computed test =
+-- the answers are computed
+by-answers : {c : Counts} {ts : List Step} {answered : List Answer} {i j : ℕ} → countsInRange mainframe c ≡ true
+    → answersInOrder mainframe (opened mainframe c) ts ≡ answered → (Before (c .processors) (events ts answered) i j → ⊥) → NotBefore c ts answered i j
+by-answers {c} {ts} {answered} {i} {j} in-range computed none =
     let answers-are : answers mainframe (opened mainframe c) ts ≡ answered =
     answers-in-order mainframe (opened mainframe c) ts (opened-in-order mainframe c in-range) ∙ computed in
     record {
       opening = in-range-accepted c in-range;
       answers-are = answers-are;
-      not-before = λ x. apart-not-before (c .processors) (events ts answered) i j test (subst (λ (l : List Answer). Before (c .processors) (events ts l) i j) answers-are x);
+      not-before = λ x. none (subst (λ (l : List Answer). Before (c .processors) (events ts l) i j) answers-are x);
     }
+
+-- and so is the test that the processor at place j hears nothing
+shown : {c : Counts} {ts : List Step} {answered : List Answer} {i j : ℕ} → countsInRange mainframe c ≡ true
+    → answersInOrder mainframe (opened mainframe c) ts ≡ answered → apart (c .processors) (events ts answered) i j ≡ true → NotBefore c ts answered i j
+shown {c} {ts} {answered} {i} {j} in-range computed test = by-answers in-range computed (apart-not-before (c .processors) (events ts answered) i j test)
+
+-- or that the processor at place i tells nobody
+shown-alone : {c : Counts} {ts : List Step} {answered : List Answer} {i j : ℕ} → countsInRange mainframe c ≡ true
+    → answersInOrder mainframe (opened mainframe c) ts ≡ answered → alone (c .processors) (events ts answered) i j ≡ true → NotBefore c ts answered i j
+shown-alone {c} {ts} {answered} {i} {j} in-range computed test = by-answers in-range computed (alone-not-before (c .processors) (events ts answered) i j test)
 
 -- a refused step
 abbrev refused : ℕ → Answer
@@ -52,9 +62,9 @@ pub record NothingMore : Type 0 where
   -- "a refused one has no place in the order": 1 frees a lock that it does not hold
   pub refused-release : NotBefore (counting 2 1) (writes 1 0 5 ∷ releases 1 0 ∷ acquires 2 0 ∷ reads 2 0 ∷ [])
       (accepted ∷ refused 8 ∷ accepted ∷ accepted ∷ []) 0 3
-  -- 2 asks for a lock that 3 holds
-  pub refused-acquire : NotBefore (counting 3 1) (acquires 1 0 ∷ writes 1 0 5 ∷ releases 1 0 ∷ acquires 3 0 ∷ acquires 2 0 ∷ reads 2 0 ∷ [])
-      (accepted ∷ accepted ∷ accepted ∷ accepted ∷ refused 7 ∷ accepted ∷ []) 1 5
+  -- 2 waits for lock 1 when it asks for lock 0, which 1 has freed
+  pub refused-acquire : NotBefore (counting 3 2) (acquires 1 0 ∷ writes 1 0 5 ∷ releases 1 0 ∷ acquires 3 1 ∷ acquires 2 1 ∷ acquires 2 0 ∷ releases 3 1 ∷ reads 2 0 ∷ [])
+      (accepted ∷ accepted ∷ accepted ∷ accepted ∷ accepted ∷ refused 17 ∷ accepted ∷ accepted ∷ []) 1 7
   -- 1 arrives a second time in its round
   pub refused-arrival : NotBefore (counting 2 1) (writes 1 0 5 ∷ arrives 1 ∷ arrives 1 ∷ reads 2 0 ∷ [])
       (accepted ∷ accepted ∷ refused 6 ∷ accepted ∷ []) 0 3
@@ -66,21 +76,32 @@ pub record NothingMore : Type 0 where
       (accepted ∷ accepted ∷ accepted ∷ accepted ∷ accepted ∷ []) 2 4
   -- "after that round's last arrival": the last arrival itself is not after the others
   pub last-arrival : NotBefore (counting 2 1) (writes 1 0 5 ∷ arrives 1 ∷ arrives 2 ∷ []) (accepted ∷ accepted ∷ accepted ∷ []) 1 2
-  -- "each release before every later acquire": neither an acquire before a release or an acquire, nor a release before a release. No run has these
-  -- steps accepted in this order; it is said of the list alone
-  pub other-pairs : Before 2 (allAccepted (writes 1 0 5 ∷ acquires 1 0 ∷ acquires 2 0 ∷ releases 1 0 ∷ releases 2 0 ∷ reads 2 0 ∷ [])) 0 5 → ⊥
+  -- "the release precedes the waiter's next step": 1 frees lock 0, and 2 is served by the release of lock 1
+  pub other-lock-granted : NotBefore (counting 3 2) (acquires 1 0 ∷ acquires 3 1 ∷ acquires 2 1 ∷ writes 1 0 5 ∷ releases 1 0 ∷ releases 3 1 ∷ reads 2 0 ∷ [])
+      (accepted ∷ accepted ∷ accepted ∷ accepted ∷ accepted ∷ accepted ∷ accepted ∷ []) 3 6
+  -- of the waiters the one that it serves: 1 frees lock 0 for 2, and 3 waits behind it. In this one and the next three, no run has these steps
+  -- accepted in this order; it is said of the lists alone
+  pub other-waiter : Before 3 (allAccepted (acquires 1 0 ∷ writes 1 0 5 ∷ acquires 2 0 ∷ acquires 3 0 ∷ releases 1 0 ∷ reads 3 0 ∷ [])) 1 5 → ⊥
+  -- "each release before every later acquire": not an acquire before an acquire, an acquire before a release or a release before a release
+  pub acquire-acquire : Before 2 (allAccepted (writes 1 0 5 ∷ acquires 1 0 ∷ acquires 2 0 ∷ reads 2 0 ∷ [])) 0 3 → ⊥
+  pub acquire-release : Before 2 (allAccepted (writes 1 0 5 ∷ acquires 1 0 ∷ releases 2 0 ∷ reads 2 0 ∷ [])) 0 3 → ⊥
+  pub release-release : Before 2 (allAccepted (writes 1 0 5 ∷ releases 1 0 ∷ releases 2 0 ∷ reads 2 0 ∷ [])) 0 3 → ⊥
 
 pub nothing-more : NothingMore
-unfolding start events apart allAccepted countsInRange inRange
+unfolding start events apart alone allAccepted countsInRange inRange
 nothing-more =
     record {
       other-lock = shown refl refl refl;
       earlier-acquire = shown refl refl refl;
       refused-release = shown refl refl refl;
-      refused-acquire = shown refl refl refl;
+      refused-acquire = shown-alone refl refl refl;
       refused-arrival = shown refl refl refl;
       round-not-complete = shown refl refl refl;
       round-before = shown refl refl refl;
       last-arrival = shown refl refl refl;
-      other-pairs = apart-not-before 2 (allAccepted (writes 1 0 5 ∷ acquires 1 0 ∷ acquires 2 0 ∷ releases 1 0 ∷ releases 2 0 ∷ reads 2 0 ∷ [])) 0 5 refl;
+      other-lock-granted = shown-alone refl refl refl;
+      other-waiter = apart-not-before 3 (allAccepted (acquires 1 0 ∷ writes 1 0 5 ∷ acquires 2 0 ∷ acquires 3 0 ∷ releases 1 0 ∷ reads 3 0 ∷ [])) 1 5 refl;
+      acquire-acquire = apart-not-before 2 (allAccepted (writes 1 0 5 ∷ acquires 1 0 ∷ acquires 2 0 ∷ reads 2 0 ∷ [])) 0 3 refl;
+      acquire-release = apart-not-before 2 (allAccepted (writes 1 0 5 ∷ acquires 1 0 ∷ releases 2 0 ∷ reads 2 0 ∷ [])) 0 3 refl;
+      release-release = apart-not-before 2 (allAccepted (writes 1 0 5 ∷ releases 1 0 ∷ releases 2 0 ∷ reads 2 0 ∷ [])) 0 3 refl;
     }

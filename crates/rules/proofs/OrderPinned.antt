@@ -19,7 +19,7 @@ use Rattle.rules.specs.Runs.{answers, answersInOrder}
 use Rattle.rules.specs.Order.{Event, events, eventAt, Took, Before, chain}
 use Rattle.rules.specs.Demand.{isWriteTo, lastWritten, EarlierWrite, Synchronized, Judged, valueAt}
 use Rattle.rules.proofs.order.ActionKinds.{writesTo, took-write}
-use Rattle.rules.proofs.order.Edges.{Edge, ByProgram, ByLock, ByRound, ByChain, just, has, joins, joins-before, closedUnder, only-by, only-chained}
+use Rattle.rules.proofs.order.Edges.{Edge, ByProgram, ByLock, ByRound, ByGrant, ByChain, just, has, joins, joins-before, closedUnder, only-by, only-chained}
 use Rattle.rules.proofs.runs.Listing.{reads, writes, acquires, releases, arrives, start}
 use Rattle.rules.proofs.runs.BenchFaults.{stepsC}
 use Rattle.rules.proofs.runs.JudgedRuns.{synchronized, openingWith, in-range-accepted, eventsFrom, events-computed, read-judged, allAccepted, counting}
@@ -97,7 +97,7 @@ module _ (n : ℕ) (es : List Event) (w j : ℕ) where
           only-by n es i j e (inside i) (conjoined-at tests 0 h) (conjoined-at tests 1 h) (not-true (inside i j) (conjoined-at tests 2 h))
 
   unjoinedTests : ℕ → List Bool
-  unjoinedTests i = not (joins ByProgram n es i j) ∷ not (joins ByLock n es i j) ∷ not (joins ByRound n es i j) ∷ []
+  unjoinedTests i = not (joins ByProgram n es i j) ∷ not (joins ByLock n es i j) ∷ not (joins ByRound n es i j) ∷ not (joins ByGrant n es i j) ∷ []
 
   -- no edge by itself joins a write to the read
   unfoldable pub unjoined : ℕ → Bool
@@ -111,7 +111,7 @@ module _ (n : ℕ) (es : List Event) (w j : ℕ) where
       go : (i : ℕ) → conjoined (unjoinedTests i) ≡ true → (x : Before n es i j) → has (just ByChain) x ≡ true
       go i h =
           let at = conjoined-at (unjoinedTests i) in
-          only-chained n es i j (not-true (joins ByProgram n es i j) (at 0 h)) (not-true (joins ByLock n es i j) (at 1 h)) (not-true (joins ByRound n es i j) (at 2 h))
+          only-chained n es i j (not-true (joins ByProgram n es i j) (at 0 h)) (not-true (joins ByLock n es i j) (at 1 h)) (not-true (joins ByRound n es i j) (at 2 h)) (not-true (joins ByGrant n es i j) (at 3 h))
 
 -- a place by itself, and the places of its processor: where a write can lead without the edge of a run
 abbrev itself : ℕ → ℕ → Bool
@@ -200,6 +200,36 @@ round-pinned : Pinned ByRound (counting 3 1) stepsRound 0 8 3 6
 unfolding start stepsRound events allAccepted countsInRange inRange
 round-pinned = pinned (allAccepted stepsRound) refl refl round-shown (λ e. omega (arith, e))
 
+-- ---- L1: "the release precedes the waiter's next step"
+
+-- Processor 1 holds lock 0 and stores 5 in word 0 while 2 and then 3 ask for the lock. 1's release hands it to 2, which stores 6; 2's release hands
+-- it to 3, which reads. Both asked before a release, so no release is before their acquires, and without grants a store leads to its processor's own
+-- steps alone
+unfoldable pub stepsGrant : List Step
+stepsGrant = acquires 1 0 ∷ writes 1 0 5 ∷ acquires 2 0 ∷ acquires 3 0 ∷ releases 1 0 ∷ writes 2 0 6 ∷ releases 2 0 ∷ reads 3 0 ∷ []
+
+grant-shown : Shown ByGrant 3 (allAccepted stepsGrant) 0 7 3 6
+unfolding stepsGrant allAccepted everyWrite cutOff
+grant-shown =
+    let es = allAccepted stepsGrant in
+    record {
+      read = record { accepted = refl; processor = refl; action = refl };
+      premise =
+          synchronized 3 es 0 7 (5 ∷ 1 ∷ []) refl (
+            chain 6 (joins-before 3 es 5 6 ByProgram refl) (joins-before 3 es 6 7 ByGrant refl),
+            (
+              chain 4 (joins-before 3 es 1 4 ByProgram refl) (joins-before 3 es 4 5 ByGrant refl),
+              tt,
+            ),
+          );
+      only = only-cut-off 3 es 0 7 ByGrant (ownSteps es) refl;
+      last = refl;
+    }
+
+grant-pinned : Pinned ByGrant (counting 3 1) stepsGrant 0 7 3 6
+unfolding start stepsGrant events allAccepted countsInRange inRange
+grant-pinned = pinned (allAccepted stepsGrant) refl refl grant-shown (λ e. omega (arith, e))
+
 -- ---- "and what follows by chaining"
 
 -- Bench case C: 1 stores 5 under lock 0, 2 takes lock 0 and then lock 1, 3 takes lock 1 and reads. No edge by itself joins 1's store to 3's
@@ -229,8 +259,10 @@ pub record OrderPinned : Type 0 where
   -- "every arrival of a completed round before every step any card takes after that round's last arrival": 1 stores, then a round, 2 stores,
   -- then a round, and 3 reads 2's store
   pub by-round : Pinned ByRound (counting 3 1) stepsRound 0 8 3 6
+  -- "the release precedes the waiter's next step": 1 stores while 2 and 3 wait for its lock, 2 stores when it has it, and 3, served last, reads 2's store
+  pub by-grant : Pinned ByGrant (counting 3 1) stepsGrant 0 7 3 6
   -- "and what follows by chaining": 1's store goes through lock 0 to 2 and through lock 1 to 3, which reads it
   pub by-chain : Pinned ByChain (counting 3 2) stepsC 0 8 3 5
 
 pub order-pinned : OrderPinned
-order-pinned = record { by-program = program-pinned; by-lock = lock-pinned; by-round = round-pinned; by-chain = chain-pinned }
+order-pinned = record { by-program = program-pinned; by-lock = lock-pinned; by-round = round-pinned; by-grant = grant-pinned; by-chain = chain-pinned }

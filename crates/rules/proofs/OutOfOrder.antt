@@ -8,20 +8,30 @@ use lib.ListN.{replicate, set}
 use Rattle.lists.specs.Tables.{putCell}
 use Rattle.clock.specs.Clocks.{covered}
 use Rattle.diff.specs.Reading.{mostRuns, pairHolds, orderly, pairsRefusal, readRefusal}
-use Rattle.rules.specs.State.{Limits, Holder, Processor, Applied, Interval, withClock, slotBytes, laidOver, State, withClocks, withPages, withRecords, withMarks}
-use Rattle.rules.specs.InOrder.{everyProcessor, everyPage, everyHolder, slotSize, rowsSized, sized, inRange, countsInRange, presentHolder, allZero, absentZero, laterIntervalsZero, entriesKnown, appliedKnown, recordAt, diffLegal, recordSound, sameNotice, recordsSound, roomKept, dirtyHaveInterval, holdersPresent, someoneMissing, inOrder}
+use Rattle.rules.specs.State.{Limits, Holder, Processor, Applied, Interval, withClock, slotBytes, laidOver, State, withClocks, withPages, withRecords, withMarks, withLines}
+use Rattle.rules.specs.InOrder.{everyProcessor, everyPage, everyHolder, slotSize, rowsSized, sized, inRange, countsInRange, presentHolder, allZero, absentZero, laterIntervalsZero, entriesKnown, appliedKnown, recordAt, diffLegal, recordSound, sameNotice, recordsSound, roomKept, dirtyHaveInterval, holdersPresent, someoneMissing, standBefore, waiterSound, apartInLine, linesSound, inOrder}
 use Rattle.rules.specs.Opening.{opened}
 use Rattle.rules.specs.Refusals.{stepOf, refusedAs, answer}
-use Rattle.rules.proofs.inorder.Conditions.{orderTests}
+use Rattle.rules.proofs.inorder.Conditions.{waiterTests, lineTests, orderTests}
 use Rattle.rules.proofs.runs.Listing.{start}
 
 -- limits of two of each, and pages of one word; two processors, one page and one lock are opened
 unfoldable pub twoOfEach : Limits
-unfolding start covered mostRuns pairHolds orderly pairsRefusal readRefusal everyProcessor everyPage everyHolder rowsSized sized inRange countsInRange presentHolder allZero absentZero laterIntervalsZero entriesKnown appliedKnown recordAt diffLegal recordSound sameNotice recordsSound roomKept dirtyHaveInterval holdersPresent someoneMissing inOrder orderTests
+unfolding start covered mostRuns pairHolds orderly pairsRefusal readRefusal everyProcessor everyPage everyHolder rowsSized sized inRange countsInRange presentHolder allZero absentZero laterIntervalsZero entriesKnown appliedKnown recordAt diffLegal recordSound sameNotice recordsSound roomKept dirtyHaveInterval holdersPresent someoneMissing standBefore waiterSound apartInLine linesSound inOrder orderTests waiterTests lineTests
 twoOfEach = record { processors = 2; pages = 2; words = 1; locks = 2; records = 2; intervals = 2 }
 
 unfoldable pub plain : State
 plain = opened twoOfEach (record { processors = 2; pages = 1; locks = 1 })
+
+-- limits of three processors, with all three or two of them opened
+unfoldable pub threeOfEach : Limits
+threeOfEach = record { processors = 3; pages = 1; words = 1; locks = 2; records = 1; intervals = 1 }
+
+unfoldable pub threeOpened : State
+threeOpened = opened threeOfEach (record { processors = 3; pages = 1; locks = 1 })
+
+unfoldable pub twoOpened : State
+twoOpened = opened threeOfEach (record { processors = 2; pages = 1; locks = 1 })
 
 -- ---- the plain state with one part changed
 
@@ -44,14 +54,33 @@ abbrev twoRecords : State → List ℕ → List ℕ → State
 twoRecords s a b = withRecords s (record { standing = 2; slots = a ∷ b ∷ [] })
 
 abbrev marked : State → List ℕ → List ℕ → State
-marked s holders arrived = withMarks s (record { holders = holders; arrived = arrived; wanted = 0 })
+marked s holders arrived = withMarks s (record { holders = holders; arrived = arrived; wanted = 0; awaited = s .marks .awaited; turns = s .marks .turns })
+
+-- waiters and their turns
+abbrev queued : State → List ℕ → List ℕ → State
+queued s awaited turns = withMarks s (withLines (s .marks) awaited turns)
 
 -- ---- the table
 
 -- a state out of order by one condition alone, by its number in document 01's order from 0
 pub record BreaksOnly (k : ℕ) (s : State) : Type 0 where
   pub out : inOrder twoOfEach s ≡ false
-  pub alone : orderTests twoOfEach s ≡ set (replicate 11 true) k false
+  pub alone : orderTests twoOfEach s ≡ set (replicate 12 true) k false
+
+-- the same for other limits
+pub record Breaks (lim : Limits) (k : ℕ) (s : State) : Type 0 where
+  pub out : inOrder lim s ≡ false
+  pub alone : orderTests lim s ≡ set (replicate 12 true) k false
+
+-- a state out of order by one condition on its lines alone
+pub record BreaksLine (k : ℕ) (s : State) : Type 0 where
+  pub by-lines : Breaks threeOfEach 11 s
+  pub alone : lineTests s ≡ set (replicate 3 true) k false
+
+-- by one condition on processor 2, which waits for lock 0
+pub record BreaksWaiter (k : ℕ) (s : State) : Type 0 where
+  pub by-line : BreaksLine 1 s
+  pub alone : waiterTests s 2 0 ≡ set (replicate 4 true) k false
 
 pub record OutOfOrder : Type 0 where
   -- with nothing changed the state is in order
@@ -90,11 +119,28 @@ pub record OutOfOrder : Type 0 where
   pub lock-holder : BreaksOnly 9 (marked plain (3 ∷ 0 ∷ []) (0 ∷ 0 ∷ 0 ∷ []))
   -- "not all cards have arrived"
   pub all-arrived : BreaksOnly 10 (marked plain (0 ∷ 0 ∷ []) (0 ∷ 1 ∷ 1 ∷ []))
+  -- L1, "only present cards in lines": of limits of three, processor 3 is absent and waits, or has a turn
+  pub absent-waits : Breaks threeOfEach 2 (queued (marked twoOpened (1 ∷ 0 ∷ []) (0 ∷ 0 ∷ 0 ∷ 0 ∷ [])) (0 ∷ 0 ∷ 0 ∷ 1 ∷ []) (0 ∷ 0 ∷ 0 ∷ 0 ∷ []))
+  pub absent-turn : Breaks threeOfEach 2 (queued twoOpened (0 ∷ 0 ∷ 0 ∷ 0 ∷ []) (0 ∷ 0 ∷ 0 ∷ 1 ∷ []))
+  -- a line at a present lock, which is held, in which 2 and 3 stand one behind the other, is in order
+  pub line-in-order : inOrder threeOfEach (queued (marked threeOpened (1 ∷ 0 ∷ []) (0 ∷ 0 ∷ 0 ∷ 0 ∷ [])) (0 ∷ 0 ∷ 1 ∷ 1 ∷ []) (0 ∷ 7 ∷ 1 ∷ 0 ∷ [])) ≡ true
+  -- 2 waits for an absent lock
+  pub absent-lock : BreaksLine 0 (queued (marked threeOpened (1 ∷ 0 ∷ []) (0 ∷ 0 ∷ 0 ∷ 0 ∷ [])) (0 ∷ 0 ∷ 2 ∷ 0 ∷ []) (0 ∷ 0 ∷ 0 ∷ 0 ∷ []))
+  -- "no line at a free lock"
+  pub free-lock : BreaksWaiter 0 (queued threeOpened (0 ∷ 0 ∷ 1 ∷ 0 ∷ []) (0 ∷ 0 ∷ 0 ∷ 0 ∷ []))
+  -- "no waiter that ... holds the lock it waits for"
+  pub own-lock : BreaksWaiter 1 (queued (marked threeOpened (2 ∷ 0 ∷ []) (0 ∷ 0 ∷ 0 ∷ 0 ∷ [])) (0 ∷ 0 ∷ 1 ∷ 0 ∷ []) (0 ∷ 0 ∷ 0 ∷ 0 ∷ []))
+  -- "no waiter that has arrived"
+  pub arrived-waits : BreaksWaiter 2 (queued (marked threeOpened (1 ∷ 0 ∷ []) (0 ∷ 0 ∷ 1 ∷ 0 ∷ [])) (0 ∷ 0 ∷ 1 ∷ 0 ∷ []) (0 ∷ 0 ∷ 0 ∷ 0 ∷ []))
+  -- a turn that nobody before it accounts for
+  pub gap : BreaksWaiter 3 (queued (marked threeOpened (1 ∷ 0 ∷ []) (0 ∷ 0 ∷ 0 ∷ 0 ∷ [])) (0 ∷ 0 ∷ 1 ∷ 0 ∷ []) (0 ∷ 0 ∷ 1 ∷ 0 ∷ []))
+  -- two at one place
+  pub same-place : BreaksLine 2 (queued (marked threeOpened (1 ∷ 0 ∷ []) (0 ∷ 0 ∷ 0 ∷ 0 ∷ [])) (0 ∷ 0 ∷ 1 ∷ 1 ∷ []) (0 ∷ 0 ∷ 0 ∷ 0 ∷ []))
   -- row 1 of the table of refusals stands above the others: kind 7, processor 9, object 99
   pub row-1 : answer twoOfEach (marked plain (0 ∷ 0 ∷ []) (0 ∷ 1 ∷ 1 ∷ [])) (stepOf 7 9 99 0) ≡ refusedAs 1
 
 pub each-condition-counts : OutOfOrder
-unfolding twoOfEach plain answer
+unfolding twoOfEach plain threeOfEach threeOpened twoOpened answer
 each-condition-counts =
     record {
       in-order = refl;
@@ -115,5 +161,14 @@ each-condition-counts =
       dirty-page = record { out = refl; alone = refl };
       lock-holder = record { out = refl; alone = refl };
       all-arrived = record { out = refl; alone = refl };
+      absent-waits = record { out = refl; alone = refl };
+      absent-turn = record { out = refl; alone = refl };
+      line-in-order = refl;
+      absent-lock = record { by-lines = record { out = refl; alone = refl }; alone = refl };
+      free-lock = record { by-line = record { by-lines = record { out = refl; alone = refl }; alone = refl }; alone = refl };
+      own-lock = record { by-line = record { by-lines = record { out = refl; alone = refl }; alone = refl }; alone = refl };
+      arrived-waits = record { by-line = record { by-lines = record { out = refl; alone = refl }; alone = refl }; alone = refl };
+      gap = record { by-line = record { by-lines = record { out = refl; alone = refl }; alone = refl }; alone = refl };
+      same-place = record { by-lines = record { out = refl; alone = refl }; alone = refl };
       row-1 = refl;
     }

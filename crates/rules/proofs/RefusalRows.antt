@@ -9,12 +9,12 @@ use Rattle.rules.specs.Refusals.{Step, stepOf}
 use Rattle.rules.specs.Runs.{answers, answersInOrder}
 use Rattle.rules.proofs.inorder.OpenedInOrder.{opened-in-order}
 use Rattle.rules.proofs.InOrderRuns.{answers-in-order}
-use Rattle.rules.proofs.runs.Listing.{reads, writes, acquires, releases, arrives, start, answering}
+use Rattle.rules.proofs.runs.Listing.{reads, writes, acquires, releases, arrives, wants, start, answering}
 use Rattle.rules.proofs.runs.FromStart.{answers-from-start}
 use Rattle.rules.proofs.runs.StoredCases.{accepted}
 
 -- Two processors, one page, one lock. Kind 7 by processor 9 with object 99 (rows 3, 4, 5); processor 3 reads word 32 (4, 5), and frees lock 0 (4, 8);
--- 2 takes lock 0; 1 arrives; it reads word 32 (5, 6), takes lock 0 (6, 7) and frees it (6, 8); 2 takes lock 1, which is absent (5)
+-- 2 takes lock 0; 1 arrives; it reads word 32 (5, 6), asks for lock 0 (6) and frees it (6, 8); 2 takes lock 1, which is absent (5)
 unfoldable pub severalRows : List Step
 severalRows =
     stepOf 7 9 99 0 ∷ reads 3 32 ∷ releases 3 0 ∷ acquires 2 0 ∷ arrives 1 ∷ reads 1 32 ∷ acquires 1 0 ∷ releases 1 0 ∷ acquires 2 1 ∷ []
@@ -30,23 +30,43 @@ pub upper-row-first : answers mainframe (start 2 1 1) severalRows
 unfolding countsInRange inRange mainframe
 upper-row-first = answers-from-start 2 1 1 refl severalRows ∙ computed-rows
 
+-- Three processors, one page, two locks. 1 takes lock 0, and again (row 7); 2 asks for lock 0 and waits. Then 2 reads, writes, takes lock 1 and lock 0, frees
+-- lock 0 (17, 8), arrives and wants collection (17); with kind 7 (3, 17), with an absent word (5, 17); 1 frees lock 0, and 2, which has it, reads
+unfoldable pub waitingRows : List Step
+waitingRows =
+    acquires 1 0 ∷ acquires 1 0 ∷ acquires 2 0 ∷ reads 2 0 ∷ writes 2 0 5 ∷ acquires 2 1 ∷ acquires 2 0 ∷ releases 2 0 ∷ arrives 2 ∷ wants 2 ∷ stepOf 7 2 0 0 ∷ reads 2 32 ∷ releases 1 0
+    ∷ reads 2 0 ∷ []
+
+computed-waiting : answersInOrder mainframe (start 3 1 2) waitingRows
+    ≡ accepted ∷ answering 7 0 0 ∷ accepted ∷ answering 17 0 0 ∷ answering 17 0 0 ∷ answering 17 0 0 ∷ answering 17 0 0 ∷ answering 17 0 0 ∷ answering 17 0 0 ∷ answering 17 0 0
+    ∷ answering 3 0 0 ∷ answering 5 0 0 ∷ accepted ∷ accepted ∷ []
+unfolding start waitingRows stepOf
+computed-waiting = refl
+
+-- L1: "17, a step by a waiting card, after 6", whatever its kind; "7 remains for the holder's own acquire"
+pub waiting-refused : answers mainframe (start 3 1 2) waitingRows
+    ≡ accepted ∷ answering 7 0 0 ∷ accepted ∷ answering 17 0 0 ∷ answering 17 0 0 ∷ answering 17 0 0 ∷ answering 17 0 0 ∷ answering 17 0 0 ∷ answering 17 0 0 ∷ answering 17 0 0
+    ∷ answering 3 0 0 ∷ answering 5 0 0 ∷ accepted ∷ accepted ∷ []
+unfolding countsInRange inRange mainframe
+waiting-refused = answers-from-start 3 1 2 refl waitingRows ∙ computed-waiting
+
 -- limits with room for one record and one interval, and pages of one word
 unfoldable pub tight : Limits
 tight = record { processors = 2; pages = 2; words = 1; locks = 1; records = 1; intervals = 1 }
 
 -- 1 stores in page 0 and takes a lock, so that its one interval is made and the one record stands; it stores in page 1, which is clean (rows 9, 10);
--- 2, with its interval left, stores there (10); 1 arrives and stores once more (6, 9, 10)
+-- 2, with its interval left, stores there (10), waits for the lock and stores once more (17, 10); 1 arrives and stores once more (6, 9, 10)
 unfoldable pub noSpace : List Step
-noSpace = writes 1 0 5 ∷ acquires 1 0 ∷ writes 1 1 5 ∷ writes 2 1 5 ∷ arrives 1 ∷ writes 1 1 5 ∷ []
+noSpace = writes 1 0 5 ∷ acquires 1 0 ∷ writes 1 1 5 ∷ writes 2 1 5 ∷ acquires 2 0 ∷ writes 2 1 5 ∷ arrives 1 ∷ writes 1 1 5 ∷ []
 
 computed-space : answersInOrder tight (opened tight (record { processors = 2; pages = 2; locks = 1 })) noSpace
-    ≡ accepted ∷ accepted ∷ answering 9 0 0 ∷ answering 10 0 0 ∷ accepted ∷ answering 6 0 0 ∷ []
+    ≡ accepted ∷ accepted ∷ answering 9 0 0 ∷ answering 10 0 0 ∷ accepted ∷ answering 17 0 0 ∷ accepted ∷ answering 6 0 0 ∷ []
 unfolding start tight noSpace
 computed-space = refl
 
--- 9 stands above 10, and both below 6
+-- 9 stands above 10, and both below 6 and 17
 pub nine-before-ten : answers tight (opened tight (record { processors = 2; pages = 2; locks = 1 })) noSpace
-    ≡ accepted ∷ accepted ∷ answering 9 0 0 ∷ answering 10 0 0 ∷ accepted ∷ answering 6 0 0 ∷ []
+    ≡ accepted ∷ accepted ∷ answering 9 0 0 ∷ answering 10 0 0 ∷ accepted ∷ answering 17 0 0 ∷ accepted ∷ answering 6 0 0 ∷ []
 unfolding countsInRange inRange tight
 nine-before-ten =
     answers-in-order tight (opened tight (record { processors = 2; pages = 2; locks = 1 })) noSpace (opened-in-order tight (record { processors = 2; pages = 2; locks = 1 }) refl)

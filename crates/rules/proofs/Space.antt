@@ -8,6 +8,7 @@ use mathlib.Core.Logic.{_↔_, _⊎_, inl, inr}
 use lib.Dec.{eqb}
 use borrow.Author.Tests.{eqb-true, eqb-false, lt-ltb, ne-eqb}
 use Rattle.rules.specs.State.{Limits, Processor, dirtyAt, State, clock, own, hasArrived}
+use Rattle.rules.specs.Lines.{waits}
 use Rattle.rules.specs.InOrder.{present, dirtyPages}
 use Rattle.rules.specs.Close.{anyChanged, ticked, recorded}
 use Rattle.rules.specs.Steps.{pageOfWord, allFetched, emptied, collected}
@@ -25,6 +26,7 @@ pub record WriteSoFar (lim : Limits) (s : State) (t : Step) (w v : ℕ) : Type 0
   pub processor-present : present s (t .processor) ≡ true
   pub word-present : w < s .counts .pages * lim .words
   pub not-arrived : hasArrived s (t .processor) ≡ false
+  pub not-waiting : waits (s .marks) (t .processor) ≡ false
 
 -- it is refused as rows 9 and 10 say
 pub refusal-of-write : (lim : Limits) (s : State) (t : Step) (w v : ℕ) → WriteSoFar lim s t w v → refusalInOrder lim s t ≡ lateRefusal lim s (own s (t .processor)) (t .processor) (Write w v)
@@ -32,7 +34,7 @@ unfolding refusalInOrder refusalBy knownKind fits usesValue objectBound kindOf o
 refusal-of-write lim s t w v h =
     let kind : t .kind ≡ 2 = kind-of t (Write w v) (h .action) (λ e. let z : _≡_ {A = ℕ} 2 0 = ap kindOf e in omega arith) in
     let word : t .object ≡ w = sym (object-in t) ∙ ap (objectIn (t .object)) (h .action) in
-    rw (h .action, kind, word, h .processor-present, lt-ltb w (s .counts .pages * lim .words) (h .word-present), h .not-arrived)
+    rw (h .action, kind, word, h .processor-present, lt-ltb w (s .counts .pages * lim .words) (h .word-present), h .not-arrived, h .not-waiting)
 
 -- 9 is answered if and only if the page is clean and the processor's own entry is the highest there is
 pub nine-exactly-when : (lim : Limits) (s : State) (t : Step) (w v : ℕ) → WriteSoFar lim s t w v

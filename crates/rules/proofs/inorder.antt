@@ -8,6 +8,7 @@ pub mod InOrderSays
 pub mod InOrderWhen
 pub mod OpenedInOrder
 pub mod KeptParts
+pub mod KeptLines
 pub mod KindsOfSteps
 pub mod Accepted
 pub mod KeptClocks

@@ -5,8 +5,10 @@ pub mod Counted
 pub mod ActionKinds
 pub mod Edges
 pub mod MarksAfter
-pub mod NobodyArrived
+pub mod Nobody
+pub mod Turns
 pub mod Allowed
+pub mod Grants
 pub mod Rounds
 pub mod NumbersAfter
 pub mod Numbers

@@ -8,7 +8,8 @@ use Rattle.lists.specs.Tables.{every, any, total}
 use Rattle.limits.specs.Limits.{slotHead}
 use Rattle.clock.specs.Clocks.{covered, entryOf}
 use Rattle.diff.specs.Reading.{readRefusal}
-use Rattle.rules.specs.State.{Limits, Counts, Holder, Processor, Lock, Barrier, Applied, Interval, clockOf, copyOf, twinOf, dirtyAt, Record, recordIn, State, clock, own, holder, hasArrived}
+use Rattle.rules.specs.State.{Limits, Counts, Holder, Processor, Lock, Barrier, Applied, Interval, clockOf, copyOf, twinOf, dirtyAt, Record, recordIn, Marks, State, clock, own, holder, hasArrived}
+use Rattle.rules.specs.Lines.{waits, waitsFor, turnOf}
 
 -- a present processor: "Cards numbered from 1; 0 means nobody"
 unfoldable pub present : State → ℕ → Bool
@@ -61,6 +62,8 @@ sized lim s =
     && leb (s .records .standing) (lim .records)
     && eqb (length (s .marks .holders)) (lim .locks)
     && eqb (length (s .marks .arrived)) (suc (lim .processors))
+    && eqb (length (s .marks .awaited)) (suc (lim .processors))
+    && eqb (length (s .marks .turns)) (suc (lim .processors))
 
 -- ---- "counts of cards, pages and locks are in range"
 
@@ -88,7 +91,7 @@ allZero [] = true
 allZero (x ∷ l) = eqb x 0 && allZero l
 
 -- clocks of absent holders and entries of absent processors; words (of copies and of twins) and dirty marks of absent pages; arrived marks;
--- holders
+-- holders; the marks of waiting ("only present cards in lines")
 unfoldable pub absentZero : Limits → State → Bool
 absentZero lim s =
     everyHolder lim (λ h. presentHolder s h || allZero (clockOf (s .clocks) h))
@@ -98,6 +101,8 @@ absentZero lim s =
     && everyPage lim (λ p g. presentHolder s (Applied p g) || not (dirtyAt (s .pages) p g))
     && everyProcessor lim (λ p. present s p || not (hasArrived s p))
     && every (lim .locks) (λ l. presentHolder s (Lock l) || eqb (holder s l) 0)
+    && everyProcessor lim (λ p. present s p || not (waits (s .marks) p))
+    && everyProcessor lim (λ p. present s p || eqb (turnOf (s .marks) p) 0)
 
 -- ---- "the clock kept for an interval above its card's own entry is zeros"
 
@@ -179,6 +184,36 @@ holdersPresent lim s = every (lim .locks) (λ l. eqb (holder s l) 0 || present s
 unfoldable pub someoneMissing : State → Bool
 someoneMissing s = any (s .counts .processors) (λ k. not (hasArrived s (suc k)))
 
+-- ---- L1: "only present cards in lines, each card at most once in all, no line at a free lock, and no waiter that has arrived or holds the
+-- lock it waits for". A card waits for one lock at most by the form of the state
+
+-- the waiters of lock l that stand before p: those with a smaller turn
+unfoldable pub standBefore : ℕ → Marks → ℕ → ℕ → ℕ
+standBefore n m l p = total n (λ j. cond (waitsFor m (suc j) l && ltb (turnOf m (suc j)) (turnOf m p)) 1 0)
+
+-- if p waits for lock l, the lock is held, by another; p has not arrived; and its turn says how many stand before it
+unfoldable pub waiterSound : State → ℕ → ℕ → Bool
+waiterSound s p l =
+    not (waitsFor (s .marks) p l)
+    || (not (eqb (holder s l) 0)
+    && not (eqb (holder s l) p)
+    && not (hasArrived s p)
+    && eqb (turnOf (s .marks) p) (standBefore (s .counts .processors) (s .marks) l p))
+
+-- no two wait for one lock with the same turn
+unfoldable pub apartInLine : State → ℕ → ℕ → Bool
+apartInLine s p q =
+    not (waits (s .marks) p)
+    || not (eqb (getD (s .marks .awaited) p 0) (getD (s .marks .awaited) q 0))
+    || not (eqb (turnOf (s .marks) p) (turnOf (s .marks) q))
+
+-- every waiter waits for a present lock, where it stands as its turn says, and no two stand at one place
+unfoldable pub linesSound : State → Bool
+linesSound s =
+    every (s .counts .processors) (λ k. leb (getD (s .marks .awaited) (suc k) 0) (s .counts .locks))
+    && every (s .counts .processors) (λ k. every (s .counts .locks) (waiterSound s (suc k)))
+    && every (s .counts .processors) (λ k. every k (λ j. apartInLine s (suc k) (suc j)))
+
 -- all of the above
 unfoldable pub inOrder : Limits → State → Bool
 inOrder lim s =
@@ -193,3 +228,4 @@ inOrder lim s =
     && dirtyHaveInterval lim s
     && holdersPresent lim s
     && someoneMissing s
+    && linesSound s

@@ -1,4 +1,5 @@
 pub mod State
+pub mod Lines
 pub mod InOrder
 pub mod Opening
 pub mod Close

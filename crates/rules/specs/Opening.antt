@@ -5,7 +5,7 @@ use mathlib.Core.List.{List, [], _∷_}
 use lib.ListN.{replicate}
 use lib.Dec.{eqb}
 use Rattle.clock.specs.Clocks.{zeros}
-use Rattle.rules.specs.State.{Limits, Counts, Clocks, Pages, State}
+use Rattle.rules.specs.State.{Limits, Counts, Clocks, Pages, Marks, State}
 use Rattle.rules.specs.InOrder.{slotSize, countsInRange}
 
 -- "The opening record holds 0, cards, pages, locks, four zeros": its first byte, the counts, and the number that bytes 4 to 7 make
@@ -42,6 +42,17 @@ zeroPages lim =
       dirty = rows (lim .processors) (replicate (lim .pages) 0);
     }
 
+-- no lock is held or waited for, nobody has arrived, and collection is not wanted
+unfoldable pub zeroMarks : Limits → Marks
+zeroMarks lim =
+    record {
+      holders = replicate (lim .locks) 0;
+      arrived = replicate (suc (lim .processors)) 0;
+      wanted = 0;
+      awaited = replicate (suc (lim .processors)) 0;
+      turns = replicate (suc (lim .processors)) 0;
+    }
+
 -- the state that an accepted opening leaves
 unfoldable pub opened : Limits → Counts → State
 opened lim c =
@@ -50,5 +61,5 @@ opened lim c =
       clocks = zeroClocks lim;
       pages = zeroPages lim;
       records = record { standing = 0; slots = replicate (lim .records) (replicate (slotSize lim) 0) };
-      marks = record { holders = replicate (lim .locks) 0; arrived = replicate (suc (lim .processors)) 0; wanted = 0 };
+      marks = zeroMarks lim;
     }

@@ -2,7 +2,7 @@
 -- nothing else". Assumes nothing.
 use Prim.Native.Nat.{ℕ, zero, suc, _+_, _<_}
 use mathlib.Core.Path.{_≡_}
-use mathlib.Core.Bool.{Bool, true, false, cond}
+use mathlib.Core.Bool.{Bool, true, false, cond, _&&_}
 use mathlib.Core.Logic.{_⊎_}
 use mathlib.Core.List.{List, [], _∷_}
 use lib.ListN.{getD}
@@ -58,6 +58,27 @@ groupsBefore n es (suc t) = cond (isArrival (eventAt es t)) (countedOff n (group
 unfoldable pub rounds : ℕ → List Event → ℕ → ℕ
 rounds n es t = groupsBefore n es t .full
 
+-- how many of the first t steps pass a test
+unfoldable pub counted : (Event → Bool) → List Event → ℕ → ℕ
+counted test es zero = 0
+counted test es (suc t) = cond (test (eventAt es t)) (counted test es t + 1) (counted test es t)
+
+-- an accepted acquire of lock l
+unfoldable pub isAcquireOf : ℕ → Event → Bool
+isAcquireOf l e = e .accepted && eqb (e .step .kind) 3 && eqb (e .step .object) l
+
+-- an accepted release of it
+unfoldable pub isReleaseOf : ℕ → Event → Bool
+isReleaseOf l e = e .accepted && eqb (e .step .kind) 4 && eqb (e .step .object) l
+
+-- L1: the accepted acquire of lock l at place a waits until the release at place i, and is served by it: a lock serves its acquires in their order,
+-- the first at once, and each release one more, so the release that has m others before it serves the acquire that has m + 1
+pub record Serves (es : List Event) (l i p a q : ℕ) : Type 0 where
+  pub release : Took es i p (Release l)
+  pub acquire : Took es a q (Acquire l)
+  pub waited : a < i
+  pub next : counted (isAcquireOf l) es a ≡ counted (isReleaseOf l) es i + 1
+
 -- the step at place i is before the step at place j
 pub data Before (n : ℕ) (es : List Event) : ℕ → ℕ → Type 0 where
   -- "a card's steps in their order"
@@ -66,6 +87,8 @@ pub data Before (n : ℕ) (es : List Event) : ℕ → ℕ → Type 0 where
   lock : {i j : ℕ} (p q l : ℕ) → Took es i p (Release l) → Took es j q (Acquire l) → i < j → Before n es i j
   -- "every arrival of a completed round before every step any card takes after that round's last arrival"
   round : {i j : ℕ} (p q : ℕ) (b : Action) → Took es i p Arrive → Took es j q b → rounds n es i < rounds n es j → Before n es i j
+  -- L1: "the release precedes the waiter's next step", and so each later one
+  granted : {i j : ℕ} (p q l a : ℕ) (b : Action) → Serves es l i p a q → Took es j q b → i < j → Before n es i j
   -- "what follows by chaining"
   chain : {i j : ℕ} (k : ℕ) → Before n es i k → Before n es k j → Before n es i j
 

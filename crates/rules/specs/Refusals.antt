@@ -1,8 +1,9 @@
--- Document 01, "Where each refusal is checked", rows 1 to 10 for a step, and what a step does and answers. Assumes nothing.
+-- Document 01, "Where each refusal is checked", rows 1 to 10 for a step, with document 02's row 17, and what a step does and answers. Assumes nothing.
 use Prim.Native.Nat.{ℕ, _+_, _*_}
 use mathlib.Core.Bool.{Bool, cond, not, _&&_, _||_}
 use lib.Dec.{leb, ltb, eqb}
 use Rattle.rules.specs.State.{Limits, dirtyAt, State, own, holder, hasArrived}
+use Rattle.rules.specs.Lines.{waits}
 use Rattle.rules.specs.InOrder.{present, dirtyPages, inOrder}
 use Rattle.rules.specs.Steps.{Effect, pageOfWord, read, write, acquire, release, arrive, want}
 
@@ -60,7 +61,7 @@ usesValue kind = eqb kind 2
 unfoldable pub fits : Limits → State → Step → Bool
 fits lim s t = ltb (t .object) (objectBound lim s (actionOf t)) && (usesValue (t .kind) || eqb (t .value) 0)
 
--- 7: "lock held, by this card too"; 8: "this card is not the holder"; for a write to a clean page 9: "own entry is 63" and
+-- 7: "7 remains for the holder's own acquire" (L1); 8: "this card is not the holder"; for a write to a clean page 9: "own entry is 63" and
 -- 10: "records plus dirty pages are 128"; e is the own entry of processor p
 unfoldable pub lateRefusal : Limits → State → ℕ → ℕ → Action → ℕ
 lateRefusal lim s e p (Read w) = 0
@@ -69,20 +70,22 @@ lateRefusal lim s e p (Write w v) =
     (cond (eqb e (lim .intervals)) 9
     (cond (eqb (s .records .standing + dirtyPages s) (lim .records)) 10
     0))
-lateRefusal lim s e p (Acquire l) = cond (eqb (holder s l) 0) 0 7
+lateRefusal lim s e p (Acquire l) = cond (eqb (holder s l) p) 7 0
 lateRefusal lim s e p (Release l) = cond (eqb (holder s l) p) 0 8
 lateRefusal lim s e p Arrive = 0
 lateRefusal lim s e p Want = 0
 lateRefusal lim s e p Unknown = 0
 
--- the rows 3 to 10, for a state in order whose processor has the own entry e; 6: "card has arrived, round not complete"
+-- the rows 3 to 10, for a state in order whose processor has the own entry e; 6: "card has arrived, round not complete"; L1: "17, a step by a
+-- waiting card, after 6"
 unfoldable pub refusalBy : Limits → State → ℕ → Step → ℕ
 refusalBy lim s e t =
     cond (not (knownKind (t .kind))) 3
     (cond (not (present s (t .processor))) 4
     (cond (not (fits lim s t)) 5
     (cond (hasArrived s (t .processor)) 6
-    (lateRefusal lim s e (t .processor) (actionOf t)))))
+    (cond (waits (s .marks) (t .processor)) 17
+    (lateRefusal lim s e (t .processor) (actionOf t))))))
 
 -- the same with the own entry of the step's processor
 unfoldable pub refusalInOrder : Limits → State → Step → ℕ

@@ -122,19 +122,31 @@ unfoldable pub appended : Records → Record → Records
 appended r new =
     record { standing = r .standing + 1; slots = put [] (r .slots) (r .standing) (laidOver (slotBytes new) (getD (r .slots) (r .standing) [])) }
 
--- "A lock has a holder. The barrier has an arrived mark for each card and a mark that collection is wanted"
+-- "A lock has a holder. The barrier has an arrived mark for each card and a mark that collection is wanted". "The lock's record gains its
+-- line of waiters" (document 02, L1), which is kept with those who stand in it, by processor: the lock that it waits for, plus 1, or 0; and
+-- its turn, how many of that lock's waiters stand before it
 pub record Marks : Type 0 where
   pub holders : List ℕ
   pub arrived : List ℕ
   pub wanted : ℕ
+  pub awaited : List ℕ
+  pub turns : List ℕ
 
 -- the marks with other arrived marks, the rest kept
 abbrev pub withArrived : Marks → List ℕ → Marks
-withArrived m l = record { holders = m .holders; arrived = l; wanted = m .wanted }
+withArrived m l = record { holders = m .holders; arrived = l; wanted = m .wanted; awaited = m .awaited; turns = m .turns }
 
 -- with another wish
 abbrev pub withWanted : Marks → ℕ → Marks
-withWanted m w = record { holders = m .holders; arrived = m .arrived; wanted = w }
+withWanted m w = record { holders = m .holders; arrived = m .arrived; wanted = w; awaited = m .awaited; turns = m .turns }
+
+-- with another holder of a lock
+unfoldable pub withHolder : Marks → ℕ → ℕ → Marks
+withHolder m l p = record { holders = put 0 (m .holders) l p; arrived = m .arrived; wanted = m .wanted; awaited = m .awaited; turns = m .turns }
+
+-- with other waiters and turns
+abbrev pub withLines : Marks → List ℕ → List ℕ → Marks
+withLines m a t = record { holders = m .holders; arrived = m .arrived; wanted = m .wanted; awaited = a; turns = t }
 
 pub record State : Type 0 where
   pub counts : Counts

@@ -6,7 +6,8 @@ use lib.ListN.{getD, set}
 use lib.Dec.{eqb}
 use Rattle.lists.specs.Tables.{put, putCell, every}
 use Rattle.clock.specs.Clocks.{joined}
-use Rattle.rules.specs.State.{Limits, Holder, Processor, Lock, Barrier, Clocks, clockOf, withClock, cleared, Pages, copyOf, dirtyAt, Marks, withArrived, withWanted, State, withClocks, withPages, withRecords, withMarks, hasArrived}
+use Rattle.rules.specs.State.{Limits, Holder, Processor, Lock, Barrier, Clocks, clockOf, withClock, cleared, Pages, copyOf, dirtyAt, withArrived, withWanted, State, withClocks, withPages, withRecords, withMarks, holder, hasArrived}
+use Rattle.rules.specs.Lines.{firstInLine, lockAsked, lockHanded}
 use Rattle.rules.specs.Close.{closed}
 use Rattle.rules.specs.Fetch.{withCopy, fetched, fetchCount}
 
@@ -58,31 +59,37 @@ write lim s p w v =
     let s₂ = withPages s₁ (stored lim (twinTaken (s₁ .pages) p (pageOfWord lim w)) p w v) in
     record { after = s₂; value = 0; count = fetchCount s p (pageOfWord lim w) }
 
--- ---- 3. "Acquire: close; the card becomes holder; its clock joins the lock's"
-
--- the holder of a lock replaced
-unfoldable pub withHolder : Marks → ℕ → ℕ → Marks
-withHolder m l p = record { holders = put 0 (m .holders) l p; arrived = m .arrived; wanted = m .wanted }
+-- ---- 3. "Acquire: close; the card becomes holder; its clock joins the lock's". L1: "An acquire of a lock held by another card is now accepted:
+-- the asker's interval closes and the card waits"
 
 -- "A clock that joins another becomes the join of the two; the other keeps its entries"
 unfoldable pub learned : Clocks → Holder → Holder → Clocks
 learned c to from = withClock c to (joined (clockOf c to) (clockOf c from))
 
--- the three parts in this order
+-- close; the card becomes holder and its clock joins the lock's, or it waits and learns nothing yet
 unfoldable pub acquire : State → ℕ → ℕ → State
 acquire s p l =
     let s₁ = closed s p in
-    let s₂ = withMarks s₁ (withHolder (s₁ .marks) l p) in
-    withClocks s₂ (learned (s₁ .clocks) (Processor p) (Lock l))
+    let s₂ = withMarks s₁ (lockAsked (s₁ .counts .processors) (s₁ .marks) l p) in
+    withClocks s₂ (cond (eqb (holder s₁ l) 0) (learned (s₁ .clocks) (Processor p) (Lock l)) (s₁ .clocks))
 
--- ---- 4. "Release: close; holder becomes 0; the lock's clock becomes the card's"
+-- ---- 4. "Release: close; holder becomes 0; the lock's clock becomes the card's". L1: "At a release the lock goes to the longest waiter, which
+-- becomes holder and learns the lock's clock in that same step"
 
--- the three parts in this order
+-- the lock's clock becomes the card's
+unfoldable pub lockTold : Clocks → ℕ → ℕ → Clocks
+lockTold c p l = withClock c (Lock l) (clockOf c (Processor p))
+
+-- and q, if it is not nobody, learns the lock's clock
+unfoldable pub waiterTold : Clocks → ℕ → ℕ → Clocks
+waiterTold c q l = cond (eqb q 0) c (learned c (Processor q) (Lock l))
+
+-- close; the lock goes to the longest waiter or to nobody; the lock's clock becomes the card's, and the new holder learns it
 unfoldable pub release : State → ℕ → ℕ → State
 release s p l =
     let s₁ = closed s p in
-    let s₂ = withMarks s₁ (withHolder (s₁ .marks) l 0) in
-    withClocks s₂ (withClock (s₁ .clocks) (Lock l) (clockOf (s₁ .clocks) (Processor p)))
+    let s₂ = withMarks s₁ (lockHanded (s₁ .counts .processors) (s₁ .marks) l) in
+    withClocks s₂ (waiterTold (lockTold (s₁ .clocks) p l) (firstInLine (s₁ .counts .processors) (s₁ .marks) l) l)
 
 -- ---- 5. Arrive
 

@@ -18,6 +18,7 @@ use Rattle.rules.specs.Runs.{answers, stateAfter, answersInOrder, stateInOrder}
 use Rattle.rules.specs.State.{Limits, mainframe, State}
 use Rattle.rules.proofs.InOrderRuns.{answers-in-order, state-in-order}
 use Rattle.rules.proofs.DemandThree.{demand-three}
+use Rattle.rules.proofs.InOrderRuns.{run-stays-in-order}
 use Rattle.layout.specs.Areas.{stateIn, Areas, areas, holding}
 use Rattle.layout.specs.inner.Needed.{Ready}
 use Rattle.layout.proofs.Encoding.{holding-is}
@@ -204,7 +205,7 @@ module _ (bs out : List ℕ) (n : ℕ) (h : RecordsThere bs out n) where
         record {
           done = sym (ap length all-answers ∙ count);
           answers = all-laid ∙ ap (λ (l : List Answer). sets out 0 (answerWords l)) (sym all-answers);
-          areas = holding-is c″ w″ r″ m″ (stateInOrder mainframe (stateIn mainframe c′ w′ r′ m′) steps) (d .areas) ∙ sym all-areas;
+          areas = holding-is c″ w″ r″ m″ (stateInOrder mainframe (stateIn mainframe c′ w′ r′ m′) steps) (d .areas) (run-stays-in-order mainframe (stateIn mainframe c′ w′ r′ m′) steps (ready .in-order)) ∙ sym all-areas;
           judged = λ l e. rw read-back answered-judged;
         }
       where

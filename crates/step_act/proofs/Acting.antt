@@ -226,11 +226,11 @@ module _ (c w r m : List ℕ) (k p o v : ℕ) (x : List ℕ) (q : MeetingKept c 
   abbrev t : Meeting c w r m k p o v
   t = q .meeting
 
-  -- the processor of an arrival is present, and has not arrived
+  -- the processor of an arrival is present, has not arrived and does not wait
   pub arrival-there : k ≡ 5 → ArrivesKept c w r m p x
   unfolding stepOf
   arrival-there e =
-      record { arrives = record { acts = acts c w r m k p o v (t .acting); not-arrived = accepted c w r m k p o v (t .acting) .not-arrived }; kept = q .kept }
+      record { arrives = record { acts = acts c w r m k p o v (t .acting); not-arrived = accepted c w r m k p o v (t .acting) .not-arrived; not-waiting = accepted c w r m k p o v (t .acting) .not-waiting }; kept = q .kept }
 
   -- an arrival was done
   pub arrival-done : (n : ℕ) (c′ w′ r′ m′ x′ : List ℕ) → k ≡ 5 → CountedKept (arrive mainframe (stateIn mainframe c w r m) p) n c′ w′ r′ m′ x′

@@ -1,15 +1,15 @@
--- The conditions of a state in order as tests on the places of the four areas: clocks c, words w, and, by the crates marktests and
--- recordtests, marks m and records r. Places, and the numbers k of processors in these tests, count from 0: k stands for processor k + 1.
+-- The conditions of a state in order as tests on the places of the four areas: clocks c, words w, and, by the crates inorder_marks and
+-- inorder_records, marks m and records r. Places, and the numbers k of processors in these tests, count from 0: k stands for processor k + 1.
 -- Assumes nothing.
 use Prim.Native.Nat.{ℕ, _+_, _-_, _*_}
 use mathlib.Core.Bool.{Bool, _&&_}
 use mathlib.Core.List.{List}
 use lib.ListN.{getD}
 use lib.Dec.{leb}
-use Rattle.lists.specs.Tables.{every}
+use Rattle.lists.specs.Tables.{every, tabulate}
 use Rattle.limits.specs.Limits.{intervalLimit, lockLimit, pageLimit, pageWidth, processorLimit, recordLimit}
 use Rattle.limits.specs.inner.Sizes.{clockWidth, copyLimit, firstAppliedRow, firstIntervalRow, firstLockRow, ownStep}
-use Rattle.layout.specs.Layout.{rowOf, tabulate}
+use Rattle.layout.specs.Layout.{rowOf}
 use Rattle.layout.specs.Areas.{standingCount}
 use Rattle.layout.specs.inner.Marks.{lockCount, pageCount, processorCount}
 use Rattle.inorder_marks.specs.inner.Tests.{zeroAt, pagesOf, marksHoldWith}

@@ -24,6 +24,19 @@ pub record MarksOne (m : List ℕ) (pages k : ℕ) : Type 0 where
   pub pages-fit : pages ≤ pageLimit
   pub processor : k < processorLimit
 
+-- the area of the marks and two processors of eight
+pub record MarksTwo (m : List ℕ) (k j : ℕ) : Type 0 where
+  pub marks : length m ≡ markArea
+  pub processor : k < processorLimit
+  pub other : j < processorLimit
+
+-- the area of the marks, counts that fit, and one processor of eight
+pub record WaiterOne (m : List ℕ) (processors locks k : ℕ) : Type 0 where
+  pub marks : length m ≡ markArea
+  pub processors-fit : processors ≤ processorLimit
+  pub locks-fit : locks ≤ lockLimit
+  pub processor : k < processorLimit
+
 -- the area of the marks, and counts that fit
 pub record MarksThere (m : List ℕ) (processors pages locks standing : ℕ) : Type 0 where
   pub marks : length m ≡ markArea

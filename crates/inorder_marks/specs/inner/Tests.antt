@@ -1,14 +1,14 @@
 -- The conditions of a state in order on its marks, as tests on the places of their area m. Places, and the numbers k of processors in
 -- these tests, count from 0: k stands for processor k + 1. Assumes nothing.
 use Prim.Native.Nat.{ℕ, _+_, _-_, _*_}
-use mathlib.Core.Bool.{Bool, cond, not, _&&_}
+use mathlib.Core.Bool.{Bool, cond, not, _&&_, _||_}
 use mathlib.Core.List.{List}
 use lib.ListN.{getD}
 use lib.Dec.{leb, ltb, eqb}
 use Rattle.lists.specs.Tables.{every, any, total}
 use Rattle.limits.specs.Limits.{intervalLimit, lockLimit, pageLimit, processorLimit, recordLimit}
 use Rattle.limits.specs.Places.{firstArrived}
-use Rattle.limits.specs.inner.Sizes.{firstDirty, firstHolder}
+use Rattle.limits.specs.inner.Sizes.{firstAwaited, firstDirty, firstHolder, firstTurn}
 
 -- ---- what the tests of other areas share with these
 
@@ -54,10 +54,62 @@ dirtyOf m pages k = total pages (dirtyCount m (firstDirty + pageLimit * k))
 unfoldable pub roomHolds : List ℕ → ℕ → ℕ → ℕ → Bool
 roomHolds m processors pages standing = leb (standing + total processors (dirtyOf m pages)) recordLimit
 
--- all marks
+-- ---- lines of waiters
+
+-- the lock that processor k + 1 waits for, plus 1; 0 where it waits for none
+abbrev pub awaitedByte : List ℕ → ℕ → ℕ
+awaitedByte m k = getD m (firstAwaited + k) 0
+
+-- its turn: how many of that lock's waiters stand before it
+abbrev pub turnByte : List ℕ → ℕ → ℕ
+turnByte m k = getD m (firstTurn + k) 0
+
+-- lock l is held, by another processor than k + 1
+unfoldable pub heldByAnother : List ℕ → ℕ → ℕ → Bool
+heldByAnother m k l = not (eqb (getD m (firstHolder + l) 0) 0) && not (eqb (getD m (firstHolder + l) 0) (k + 1))
+
+-- processor k + 1 may wait for lock l: the lock is present and another holds it, and the processor has not arrived
+unfoldable pub mayWait : List ℕ → ℕ → ℕ → ℕ → Bool
+mayWait m locks k l = ltb l locks && (heldByAnother m k l && zeroAt m firstArrived k)
+
+-- processor j + 1 waits for the lock of processor k + 1, with a smaller turn
+unfoldable pub isBefore : List ℕ → ℕ → ℕ → Bool
+isBefore m k j = eqb (awaitedByte m j) (awaitedByte m k) && ltb (turnByte m j) (turnByte m k)
+
+-- 1 for a processor that does
+unfoldable pub beforeCount : List ℕ → ℕ → ℕ → ℕ
+beforeCount m k j = cond (isBefore m k j) 1 0
+
+-- how many do
+unfoldable pub bytesBefore : List ℕ → ℕ → ℕ → ℕ
+bytesBefore m processors k = total processors (beforeCount m k)
+
+-- processor j + 1 waits for another lock than processor k + 1, or with another turn
+unfoldable pub isApart : List ℕ → ℕ → ℕ → Bool
+isApart m k j = not (eqb (awaitedByte m j) (awaitedByte m k)) || not (eqb (turnByte m j) (turnByte m k))
+
+-- no lower processor stands at the place of processor k + 1, and its turn says how many stand before it
+unfoldable pub turnHolds : List ℕ → ℕ → ℕ → Bool
+turnHolds m processors k = every k (isApart m k) && eqb (turnByte m k) (bytesBefore m processors k)
+
+-- processor k + 1 does not wait, or may wait and stands where its turn says
+unfoldable pub waiterHolds : List ℕ → ℕ → ℕ → ℕ → Bool
+waiterHolds m processors locks k = eqb (awaitedByte m k) 0 || (mayWait m locks k (awaitedByte m k - 1) && turnHolds m processors k)
+
+-- that of every present processor; absent ones do not wait and have no turn
+unfoldable pub linesHold : List ℕ → ℕ → ℕ → Bool
+linesHold m processors locks =
+    every processors (waiterHolds m processors locks)
+    && (every (processorLimit - processors) (zeroAt m (firstAwaited + processors))
+    && every (processorLimit - processors) (zeroAt m (firstTurn + processors)))
+
+-- ---- all marks
+
+-- dirty pages, holders, arrivals, lines of waiters, and room
 unfoldable pub marksHoldWith : List ℕ → List ℕ → ℕ → ℕ → ℕ → ℕ → Bool
 marksHoldWith own m processors pages locks standing =
     every processorLimit (dirtyHold own m processors pages)
     && (holdersHold m processors locks
     && (arrivedHold m processors
-    && roomHolds m processors pages standing))
+    && (linesHold m processors locks
+    && roomHolds m processors pages standing)))

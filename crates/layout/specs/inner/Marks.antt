@@ -1,12 +1,12 @@
 -- The marks and the numbers of a slot by name: what the functions that read and write them are said by. Assumes nothing.
-use Prim.Native.Nat.{ℕ, _+_, _*_}
+use Prim.Native.Nat.{ℕ, _+_, _*_, _/_, _%_}
 use mathlib.Core.List.{List}
 use lib.ListN.{getD, take, drop, set}
 use Rattle.limits.specs.Limits.{slotHead}
-use Rattle.limits.specs.Places.{processorsPlace, pagesPlace, locksPlace, standingPlace, wantedPlace}
+use Rattle.limits.specs.Places.{processorsPlace, pagesPlace, locksPlace, standingPlace, standingHigh, wantedPlace}
 use Rattle.limits.specs.inner.Sizes.{slotWidth}
 use Rattle.rules.specs.State.{mainframe, Record}
-use Rattle.layout.specs.Areas.{arrivedPlace, holderPlace, dirtyPlace}
+use Rattle.layout.specs.Areas.{arrivedPlace, holderPlace, dirtyPlace, awaitedPlace, turnPlace}
 
 -- ---- marks; how many records stand is `standingCount` of Areas
 
@@ -24,7 +24,7 @@ lockCount m = getD m locksPlace 0
 
 -- the marks where so many records stand
 unfoldable pub withStanding : List ℕ → ℕ → List ℕ
-withStanding m n = set m standingPlace n
+withStanding m n = set (set m standingPlace (n % 256)) standingHigh (n / 256)
 
 -- the wish for collection
 abbrev pub wishMark : List ℕ → ℕ
@@ -41,6 +41,14 @@ holderMark m l = getD m (holderPlace mainframe l) 0
 -- the dirty mark of page g of processor p
 abbrev pub dirtyMark : List ℕ → ℕ → ℕ → ℕ
 dirtyMark m p g = getD m (dirtyPlace mainframe p g) 0
+
+-- the lock that processor p waits for, plus 1
+abbrev pub awaitedMark : List ℕ → ℕ → ℕ
+awaitedMark m p = getD m (awaitedPlace mainframe p) 0
+
+-- the turn of processor p
+abbrev pub turnMark : List ℕ → ℕ → ℕ
+turnMark m p = getD m (turnPlace mainframe p) 0
 
 -- ---- the numbers of slot i, and the diff behind them
 

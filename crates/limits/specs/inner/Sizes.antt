@@ -65,7 +65,7 @@ clockRowLimit = firstIntervalRow + processorLimit * intervalLimit
 abbrev pub wordRowLimit : ℕ
 wordRowLimit = copyLimit + copyLimit
 
--- ---- marks: behind the arrived marks the holders, then dirty
+-- ---- marks: behind the arrived marks the holders, then dirty, then who waits for which lock, and the turns
 
 -- the holders, behind the arrived marks
 abbrev pub firstHolder : ℕ
@@ -74,6 +74,14 @@ firstHolder = firstArrived + processorLimit
 -- the dirty marks, behind the holders
 abbrev pub firstDirty : ℕ
 firstDirty = firstHolder + lockLimit
+
+-- the locks that processors wait for, behind the dirty marks
+abbrev pub firstAwaited : ℕ
+firstAwaited = firstDirty + copyLimit
+
+-- their turns, behind those
+abbrev pub firstTurn : ℕ
+firstTurn = firstAwaited + processorLimit
 
 -- ---- "its size is the fixed one": the four areas
 
@@ -91,7 +99,7 @@ recordArea = slotWidth * recordLimit
 
 -- the marks
 abbrev pub markArea : ℕ
-markArea = firstDirty + copyLimit
+markArea = firstTurn + processorLimit
 
 -- ---- a sort key: sum, processor, interval and slot as one number, each below its base
 

@@ -1,4 +1,4 @@
--- `late_refusal` meets its contract: each row from 7 on for its kind. Assumes nothing.
+-- `late_refusal` meets its contract. Assumes nothing.
 use Rattle.refusals.proofs.Refusing.{refusal-laws}
 use Rattle.refusals.proofs.late_refusal.Statement.{statement}
 use Rattle.refusals.proofs.late_refusal.Tie as tie

@@ -1,4 +1,4 @@
--- `refusal_of_acquire` meets its contract: row 7. Assumes nothing.
+-- `refusal_of_acquire` meets its contract. Assumes nothing.
 use Rattle.refusals.proofs.Refusing.{refusal-laws}
 use Rattle.refusals.proofs.refusal_of_acquire.Statement.{statement}
 use Rattle.refusals.proofs.refusal_of_acquire.Tie as tie

@@ -1,11 +1,13 @@
--- The bounds of the kinds: 16 numbers by which one test says whether a kind is known and its fields fit. Assumes nothing.
+-- The bounds of the kinds: 16 numbers by which one test says whether a kind is known and its fields fit; and the marks of a processor as one
+-- test. Assumes nothing.
 use Prim.Native.Nat.{ℕ, _+_, _*_, min}
 use mathlib.Core.Bool.{Bool, cond, _&&_}
 use mathlib.Core.List.{List, [], _∷_}
 use lib.ListN.{getD}
-use lib.Dec.{leb, ltb}
+use lib.Dec.{leb, ltb, eqb}
 use Rattle.limits.specs.Limits.{pageWidth}
-use Rattle.limits.specs.inner.Sizes.{kindBounds, kindLimit, valueLimit}
+use Rattle.limits.specs.Places.{firstArrived}
+use Rattle.limits.specs.inner.Sizes.{firstAwaited, kindBounds, kindLimit, valueLimit}
 use Rattle.rules.specs.State.{State}
 use Rattle.rules.specs.Refusals.{knownKind, usesValue}
 use Rattle.layout.specs.inner.Marks.{pageCount, lockCount}
@@ -23,6 +25,10 @@ valueBoundOf kind = cond (usesValue kind) valueLimit 0
 unfoldable pub inBounds : List ℕ → ℕ → ℕ → ℕ → Bool
 inBounds bounds kind object value =
     ltb object (getD bounds (min kind kindLimit) 0) && leb value (getD bounds (kindBounds + min kind kindLimit) 0)
+
+-- whether neither the arrived mark at the place of a processor is set nor that of the lock it waits for
+unfoldable pub marksFree : List ℕ → ℕ → Bool
+marksFree m k = eqb (getD m (firstArrived + k) 0) 0 && eqb (getD m (firstAwaited + k) 0) 0
 
 -- the bounds of the marks, a place a kind: the words for a read or a write, the locks for an acquire or a release, 1 where no object is used, 0
 -- where a kind is not known; then what the value may be, anything for a write and 0 for the others

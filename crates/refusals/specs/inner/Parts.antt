@@ -1,4 +1,4 @@
--- The parts of the table of refusals that the crate's functions answer, in the words of the rules. No row from 3 to 10 looks at words, at
+-- The parts of the table of refusals that the crate's functions answer, in the words of the rules. No row but 1 looks at words, at
 -- slots or, but for the own entry, at clocks, so the parts are those of the state that the marks alone show. Assumes nothing.
 use Prim.Native.Nat.{ℕ, _+_, _*_}
 use mathlib.Core.Bool.{Bool, cond, not, _&&_, _||_}
@@ -6,6 +6,7 @@ use mathlib.Core.List.{List, []}
 use lib.Dec.{leb, ltb, eqb}
 use Rattle.rules.specs.State.{mainframe, State, hasArrived}
 use Rattle.rules.specs.InOrder.{present, dirtyPages}
+use Rattle.rules.specs.Lines.{waits}
 use Rattle.rules.specs.Refusals.{Write, Acquire, Release, knownKind, usesValue, lateRefusal}
 use Rattle.layout.specs.Areas.{stateIn}
 
@@ -25,27 +26,32 @@ fieldsFit s kind object value = ltb object (boundOf s kind) && (usesValue kind |
 unfoldable pub refusalOfKind : State → ℕ → ℕ → ℕ → ℕ → ℕ
 refusalOfKind s own kind processor object =
     cond (eqb kind 2) (lateRefusal mainframe s own processor (Write object 0))
-    (cond (eqb kind 3) (lateRefusal mainframe s 0 0 (Acquire object))
+    (cond (eqb kind 3) (lateRefusal mainframe s 0 processor (Acquire object))
     (cond (eqb kind 4) (lateRefusal mainframe s 0 processor (Release object))
     0))
 
--- 4 and 6: whether a processor is present and has not arrived
-unfoldable pub mayAct : State → ℕ → Bool
-mayAct s processor = present s processor && not (hasArrived s processor)
+-- 6 and 17: whether a processor has not arrived and does not wait
+unfoldable pub isFree : State → ℕ → Bool
+isFree s processor = not (hasArrived s processor) && not (waits (s .marks) processor)
 
--- whether no row from 3 to 6 refuses
+-- 4, 6 and 17: whether it is present too
+unfoldable pub mayAct : State → ℕ → Bool
+mayAct s processor = present s processor && isFree s processor
+
+-- whether no row from 3 to 6 refuses, and not 17
 unfoldable pub stepFits : State → ℕ → ℕ → ℕ → ℕ → Bool
 stepFits s kind processor object value = knownKind kind && fieldsFit s kind object value && mayAct s processor
 
--- the rows 5 and 6; 0 where neither refuses
+-- the rows 5, 6 and 17; 0 where none refuses
 unfoldable pub earlyOfFields : State → ℕ → ℕ → ℕ → ℕ → ℕ
-earlyOfFields s kind processor object value = cond (not (fieldsFit s kind object value)) 5 (cond (hasArrived s processor) 6 0)
+earlyOfFields s kind processor object value =
+    cond (not (fieldsFit s kind object value)) 5 (cond (hasArrived s processor) 6 (cond (waits (s .marks) processor) 17 0))
 
--- the rows 4 to 6
+-- the rows 4 to 6 and 17
 unfoldable pub earlyOfKnown : State → ℕ → ℕ → ℕ → ℕ → ℕ
 earlyOfKnown s kind processor object value = cond (not (present s processor)) 4 (earlyOfFields s kind processor object value)
 
--- the rows 3 to 6
+-- the rows 3 to 6 and 17
 unfoldable pub earlyRefusal : State → ℕ → ℕ → ℕ → ℕ → ℕ
 earlyRefusal s kind processor object value = cond (not (knownKind kind)) 3 (earlyOfKnown s kind processor object value)
 

@@ -15,9 +15,10 @@ use Rattle.rules.specs.Refusals.{Step, Action, Read, actionOf, knownKind
 use Rattle.rules.specs.Runs.{answersInOrder, stateInOrder}
 use Rattle.rules.specs.Order.{Event, events, noEvent, eventAt, Took}
 use Rattle.rules.specs.Demand.{valueAt}
+use Rattle.rules.proofs.inorder.Facts.{InOrder}
 use Rattle.rules.proofs.inorder.OpenedInOrder.{opened-in-order}
 use Rattle.rules.proofs.InOrderRuns.{run-stays-in-order}
-use Rattle.rules.proofs.order.Timeline.{Timeline}
+use Rattle.rules.proofs.order.Timeline.{Timeline, Course}
 
 -- ---- one step
 
@@ -78,6 +79,10 @@ unfolding stateInOrder events answersInOrder eventAt noEvent valueAt
 value-of lim s [] t e = absurd (false≢true e)
 value-of lim s (a ∷ ts) zero e = answer-value lim s a (ap (λ (n : ℕ). eqb n 0) (sym (answer-refusal lim s a)) ∙ e)
 value-of lim s (a ∷ ts) (suc t) e = value-of lim (nextInOrder lim s a) ts t e
+
+-- the run from any state in order
+pub course : (lim : Limits) (s : State) (ts : List Step) → InOrder lim s → Course lim (eventsOf lim s ts) (stateBefore lim s ts)
+course lim s ts o = record { steps = steps-of lim s ts; judged = judged-of lim s ts; ordered = λ t. run-stays-in-order lim s (take t ts) o }
 
 -- ---- the run from an opening
 

@@ -6,8 +6,9 @@ use native.Mathlib.Nat.{mul-zero, div-lt-iff-lt-mul}
 use mathlib.Core.Path.{_≡_, refl}
 use mathlib.Core.Bool.{Bool, true, false, cond, not, _||_, and-eq-true-iff}
 use lib.Dec.{ltb, eqb}
-use borrow.Author.Tests.{ltb-true}
-use Rattle.rules.specs.State.{Limits, State, own, hasArrived}
+use borrow.Author.Tests.{ltb-true, eqb-false}
+use Rattle.rules.specs.State.{Limits, State, own, holder, hasArrived}
+use Rattle.rules.specs.Lines.{waits}
 use Rattle.rules.specs.InOrder.{present}
 use Rattle.rules.specs.Steps.{pageOfWord}
 use Rattle.rules.specs.Refusals.{Step, Action, Read, Write, Acquire, Release, actionOf, knownKind, objectBound, usesValue, fits, lateRefusal, refusalBy, refusalInOrder}
@@ -19,19 +20,31 @@ pub record Accepted (lim : Limits) (s : State) (t : Step) : Type 0 where
   pub processor-present : present s (t .processor) ≡ true
   pub fields-fit : fits lim s t ≡ true
   pub not-arrived : hasArrived s (t .processor) ≡ false
+  pub not-waiting : waits (s .marks) (t .processor) ≡ false
   pub not-late : lateRefusal lim s (own s (t .processor)) (t .processor) (actionOf t) ≡ 0
 
 pub accepted-says : (lim : Limits) (s : State) (t : Step) → refusalInOrder lim s t ≡ 0 → Accepted lim s t
 unfolding refusalInOrder refusalBy
-accepted-says lim s t e = go (knownKind (t .kind)) (present s (t .processor)) (fits lim s t) (hasArrived s (t .processor)) refl refl refl refl e
+accepted-says lim s t e =
+    go (knownKind (t .kind)) (present s (t .processor)) (fits lim s t) (hasArrived s (t .processor)) (waits (s .marks) (t .processor)) refl refl refl refl refl e
   where
-    go : (a b c d : Bool) → knownKind (t .kind) ≡ a → present s (t .processor) ≡ b → fits lim s t ≡ c → hasArrived s (t .processor) ≡ d
-        → cond (not a) 3 (cond (not b) 4 (cond (not c) 5 (cond d 6 (lateRefusal lim s (own s (t .processor)) (t .processor) (actionOf t))))) ≡ 0 → Accepted lim s t
-    go false b c d p q r u e = absurd (omega arith)
-    go true false c d p q r u e = absurd (omega arith)
-    go true true false d p q r u e = absurd (omega arith)
-    go true true true true p q r u e = absurd (omega arith)
-    go true true true false p q r u e = record { known-kind = p; processor-present = q; fields-fit = r; not-arrived = u; not-late = e }
+    go : (a b c d w : Bool) → knownKind (t .kind) ≡ a → present s (t .processor) ≡ b → fits lim s t ≡ c → hasArrived s (t .processor) ≡ d → waits (s .marks) (t .processor) ≡ w
+        → cond (not a) 3 (cond (not b) 4 (cond (not c) 5 (cond d 6 (cond w 17 (lateRefusal lim s (own s (t .processor)) (t .processor) (actionOf t)))))) ≡ 0 → Accepted lim s t
+    go false b c d w p q r u v e = absurd (omega arith)
+    go true false c d w p q r u v e = absurd (omega arith)
+    go true true false d w p q r u v e = absurd (omega arith)
+    go true true true true w p q r u v e = absurd (omega arith)
+    go true true true false true p q r u v e = absurd (omega arith)
+    go true true true false false p q r u v e = record { known-kind = p; processor-present = q; fields-fit = r; not-arrived = u; not-waiting = v; not-late = e }
+
+-- an acquire that is not refused is not by the holder
+pub late-acquire : (lim : Limits) (s : State) (e p l : ℕ) → lateRefusal lim s e p (Acquire l) ≡ 0 → holder s l ≡ p → ⊥
+unfolding lateRefusal
+late-acquire lim s e p l z same = go (eqb (holder s l) p) refl z
+  where
+    go : (b : Bool) → eqb (holder s l) p ≡ b → cond {A = ℕ} b 7 0 ≡ 0 → ⊥
+    go true d z = omega (arith, z)
+    go false d z = eqb-false (holder s l) p d same
 
 -- ---- a present processor is 1 to the number of processors
 

@@ -1,5 +1,5 @@
 -- The conditions of "in order" as lists of tests, from which one can be taken by its number. Rests on Everywhere. Assumes nothing.
-use Prim.Native.Nat.{suc}
+use Prim.Native.Nat.{ℕ, suc}
 use mathlib.Core.Path.{_≡_, refl}
 use mathlib.Core.Bool.{Bool, not, _||_}
 use mathlib.Core.List.{List, [], _∷_}
@@ -9,7 +9,8 @@ use Rattle.lists.specs.Tables.{every}
 use Rattle.lists.proofs.Conditions.{conjoined}
 use Rattle.clock.specs.Clocks.{entryOf}
 use Rattle.rules.specs.State.{Limits, Counts, Lock, Applied, Interval, clockOf, copyOf, twinOf, dirtyAt, Record, State, own, holder, hasArrived}
-use Rattle.rules.specs.InOrder.{present, everyProcessor, everyPage, everyHolder, slotSize, rowsSized, sized, inRange, countsInRange, presentHolder, allZero, absentZero, laterIntervalsZero, entriesKnown, appliedKnown, recordSound, recordsSound, roomKept, dirtyHaveInterval, holdersPresent, someoneMissing, inOrder}
+use Rattle.rules.specs.Lines.{waits, waitsFor, turnOf}
+use Rattle.rules.specs.InOrder.{present, everyProcessor, everyPage, everyHolder, slotSize, rowsSized, sized, inRange, countsInRange, presentHolder, allZero, absentZero, laterIntervalsZero, entriesKnown, appliedKnown, recordSound, recordsSound, roomKept, dirtyHaveInterval, holdersPresent, someoneMissing, standBefore, waiterSound, apartInLine, linesSound, inOrder}
 
 -- of the size
 unfoldable pub sizedTests : Limits → State → List Bool
@@ -30,6 +31,8 @@ sizedTests lim s =
     ∷ leb (s .records .standing) (lim .records)
     ∷ eqb (length (s .marks .holders)) (lim .locks)
     ∷ eqb (length (s .marks .arrived)) (suc (lim .processors))
+    ∷ eqb (length (s .marks .awaited)) (suc (lim .processors))
+    ∷ eqb (length (s .marks .turns)) (suc (lim .processors))
     ∷ []
 
 -- the test is the conjunction of the list
@@ -47,6 +50,8 @@ absentTests lim s =
     ∷ everyPage lim (λ p g. presentHolder s (Applied p g) || not (dirtyAt (s .pages) p g))
     ∷ everyProcessor lim (λ p. present s p || not (hasArrived s p))
     ∷ every (lim .locks) (λ l. presentHolder s (Lock l) || eqb (holder s l) 0)
+    ∷ everyProcessor lim (λ p. present s p || not (waits (s .marks) p))
+    ∷ everyProcessor lim (λ p. present s p || eqb (turnOf (s .marks) p) 0)
     ∷ []
 
 -- the test is the conjunction of the list
@@ -73,6 +78,33 @@ pub record-tests : (lim : Limits) (s : State) (r : Record) → recordSound lim s
 unfolding recordSound recordTests conjoined
 record-tests lim s r = refl
 
+-- of a waiter of lock l
+unfoldable pub waiterTests : State → ℕ → ℕ → List Bool
+waiterTests s p l =
+    not (eqb (holder s l) 0)
+    ∷ not (eqb (holder s l) p)
+    ∷ not (hasArrived s p)
+    ∷ eqb (turnOf (s .marks) p) (standBefore (s .counts .processors) (s .marks) l p)
+    ∷ []
+
+-- the test is the conjunction of the list, where p waits
+pub waiter-tests : (s : State) (p l : ℕ) → waiterSound s p l ≡ (not (waitsFor (s .marks) p l) || conjoined (waiterTests s p l))
+unfolding waiterSound waiterTests conjoined
+waiter-tests s p l = refl
+
+-- of the lines
+unfoldable pub lineTests : State → List Bool
+lineTests s =
+    every (s .counts .processors) (λ k. leb (getD (s .marks .awaited) (suc k) 0) (s .counts .locks))
+    ∷ every (s .counts .processors) (λ k. every (s .counts .locks) (waiterSound s (suc k)))
+    ∷ every (s .counts .processors) (λ k. every k (λ j. apartInLine s (suc k) (suc j)))
+    ∷ []
+
+-- the test is the conjunction of the list
+pub line-tests : (s : State) → linesSound s ≡ conjoined (lineTests s)
+unfolding linesSound lineTests conjoined
+line-tests s = refl
+
 -- all
 unfoldable pub orderTests : Limits → State → List Bool
 orderTests lim s =
@@ -87,6 +119,7 @@ orderTests lim s =
     ∷ dirtyHaveInterval lim s
     ∷ holdersPresent lim s
     ∷ someoneMissing s
+    ∷ linesSound s
     ∷ []
 
 -- the test is the conjunction of the list

@@ -3,6 +3,7 @@ use Prim.Native.Nat.{ℕ, suc, _+_, _≤_, _<_}
 use native.Mathlib.Omega.{arith}
 use mathlib.Core.Path.{_≡_}
 use mathlib.Core.Bool.{true, false, not}
+use lib.Dec.{eqb}
 use mathlib.Core.Logic.{_⊎_}
 use mathlib.Core.List.{[]}
 use lib.ListN.{length, getD}
@@ -10,8 +11,11 @@ use Rattle.lists.proofs.Tables.{Passes}
 use Rattle.limits.specs.Limits.{slotHead}
 use Rattle.clock.specs.Clocks.{entryOf}
 use Rattle.diff.specs.Reading.{readRefusal}
-use Rattle.rules.specs.State.{Limits, Holder, Processor, Lock, Barrier, Applied, Interval, clockOf, copyOf, twinOf, dirtyAt, State, clock, own, holder, hasArrived}
+use Rattle.rules.specs.State.{Limits, Counts, Holder, Processor, Lock, Barrier, Applied, Interval, clockOf, copyOf, twinOf, dirtyAt, Marks, State, clock, own, holder, hasArrived}
+use Rattle.rules.specs.Lines.{waits, turnOf}
 use Rattle.rules.specs.InOrder.{present, slotSize, presentHolder, recordAt, sameNotice, dirtyPages}
+use Rattle.rules.proofs.state.Lines.{Lines}
+use Rattle.rules.proofs.state.Waiters.{awaits, turnAt, holderIn}
 
 -- a holder for which the tables have a place
 unfoldable pub Within : Limits → Holder → Type 0
@@ -50,6 +54,8 @@ pub record Sized (lim : Limits) (s : State) : Type 0 where
   pub few-standing : s .records .standing ≤ lim .records
   pub holders : length (s .marks .holders) ≡ lim .locks
   pub arrived : length (s .marks .arrived) ≡ suc (lim .processors)
+  pub awaited : length (s .marks .awaited) ≡ suc (lim .processors)
+  pub turns : length (s .marks .turns) ≡ suc (lim .processors)
 
 -- a record that stands: a present processor and page, a made interval, a legal diff that fits its slot
 pub record RecordSound (lim : Limits) (s : State) (i : ℕ) : Type 0 where
@@ -59,6 +65,15 @@ pub record RecordSound (lim : Limits) (s : State) (i : ℕ) : Type 0 where
   pub made-interval : recordAt s i .interval ≤ own s (recordAt s i .processor)
   pub fits : slotHead + getD (getD (s .records .slots) i []) 3 0 ≤ slotSize lim
   pub legal : readRefusal (lim .words) (recordAt s i .diff) ≡ 0
+
+-- the lines of waiters, by the counts and the marks: processor k + 1 waits for a present lock that another holds, has not arrived, and stands
+-- where its turn says
+pub record LinesInOrder (n : Counts) (m : Marks) : Type 0 where
+  pub lines : Lines (n .processors) (awaits m) (turnAt m)
+  pub for-present : (k l : ℕ) → k < n .processors → awaits m k ≡ suc l → l < n .locks
+  pub for-held : (k l : ℕ) → k < n .processors → awaits m k ≡ suc l → holderIn m l ≡ 0 → ⊥
+  pub by-another : (k l : ℕ) → k < n .processors → awaits m k ≡ suc l → holderIn m l ≡ suc k → ⊥
+  pub not-arrived : (k l : ℕ) → k < n .processors → awaits m k ≡ suc l → not (eqb (getD (m .arrived) (suc k) 0) 0) ≡ false
 
 pub record InOrder (lim : Limits) (s : State) : Type 0 where
   pub sized : Sized lim s
@@ -75,6 +90,8 @@ pub record InOrder (lim : Limits) (s : State) : Type 0 where
   pub absent-clean : (p g : ℕ) → presentHolder s (Applied p g) ≡ false → dirtyAt (s .pages) p g ≡ false
   pub absent-not-arrived : (p : ℕ) → 1 ≤ p → present s p ≡ false → hasArrived s p ≡ false
   pub absent-not-held : (l : ℕ) → presentHolder s (Lock l) ≡ false → holder s l ≡ 0
+  pub absent-awake : (p : ℕ) → 1 ≤ p → present s p ≡ false → waits (s .marks) p ≡ false
+  pub absent-turn : (p : ℕ) → 1 ≤ p → present s p ≡ false → turnOf (s .marks) p ≡ 0
   pub later-interval : (p i q : ℕ) → own s p < i → entryOf (clockOf (s .clocks) (Interval p i)) q ≡ 0
   pub known : (h : Holder) (q : ℕ) → entryOf (clockOf (s .clocks) h) q ≤ own s q
   pub own-fits : (p : ℕ) → own s p ≤ lim .intervals
@@ -85,6 +102,7 @@ pub record InOrder (lim : Limits) (s : State) : Type 0 where
   pub dirty-has-interval : (p g : ℕ) → dirtyAt (s .pages) p g ≡ true → own s p < lim .intervals
   pub holder-present : (l : ℕ) → (holder s l ≡ 0) ⊎ (present s (holder s l) ≡ true)
   pub someone-missing : Passes (s .counts .processors) (λ k. not (hasArrived s (suc k)))
+  pub lines : LinesInOrder (s .counts) (s .marks)
 
 -- ---- what follows at once
 

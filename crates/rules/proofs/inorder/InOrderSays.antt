@@ -2,26 +2,30 @@
 use Prim.Native.Nat.{ℕ, suc, _+_, _≤_, _<_}
 use native.Mathlib.Omega.{arith}
 use native.Mathlib.Nat.{lt-of-not-le}
+use native.Mathlib.Decide.{decLt}
 use mathlib.Core.Path.{_≡_, sym, ap, _∙_}
 use mathlib.Core.Bool.{Bool, true, false, not, _&&_, _||_, false≢true}
 use mathlib.Core.Logic.{_⊎_, inl, inr}
 use mathlib.Core.List.{List, []}
 use lib.ListN.{getD}
 use lib.Dec.{leb, ltb, eqb}
-use borrow.Author.Tests.{ltb-true, leb-true, eqb-true, not-true, lt-leb}
+use borrow.Author.Tests.{ltb-true, leb-true, eqb-true, eqb-false, eq-eqb, not-true, lt-leb}
 use Rattle.lists.specs.Tables.{every}
 use Rattle.lists.proofs.Tables.{every-at, any-at}
-use Rattle.lists.proofs.Conditions.{and-left, and-right, conjoined-at, or-says, or-either}
+use Rattle.lists.proofs.Conditions.{and-left, and-right, conjoined, conjoined-at, or-says, or-either}
 use Rattle.limits.specs.Limits.{slotHead}
 use Rattle.clock.specs.Clocks.{entryOf}
 use Rattle.diff.specs.Reading.{readRefusal}
 use Rattle.rules.specs.State.{Limits, Holder, Processor, Lock, Applied, Interval, clockOf, copyOf, twinOf, dirtyAt, State, clock, own, holder, hasArrived}
-use Rattle.rules.specs.InOrder.{present, everyProcessor, everyPage, everyHolder, slotSize, sized, inRange, presentHolder, allZero, absentZero, laterIntervalsZero, entriesKnown, appliedKnown, recordAt, diffLegal, recordSound, sameNotice, recordsSound, roomKept, dirtyHaveInterval, holdersPresent, someoneMissing, inOrder}
-use Rattle.rules.proofs.inorder.Facts.{Within, Sized, RecordSound, InOrder}
+use Rattle.rules.specs.Lines.{waits, waitsFor, turnOf}
+use Rattle.rules.specs.InOrder.{present, everyProcessor, everyPage, everyHolder, slotSize, sized, inRange, presentHolder, allZero, absentZero, laterIntervalsZero, entriesKnown, appliedKnown, recordAt, diffLegal, recordSound, sameNotice, recordsSound, roomKept, dirtyHaveInterval, holdersPresent, someoneMissing, standBefore, waiterSound, apartInLine, inOrder}
+use Rattle.rules.proofs.state.Lines.{ahead, Lines}
+use Rattle.rules.proofs.state.Waiters.{awaits, turnAt, waits-for-when, waiter-waits}
+use Rattle.rules.proofs.inorder.Facts.{Within, Sized, RecordSound, LinesInOrder, InOrder}
 use Rattle.rules.proofs.inorder.Everywhere.{every-processor-at, every-page-at, every-interval-at, every-holder-at, by-place, all-zero-at, entry-all-zero, covered-entries}
 use Rattle.rules.proofs.inorder.Rows.{rows-sized-says}
-use Rattle.rules.proofs.inorder.Outside.{entry-outside, entry-absent-place, copy-outside, twin-outside, clean-outside, not-arrived-outside, not-held-outside}
-use Rattle.rules.proofs.inorder.Conditions.{sizedTests, sized-tests, absentTests, absent-tests, countsTests, counts-tests, recordTests, record-tests, orderTests, order-tests}
+use Rattle.rules.proofs.inorder.Outside.{entry-outside, entry-absent-place, copy-outside, twin-outside, clean-outside, not-arrived-outside, not-held-outside, awake-outside, no-turn-outside}
+use Rattle.rules.proofs.inorder.Conditions.{sizedTests, sized-tests, absentTests, absent-tests, countsTests, counts-tests, recordTests, record-tests, waiterTests, waiter-tests, lineTests, line-tests, orderTests, order-tests}
 
 module _ (lim : Limits) (s : State) where
   -- its size is the fixed one
@@ -65,6 +69,8 @@ module _ (lim : Limits) (s : State) where
             few-standing = leb-true _ _ (part 13);
             holders = eqb-true _ _ (part 14);
             arrived = eqb-true _ _ (part 15);
+            awaited = eqb-true _ _ (part 16);
+            turns = eqb-true _ _ (part 17);
           }
 
   -- what is absent is 0
@@ -76,6 +82,8 @@ module _ (lim : Limits) (s : State) where
     pub clean : (p g : ℕ) → presentHolder s (Applied p g) ≡ false → dirtyAt (s .pages) p g ≡ false
     pub not-arrived : (p : ℕ) → 1 ≤ p → present s p ≡ false → hasArrived s p ≡ false
     pub not-held : (l : ℕ) → presentHolder s (Lock l) ≡ false → holder s l ≡ 0
+    pub awake : (p : ℕ) → 1 ≤ p → present s p ≡ false → waits (s .marks) p ≡ false
+    pub turn : (p : ℕ) → 1 ≤ p → present s p ≡ false → turnOf (s .marks) p ≡ 0
 
   -- the words of absent pages, in a table of copies or of twins that has none outside its places
   absent-words : (page : ℕ → ℕ → List ℕ) → everyPage lim (λ p g. presentHolder s (Applied p g) || allZero (page p g)) ≡ true
@@ -117,6 +125,14 @@ module _ (lim : Limits) (s : State) where
                 by-place lim (Lock l)
                 (λ w. eqb-true _ _ (or-says (presentHolder s (Lock l)) (eqb (holder s l) 0) (every-at (lim .locks) _ l (part 6) w) a))
                 (λ n. not-held-outside lim s z l (omega (arith, lt-of-not-le n)));
+            awake = λ p l a.
+                by-place lim (Processor p)
+                (λ w. not-true _ (or-says (present s p) (not (waits (s .marks) p)) (every-processor-at lim _ p (part 7) (w .0) (w .1)) a))
+                (λ n. awake-outside lim s z p (lt-of-not-le (λ k. n (l, k))));
+            turn = λ p l a.
+                by-place lim (Processor p)
+                (λ w. eqb-true _ _ (or-says (present s p) (eqb (turnOf (s .marks) p) 0) (every-processor-at lim _ p (part 8) (w .0) (w .1)) a))
+                (λ n. no-turn-outside lim s z p (lt-of-not-le (λ k. n (l, k))));
           }
 
   later-interval-says : Sized lim s → laterIntervalsZero lim s ≡ true → (p i q : ℕ) → own s p < i → entryOf (clockOf (s .clocks) (Interval p i)) q ≡ 0
@@ -206,6 +222,53 @@ module _ (lim : Limits) (s : State) where
       go (inl k) = inl (eqb-true _ _ k)
       go (inr k) = inr k
 
+-- ---- the lines of waiters
+
+module _ (s : State) (part : (i : ℕ) → getD (lineTests s) i true ≡ true) where
+  n : ℕ
+  n = s .counts .processors
+
+  waited-for : (k l : ℕ) → k < n → awaits (s .marks) k ≡ suc l → l < s .counts .locks
+  unfolding lineTests n
+  waited-for k l b e = omega (arith, e, leb-true (awaits (s .marks) k) (s .counts .locks) (every-at n (λ (k : ℕ). leb (awaits (s .marks) k) (s .counts .locks)) k (part 0) b))
+
+  waiter-says : (k l : ℕ) → k < n → awaits (s .marks) k ≡ suc l → (i : ℕ) → getD (waiterTests s (suc k) l) i true ≡ true
+  unfolding lineTests n
+  waiter-says k l b e i =
+      let sound : waiterSound s (suc k) l ≡ true = every-at (s .counts .locks) (waiterSound s (suc k)) l (every-at n (λ (k : ℕ). every (s .counts .locks) (waiterSound s (suc k))) k (part 1) b) (waited-for k l b e) in
+      conjoined-at (waiterTests s (suc k) l) i
+      (or-says (not (waitsFor (s .marks) (suc k) l)) (conjoined (waiterTests s (suc k) l)) (sym (waiter-tests s (suc k) l) ∙ sound) (ap not (waits-for-when (s .marks) k l e)))
+
+  lower-apart : (l j k : ℕ) → j < k → k < n → awaits (s .marks) j ≡ suc l → awaits (s .marks) k ≡ suc l → turnAt (s .marks) j ≡ turnAt (s .marks) k → ⊥
+  unfolding lineTests apartInLine turnOf n
+  lower-apart l j k a b ej ek t =
+      let here : apartInLine s (suc k) (suc j) ≡ true = every-at k (λ (j : ℕ). apartInLine s (suc k) (suc j)) j (every-at n (λ (k : ℕ). every k (λ (j : ℕ). apartInLine s (suc k) (suc j))) k (part 2) b) a in
+      false≢true (rw (waiter-waits (s .marks) k l ek, eq-eqb (awaits (s .marks) k) (awaits (s .marks) j) (ek ∙ sym ej), eq-eqb (turnAt (s .marks) k) (turnAt (s .marks) j) (sym t)) at here)
+
+  lines-are : Lines n (awaits (s .marks)) (turnAt (s .marks))
+  unfolding waiterTests standBefore waitsFor turnOf ahead n
+  lines-are =
+      record {
+        counts = λ l k b e. sym (eqb-true _ _ (waiter-says k l b e 3));
+        apart = λ l j k bj bk ej ek t. apart l j k bj bk ej ek t (decLt j k) (decLt k j);
+      }
+    where
+      apart : (l j k : ℕ) → j < n → k < n → awaits (s .marks) j ≡ suc l → awaits (s .marks) k ≡ suc l → turnAt (s .marks) j ≡ turnAt (s .marks) k → Dec (j < k) → Dec (k < j) → j ≡ k
+      apart l j k bj bk ej ek t (yes a) c = absurd (lower-apart l j k a bk ej ek t)
+      apart l j k bj bk ej ek t (no a) (yes c) = absurd (lower-apart l k j c bj ek ej (sym t))
+      apart l j k bj bk ej ek t (no a) (no c) = omega (arith, a, c)
+
+  pub lines-say : LinesInOrder (s .counts) (s .marks)
+  unfolding waiterTests holder hasArrived n
+  lines-say =
+      record {
+        lines = lines-are;
+        for-present = waited-for;
+        for-held = λ k l b e z. eqb-false _ _ (not-true _ (waiter-says k l b e 0)) z;
+        by-another = λ k l b e z. eqb-false _ _ (not-true _ (waiter-says k l b e 1)) z;
+        not-arrived = λ k l b e. not-true _ (waiter-says k l b e 2);
+      }
+
 -- a count in range is at least 1 and at most the limit
 pub in-range-says : (most n : ℕ) → inRange most n ≡ true → (1 ≤ n) × (n ≤ most)
 unfolding inRange
@@ -239,6 +302,8 @@ in-order-says lim s e = go (λ i. conjoined-at (orderTests lim s) i (sym (order-
           absent-clean = absent .clean;
           absent-not-arrived = absent .not-arrived;
           absent-not-held = absent .not-held;
+          absent-awake = absent .awake;
+          absent-turn = absent .turn;
           later-interval = later-interval-says lim s z (part 3);
           known = known-says lim s z (part 4);
           own-fits = own-fits-says lim s z (part 4);
@@ -249,4 +314,5 @@ in-order-says lim s e = go (λ i. conjoined-at (orderTests lim s) i (sym (order-
           dirty-has-interval = dirty-has-interval-says lim s z (part 8);
           holder-present = holder-present-says lim s z (part 9);
           someone-missing = any-at _ _ (part 10);
+          lines = lines-say s (λ i. conjoined-at (lineTests s) i (sym (line-tests s) ∙ part 11));
         }

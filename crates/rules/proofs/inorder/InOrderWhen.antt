@@ -1,12 +1,13 @@
 -- A state that is in order, fact by fact, passes the test `inOrder`. Rests on Outside and Conditions. Assumes nothing.
-use Prim.Native.Nat.{ℕ, suc, _+_, _≤_}
-use mathlib.Core.Path.{_≡_, ap, _∙_}
+use Prim.Native.Nat.{ℕ, zero, suc, _+_, _≤_, _<_}
+use native.Mathlib.Omega.{arith}
+use mathlib.Core.Path.{_≡_, refl, sym, ap, _∙_}
 use mathlib.Core.Bool.{Bool, true, false, not, _&&_, _||_}
 use mathlib.Core.Logic.{_⊎_, inl, inr}
 use mathlib.Core.List.{[]}
 use lib.ListN.{getD}
 use lib.Dec.{leb, eqb}
-use borrow.Author.Tests.{leb-false, not-false, lt-ltb, le-leb, eq-eqb}
+use borrow.Author.Tests.{leb-false, not-false, lt-ltb, le-leb, eqb-true, eq-eqb, ne-eqb}
 use Rattle.lists.specs.Tables.{every}
 use Rattle.lists.proofs.Tables.{every-holds, any-holds}
 use Rattle.lists.proofs.Conditions.{and-both, Given, conjoined-holds, or-when, either-or}
@@ -14,12 +15,15 @@ use Rattle.limits.specs.Limits.{slotHead}
 use Rattle.clock.specs.Clocks.{entryOf}
 use Rattle.diff.specs.Reading.{readRefusal}
 use Rattle.rules.specs.State.{Limits, Holder, Lock, Applied, Interval, clockOf, copyOf, twinOf, dirtyAt, State, clock, own, holder, hasArrived}
-use Rattle.rules.specs.InOrder.{present, everyProcessor, everyHolder, slotSize, sized, inRange, countsInRange, presentHolder, allZero, absentZero, laterIntervalsZero, entriesKnown, appliedKnown, recordAt, diffLegal, recordSound, sameNotice, recordsSound, roomKept, dirtyHaveInterval, holdersPresent, someoneMissing, inOrder}
-use Rattle.rules.proofs.inorder.Facts.{Sized, RecordSound, InOrder}
+use Rattle.rules.specs.Lines.{waits, waitsFor, turnOf}
+use Rattle.rules.specs.InOrder.{present, everyProcessor, everyHolder, slotSize, sized, inRange, countsInRange, presentHolder, allZero, absentZero, laterIntervalsZero, entriesKnown, appliedKnown, recordAt, diffLegal, recordSound, sameNotice, recordsSound, roomKept, dirtyHaveInterval, holdersPresent, someoneMissing, standBefore, waiterSound, apartInLine, linesSound, inOrder}
+use Rattle.rules.proofs.state.Lines.{ahead}
+use Rattle.rules.proofs.state.Waiters.{awaits, turnAt, waits-for-says}
+use Rattle.rules.proofs.inorder.Facts.{Sized, RecordSound, LinesInOrder, InOrder}
 use Rattle.rules.proofs.inorder.Everywhere.{every-processor-holds, every-page-holds, every-interval-holds, every-holder-holds, all-zero-holds, entries-all-zero, entries-covered}
 use Rattle.rules.proofs.inorder.Rows.{rows-sized-when}
 use Rattle.rules.proofs.inorder.Outside.{processors-rows, applied-rows, interval-rows, copies-rows, twins-rows, dirty-rows}
-use Rattle.rules.proofs.inorder.Conditions.{sizedTests, sized-tests, absentTests, absent-tests, countsTests, counts-tests, recordTests, record-tests, orderTests, order-tests}
+use Rattle.rules.proofs.inorder.Conditions.{sizedTests, sized-tests, absentTests, absent-tests, countsTests, counts-tests, recordTests, record-tests, waiterTests, waiter-tests, lineTests, line-tests, orderTests, order-tests}
 
 module _ (lim : Limits) (s : State) where
   -- the size
@@ -44,6 +48,8 @@ module _ (lim : Limits) (s : State) where
       (le-leb _ _ (z .few-standing))
       (eq-eqb _ _ (z .holders))
       (eq-eqb _ _ (z .arrived))
+      (eq-eqb _ _ (z .awaited))
+      (eq-eqb _ _ (z .turns))
 
 in-range-when : (most n : ℕ) → 1 ≤ n → n ≤ most → inRange most n ≡ true
 unfolding inRange
@@ -74,6 +80,8 @@ module _ (lim : Limits) (s : State) (o : InOrder lim s) where
       (every-page-holds lim _ (λ p g k l m. or-when (presentHolder s (Applied p g)) _ (λ a. not-when (dirtyAt (s .pages) p g) (o .absent-clean p g a))))
       (every-processor-holds lim _ (λ p k l. or-when (present s p) _ (λ a. not-when (hasArrived s p) (o .absent-not-arrived p k a))))
       (every-holds (lim .locks) _ (λ l k. or-when (presentHolder s (Lock l)) _ (λ a. eq-eqb _ _ (o .absent-not-held l a))))
+      (every-processor-holds lim _ (λ p k l. or-when (present s p) _ (λ a. not-when (waits (s .marks) p) (o .absent-awake p k a))))
+      (every-processor-holds lim _ (λ p k l. or-when (present s p) _ (λ a. eq-eqb _ _ (o .absent-turn p k a))))
 
   later-intervals-when : laterIntervalsZero lim s ≡ true
   unfolding laterIntervalsZero
@@ -134,6 +142,52 @@ module _ (lim : Limits) (s : State) (o : InOrder lim s) where
   someone-missing-when =
       any-holds (s .counts .processors) (λ (k : ℕ). not (hasArrived s (suc k))) (o .someone-missing .at) (o .someone-missing .below) (o .someone-missing .passes)
 
+-- ---- the lines of waiters
+
+module _ (s : State) (o : LinesInOrder (s .counts) (s .marks)) where
+  n : ℕ
+  n = s .counts .processors
+
+  lock-when : (k : ℕ) → k < n → leb (awaits (s .marks) k) (s .counts .locks) ≡ true
+  unfolding n
+  lock-when k b = go (awaits (s .marks) k) refl
+    where
+      go : (a : ℕ) → awaits (s .marks) k ≡ a → leb a (s .counts .locks) ≡ true
+      go zero e = le-leb 0 (s .counts .locks) (omega arith)
+      go (suc l) e = le-leb (suc l) (s .counts .locks) (o .for-present k l b e)
+
+  waiter-when : (k l : ℕ) → k < n → waiterSound s (suc k) l ≡ true
+  unfolding waiterTests Given holder hasArrived standBefore waitsFor turnOf ahead n
+  waiter-when k l b =
+      waiter-tests s (suc k) l
+      ∙ or-when (not (waitsFor (s .marks) (suc k) l)) _
+      (λ a.
+      let e : awaits (s .marks) k ≡ suc l = waits-for-says (s .marks) k l (not-false (waitsFor (s .marks) (suc k) l) a) in
+      conjoined-holds (waiterTests s (suc k) l) (not-when _ (ne-eqb _ _ (o .for-held k l b e))) (not-when _ (ne-eqb _ _ (o .by-another k l b e))) (not-when _ (o .not-arrived k l b e))
+      (eq-eqb _ _ (sym (o .lines .counts l k b e))))
+
+  apart-when : (k j : ℕ) → k < n → j < k → apartInLine s (suc k) (suc j) ≡ true
+  unfolding apartInLine waits turnOf n
+  apart-when k j b a = go (awaits (s .marks) k) refl
+    where
+      go : (x : ℕ) → awaits (s .marks) k ≡ x
+          → (not (not (eqb x 0)) || not (eqb x (awaits (s .marks) j)) || not (eqb (turnAt (s .marks) k) (turnAt (s .marks) j))) ≡ true
+      go zero e = refl
+      go (suc l) e =
+          rw (ne-eqb (suc l) 0 (λ z. omega (arith, z)))
+          (or-when (not (eqb (suc l) (awaits (s .marks) j))) _
+          (λ same. not-when _ (ne-eqb (turnAt (s .marks) k) (turnAt (s .marks) j)
+          (λ t. omega (arith, a, o .lines .apart l k j b (omega (arith, a, b)) e (sym (eqb-true (suc l) (awaits (s .marks) j) (not-false _ same))) t)))))
+
+  pub lines-when : linesSound s ≡ true
+  unfolding lineTests Given n
+  lines-when =
+      line-tests s
+      ∙ conjoined-holds (lineTests s)
+      (every-holds n _ lock-when)
+      (every-holds n _ (λ k b. every-holds (s .counts .locks) _ (λ l c. waiter-when k l b)))
+      (every-holds n _ (λ k b. every-holds k _ (λ j a. apart-when k j b a)))
+
 -- a state in order passes the test
 pub in-order-when : (lim : Limits) (s : State) → InOrder lim s → inOrder lim s ≡ true
 unfolding orderTests roomKept Given
@@ -151,3 +205,4 @@ in-order-when lim s o =
     (dirty-have-interval-when lim s o)
     (holders-present-when lim s o)
     (someone-missing-when lim s o)
+    (lines-when s (o .lines))

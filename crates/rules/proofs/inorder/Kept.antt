@@ -6,13 +6,13 @@ use mathlib.Core.Path.{_≡_, refl, sym, _∙_}
 use mathlib.Core.Bool.{Bool, true, false, cond, false≢true}
 use lib.Dec.{eqb}
 use borrow.Author.Tests.{eqb-true, eqb-false}
-use Rattle.rules.specs.State.{Limits, dirtyAt, State, clock, own}
+use Rattle.rules.specs.State.{Limits, dirtyAt, State, clock, own, holder, hasArrived}
 use Rattle.rules.specs.InOrder.{present, dirtyPages}
 use Rattle.rules.specs.Steps.{pageOfWord, read}
 use Rattle.rules.specs.Refusals.{Step, Action, Read, Write, Acquire, Release, Arrive, Want, Unknown, actionOf, lateRefusal, refusalInOrder, effect, nextInOrder}
 use Rattle.rules.proofs.inorder.Facts.{InOrder}
 use Rattle.rules.proofs.inorder.KeptParts.{Parts, parts-of, in-order-of}
-use Rattle.rules.proofs.inorder.Accepted.{Accepted, accepted-says, read-on-page, write-on-page, acquire-there, release-there}
+use Rattle.rules.proofs.inorder.Accepted.{Accepted, accepted-says, read-on-page, write-on-page, acquire-there, release-there, late-acquire}
 use Rattle.rules.proofs.inorder.KeptFetch.{fetched-parts, MayDirty, write-parts}
 use Rattle.rules.proofs.inorder.KeptLocks.{acquire-parts, release-parts, want-parts}
 use Rattle.rules.proofs.inorder.KeptBarrier.{arrive-parts}
@@ -48,9 +48,11 @@ effect-parts lim s t (Read w) e f acc =
 effect-parts lim s t (Write w v) e f acc =
     write-parts lim s (t .processor) w v f (record { counts = f .counts; processor = acc .processor-present; page = write-on-page lim s t w v e acc })
     (may-dirty lim s (t .processor) w v f (rw e at (acc .not-late)))
-effect-parts lim s t (Acquire i) e f acc = acquire-parts lim s (t .processor) i f (acc .processor-present) (acquire-there lim s t i e acc)
+effect-parts lim s t (Acquire i) e f acc =
+    acquire-parts lim s (t .processor) i f (acc .processor-present) (acquire-there lim s t i e acc) (acc .not-waiting) (unfold hasArrived in acc .not-arrived)
+    (unfold holder in late-acquire lim s (own s (t .processor)) (t .processor) i (rw e at (acc .not-late)))
 effect-parts lim s t (Release i) e f acc = release-parts lim s (t .processor) i f (acc .processor-present) (release-there lim s t i e acc)
-effect-parts lim s t Arrive e f acc = arrive-parts lim s (t .processor) f (acc .processor-present)
+effect-parts lim s t Arrive e f acc = arrive-parts lim s (t .processor) f (acc .processor-present) (acc .not-waiting)
 effect-parts lim s t Want e f acc = want-parts lim s f
 effect-parts lim s t Unknown e f acc = f
 

@@ -10,12 +10,15 @@ use lib.Dec.{eqb}
 use Rattle.lists.specs.Tables.{put}
 use Rattle.lists.proofs.Tables.{get-put-other, length-put-within, get-map, Passes, every-fails}
 use Rattle.rules.specs.State.{Limits, Counts, Processor, Barrier, Clocks, withClock, cleared, Marks, withArrived, State, hasArrived}
+use Rattle.rules.specs.Lines.{waits, turnOf}
 use Rattle.rules.specs.Close.{closed}
 use Rattle.rules.specs.Fetch.{fetched}
 use Rattle.rules.specs.Steps.{learned, atBarrier, allArrived, allLearned, roundDone, allFetched, emptied, collected, wantsCollection, arrive}
 use Rattle.rules.proofs.state.Holders.{barrier-carries}
 use Rattle.rules.proofs.state.Fetches.{all-fetched-keep}
+use Rattle.rules.proofs.state.Waiters.{waiter-waits}
 use Rattle.rules.proofs.inorder.KeptParts.{presentAmong, among-says, among-when, arrivedIn, CountsInOrder, MarksInOrder, Parts}
+use Rattle.rules.proofs.inorder.KeptLines.{arrived-lines, cleared-lines}
 use Rattle.rules.proofs.inorder.KeptMoves.{OwnKept, kept-again}
 use Rattle.rules.proofs.inorder.KeptRounds.{carrier-learned, round-clocks, entry-all-cleared, all-cleared-in-order}
 use Rattle.rules.proofs.inorder.KeptClose.{closed-parts}
@@ -25,19 +28,24 @@ use Rattle.rules.proofs.inorder.KeptLocks.{wish-set}
 -- ---- marks
 
 -- a present processor is marked, and one is still missing
-arrived-set : (lim : Limits) (n : Counts) (k : Marks) (p : ℕ) → CountsInOrder lim n → MarksInOrder lim n k → presentAmong n p ≡ true
+arrived-set : (lim : Limits) (n : Counts) (k : Marks) (p : ℕ) → CountsInOrder lim n → MarksInOrder lim n k → presentAmong n p ≡ true → waits k p ≡ false
     → Passes (n .processors) (λ i. not (arrivedIn (withArrived k (put 0 (k .arrived) p 1)) (suc i))) → MarksInOrder lim n (withArrived k (put 0 (k .arrived) p 1))
-arrived-set lim n k p c f a missing =
+arrived-set lim n k p c f a awake missing =
     let b = among-says n p a in
     record {
       holders = f .holders;
       arrived = length-put-within 0 (k .arrived) p 1 (omega (arith, f .arrived, b .1, c .processors-fit)) ∙ f .arrived;
+      awaited = f .awaited;
+      turns = f .turns;
       absent-not-arrived = λ q h e.
           ap (λ (x : ℕ). not (eqb x 0)) (get-put-other 0 (k .arrived) p q 1 (λ d. let z : _≡_ {A = Bool} false true = sym e ∙ ap (presentAmong n) d ∙ a in false≢true z))
           ∙ f .absent-not-arrived q h e;
       absent-not-held = f .absent-not-held;
+      absent-awake = unfold waits in f .absent-awake;
+      absent-turn = unfold turnOf in f .absent-turn;
       holder-present = f .holder-present;
       someone-missing = missing;
+      lines = arrived-lines n k (f .lines) p (λ i l h e d. false≢true (sym awake ∙ ap (waits k) d ∙ waiter-waits k i l e));
     }
 
 -- all marks clear
@@ -47,10 +55,15 @@ arrived-cleared lim n k marks c f l =
     record {
       holders = f .holders;
       arrived = length-map marks (λ (mark : ℕ). 0) ∙ l;
+      awaited = f .awaited;
+      turns = f .turns;
       absent-not-arrived = λ q h e. clear q;
       absent-not-held = f .absent-not-held;
+      absent-awake = unfold waits in f .absent-awake;
+      absent-turn = unfold turnOf in f .absent-turn;
       holder-present = f .holder-present;
       someone-missing = record { at = 0; below = c .some-processor; passes = ap not (clear 1) };
+      lines = cleared-lines n k (f .lines) marks;
     }
   where
     clear : (q : ℕ) → not (eqb (getD (map (λ mark. 0) marks) q 0) 0) ≡ false
@@ -65,12 +78,13 @@ unfolding closed
 barrier-learned lim s p f a = carrier-learned lim (s .counts) (closed s p .clocks) Barrier p (f .counts) (closed-parts lim s p f a .clocks) (barrier-carries (s .counts)) a
 
 -- no round is complete
-pub waiting-parts : (lim : Limits) (s : State) (p : ℕ) → Parts lim s → presentAmong (s .counts) p ≡ true → allArrived (atBarrier s p) ≡ false → Parts lim (atBarrier s p)
+pub waiting-parts : (lim : Limits) (s : State) (p : ℕ) → Parts lim s → presentAmong (s .counts) p ≡ true → waits (s .marks) p ≡ false → allArrived (atBarrier s p) ≡ false
+    → Parts lim (atBarrier s p)
 unfolding atBarrier closed allArrived hasArrived
-waiting-parts lim s p f a e =
+waiting-parts lim s p f a awake e =
     moved-parts lim (closed s p) (learned (closed s p .clocks) Barrier (Processor p)) (withArrived (s .marks) (put 0 (s .marks .arrived) p 1)) (closed-parts lim s p f a)
     (barrier-learned lim s p f a)
-    (arrived-set lim (s .counts) (s .marks) p (f .counts) (f .marks) a (every-fails (s .counts .processors) (λ i. hasArrived (atBarrier s p) (suc i)) e))
+    (arrived-set lim (s .counts) (s .marks) p (f .counts) (f .marks) a awake (every-fails (s .counts .processors) (λ i. hasArrived (atBarrier s p) (suc i)) e))
 
 -- a round is complete
 pub round-parts : (lim : Limits) (s : State) (p : ℕ) → Parts lim s → presentAmong (s .counts) p ≡ true → Parts lim (roundDone (atBarrier s p))
@@ -133,13 +147,13 @@ unfolding collected
 collected-parts lim s f = emptied-parts lim (allFetched lim s (s .counts .processors) .after) (all-fetched-parts lim s f .parts)
 
 -- every arrival
-pub arrive-parts : (lim : Limits) (s : State) (p : ℕ) → Parts lim s → presentAmong (s .counts) p ≡ true → Parts lim (arrive lim s p .after)
+pub arrive-parts : (lim : Limits) (s : State) (p : ℕ) → Parts lim s → presentAmong (s .counts) p ≡ true → waits (s .marks) p ≡ false → Parts lim (arrive lim s p .after)
 unfolding arrive
-arrive-parts lim s p f a = go (allArrived (atBarrier s p)) (wantsCollection (atBarrier s p)) refl
+arrive-parts lim s p f a awake = go (allArrived (atBarrier s p)) (wantsCollection (atBarrier s p)) refl
   where
     go : (b c : Bool) → allArrived (atBarrier s p) ≡ b
         → Parts lim
         ((cond b (cond c (collected lim (roundDone (atBarrier s p))) (record { after = roundDone (atBarrier s p); count = 0 })) (record { after = atBarrier s p; count = 0 })) .after)
     go true true e = collected-parts lim (roundDone (atBarrier s p)) (round-parts lim s p f a)
     go true false e = round-parts lim s p f a
-    go false c e = waiting-parts lim s p f a e
+    go false c e = waiting-parts lim s p f a awake e

@@ -14,8 +14,9 @@ use Rattle.limits.specs.Limits.{slotHead}
 use Rattle.clock.specs.Clocks.{entryOf}
 use Rattle.diff.specs.Reading.{readRefusal}
 use Rattle.rules.specs.State.{Limits, Counts, Holder, Processor, Lock, Barrier, Applied, Interval, Clocks, clockOf, Pages, copyOf, twinOf, dirtyAt, Records, recordIn, Marks, State, clock, own, holder, hasArrived}
+use Rattle.rules.specs.Lines.{waits, turnOf}
 use Rattle.rules.specs.InOrder.{present, slotSize, presentHolder, recordAt, sameNotice, dirtyPages}
-use Rattle.rules.proofs.inorder.Facts.{Within, InOrder}
+use Rattle.rules.proofs.inorder.Facts.{Within, LinesInOrder, InOrder}
 use Rattle.rules.proofs.inorder.Rows.{Rows}
 use Rattle.rules.proofs.inorder.Outside.{applied-rows, interval-rows, copies-rows, twins-rows, dirty-rows}
 
@@ -118,10 +119,15 @@ pub record RecordsInOrder (lim : Limits) (n : Counts) (o : ℕ → ℕ) (r : Rec
 pub record MarksInOrder (lim : Limits) (n : Counts) (k : Marks) : Type 0 where
   pub holders : length (k .holders) ≡ lim .locks
   pub arrived : length (k .arrived) ≡ suc (lim .processors)
+  pub awaited : length (k .awaited) ≡ suc (lim .processors)
+  pub turns : length (k .turns) ≡ suc (lim .processors)
   pub absent-not-arrived : (p : ℕ) → 1 ≤ p → presentAmong n p ≡ false → arrivedIn k p ≡ false
   pub absent-not-held : (l : ℕ) → ltb l (n .locks) ≡ false → getD (k .holders) l 0 ≡ 0
+  pub absent-awake : (p : ℕ) → 1 ≤ p → presentAmong n p ≡ false → waits k p ≡ false
+  pub absent-turn : (p : ℕ) → 1 ≤ p → presentAmong n p ≡ false → turnOf k p ≡ 0
   pub holder-present : (l : ℕ) → (getD (k .holders) l 0 ≡ 0) ⊎ (presentAmong n (getD (k .holders) l 0) ≡ true)
   pub someone-missing : Passes (n .processors) (λ i. not (arrivedIn k (suc i)))
+  pub lines : LinesInOrder n k
 
 -- the parts of a state in order, and what holds between them
 pub record Parts (lim : Limits) (s : State) : Type 0 where
@@ -207,10 +213,15 @@ parts-of lim s f =
           record {
             holders = f .sized .holders;
             arrived = f .sized .arrived;
+            awaited = f .sized .awaited;
+            turns = f .sized .turns;
             absent-not-arrived = f .absent-not-arrived;
             absent-not-held = f .absent-not-held;
+            absent-awake = f .absent-awake;
+            absent-turn = f .absent-turn;
             holder-present = f .holder-present;
             someone-missing = f .someone-missing;
+            lines = f .lines;
           };
       room = f .room;
       dirty-has-interval = f .dirty-has-interval;
@@ -250,6 +261,8 @@ in-order-of lim s f =
             few-standing = f .records .few-standing;
             holders = f .marks .holders;
             arrived = f .marks .arrived;
+            awaited = f .marks .awaited;
+            turns = f .marks .turns;
           };
       some-processor = f .counts .some-processor;
       processors-fit = f .counts .processors-fit;
@@ -264,6 +277,8 @@ in-order-of lim s f =
       absent-clean = f .pages .absent-clean;
       absent-not-arrived = f .marks .absent-not-arrived;
       absent-not-held = f .marks .absent-not-held;
+      absent-awake = f .marks .absent-awake;
+      absent-turn = f .marks .absent-turn;
       later-interval = f .clocks .later-interval;
       known = f .clocks .known;
       own-fits = f .clocks .own-fits;
@@ -283,4 +298,5 @@ in-order-of lim s f =
       dirty-has-interval = f .dirty-has-interval;
       holder-present = f .marks .holder-present;
       someone-missing = f .marks .someone-missing;
+      lines = f .marks .lines;
     }

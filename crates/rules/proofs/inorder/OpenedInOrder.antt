@@ -13,9 +13,11 @@ use Rattle.lists.proofs.Conditions.{conjoined-at}
 use Rattle.clock.specs.Clocks.{zeros, entryOf}
 use Rattle.clock.proofs.Laws.{entryOf-zeros}
 use Rattle.rules.specs.State.{Limits, Counts, Holder, Processor, Lock, Barrier, Applied, Interval, clockOf, copyOf, twinOf, dirtyAt, clock, own, holder, hasArrived}
+use Rattle.rules.specs.Lines.{waits, turnOf}
 use Rattle.rules.specs.InOrder.{slotSize, countsInRange, dirtyPages, inOrder}
-use Rattle.rules.specs.Opening.{Opening, openingRefusal, rows, zeroClocks, zeroPages, opened}
-use Rattle.rules.proofs.inorder.Facts.{Within, Sized, InOrder}
+use Rattle.rules.specs.Opening.{Opening, openingRefusal, rows, zeroClocks, zeroPages, zeroMarks, opened}
+use Rattle.rules.proofs.state.Waiters.{awaits}
+use Rattle.rules.proofs.inorder.Facts.{Within, Sized, LinesInOrder, InOrder}
 use Rattle.rules.proofs.inorder.Everywhere.{entry-none}
 use Rattle.rules.proofs.inorder.Rows.{Rows}
 use Rattle.rules.proofs.inorder.Conditions.{countsTests, counts-tests}
@@ -141,12 +143,36 @@ module _ (lim : Limits) (c : Counts) where
 
   -- nobody has arrived
   pub opened-not-arrived : (p : ℕ) → hasArrived (opened lim c) p ≡ false
-  unfolding hasArrived opened
+  unfolding hasArrived opened zeroMarks
   opened-not-arrived p = ap (λ (n : ℕ). not (eqb n 0)) (replicated (λ (n : ℕ). n ≡ 0) (suc (lim .processors)) p 0 0 refl refl)
+
+  -- nobody waits for a lock
+  pub opened-nobody-waits : (p : ℕ) → getD (zeroMarks lim .awaited) p 0 ≡ 0
+  unfolding zeroMarks
+  opened-nobody-waits p = replicated (λ (n : ℕ). n ≡ 0) (suc (lim .processors)) p 0 0 refl refl
+
+  -- so nobody has a turn
+  pub opened-no-turn : (p : ℕ) → getD (zeroMarks lim .turns) p 0 ≡ 0
+  unfolding zeroMarks
+  opened-no-turn p = replicated (λ (n : ℕ). n ≡ 0) (suc (lim .processors)) p 0 0 refl refl
+
+  -- and there are no lines
+  opened-no-lines : LinesInOrder c (zeroMarks lim)
+  opened-no-lines =
+      record {
+        lines = record { counts = λ l k b e. absurd (nobody k l e); apart = λ l j k bj bk ej ek t. absurd (nobody j l ej) };
+        for-present = λ k l b e. absurd (nobody k l e);
+        for-held = λ k l b e z. nobody k l e;
+        by-another = λ k l b e z. nobody k l e;
+        not-arrived = λ k l b e. absurd (nobody k l e);
+      }
+    where
+      nobody : (k l : ℕ) → awaits (zeroMarks lim) k ≡ suc l → ⊥
+      nobody k l e = omega (arith, e, opened-nobody-waits (suc k))
 
   -- no lock is held
   pub opened-not-held : (l : ℕ) → holder (opened lim c) l ≡ 0
-  unfolding holder opened
+  unfolding holder opened zeroMarks
   opened-not-held l = replicated (λ (n : ℕ). n ≡ 0) (lim .locks) l 0 0 refl refl
 
   -- no page is dirty
@@ -156,7 +182,7 @@ module _ (lim : Limits) (c : Counts) where
 
   -- the size is the fixed one
   pub opened-sized : Sized lim (opened lim c)
-  unfolding opened zeroClocks zeroPages clockOf copyOf twinOf
+  unfolding opened zeroClocks zeroPages zeroMarks clockOf copyOf twinOf
   opened-sized =
       let processors = rows-sized lim (lim .processors) (zeros (lim .processors)) (length-zeros (lim .processors)) in
       let applied = rows-sized lim (lim .pages) (replicate (lim .pages) (zeros (lim .processors))) (length-replicate (lim .pages) (zeros (lim .processors))) in
@@ -192,6 +218,8 @@ module _ (lim : Limits) (c : Counts) where
         few-standing = omega arith;
         holders = length-replicate (lim .locks) 0;
         arrived = length-replicate (suc (lim .processors)) 0;
+        awaited = length-replicate (suc (lim .processors)) 0;
+        turns = length-replicate (suc (lim .processors)) 0;
       }
 
   -- counts in range make the opened state one in order
@@ -219,6 +247,8 @@ module _ (lim : Limits) (c : Counts) where
             absent-clean = λ p g a. opened-clean lim p g;
             absent-not-arrived = λ p h a. opened-not-arrived p;
             absent-not-held = λ l a. opened-not-held l;
+            absent-awake = λ p h a. unfold waits in ap (λ (n : ℕ). not (eqb n 0)) (opened-nobody-waits p);
+            absent-turn = λ p h a. unfold turnOf in opened-no-turn p;
             later-interval = λ p i q h. opened-entry lim (Interval p i) q;
             known = λ h q. omega (arith, opened-entry lim h q);
             own-fits = λ p. omega (arith, opened-own p);
@@ -229,6 +259,7 @@ module _ (lim : Limits) (c : Counts) where
             dirty-has-interval = λ p g d. absurd (false≢true (sym (opened-clean lim p g) ∙ d));
             holder-present = λ l. inl (opened-not-held l);
             someone-missing = record { at = 0; below = processors .0; passes = ap not (opened-not-arrived 1) };
+            lines = opened-no-lines;
           }
 
 -- an accepted opening has its counts in range

@@ -10,6 +10,7 @@ use lib.Dec.{eqb}
 use Rattle.lists.specs.Tables.{cell}
 use Rattle.clock.specs.Clocks.{entryOf}
 use Rattle.rules.specs.State.{Limits, Holder, Processor, Lock, Barrier, Applied, Interval, clockOf, copyOf, twinOf, dirtyAt, State, holder, hasArrived}
+use Rattle.rules.specs.Lines.{waits, turnOf}
 use Rattle.rules.proofs.inorder.Facts.{Within, Sized}
 use Rattle.rules.proofs.inorder.Everywhere.{has-place, entry-past, entry-none}
 use Rattle.rules.proofs.inorder.Rows.{nothing, Rows, row-outside, cell-outside}
@@ -94,3 +95,13 @@ module _ (lim : Limits) (s : State) (z : Sized lim s) where
   pub not-held-outside : (l : ℕ) → lim .locks ≤ l → holder s l ≡ 0
   unfolding holder
   not-held-outside l h = List·getD-eq-default (s .marks .holders) 0 (omega (arith, z .holders))
+
+  -- a processor outside waits for no lock
+  pub awake-outside : (p : ℕ) → lim .processors < p → waits (s .marks) p ≡ false
+  unfolding waits
+  awake-outside p h = ap (λ (n : ℕ). not (eqb n 0)) (List·getD-eq-default (s .marks .awaited) 0 (omega (arith, z .awaited)))
+
+  -- and has no turn
+  pub no-turn-outside : (p : ℕ) → lim .processors < p → turnOf (s .marks) p ≡ 0
+  unfolding turnOf
+  no-turn-outside p h = List·getD-eq-default (s .marks .turns) 0 (omega (arith, z .turns))

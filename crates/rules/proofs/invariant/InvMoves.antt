@@ -61,6 +61,11 @@ module _ (words g o : ℕ) where
       }
 
   module _ (s : State) (γ : Ghost) (inv : Inv words g o s γ) where
+    -- other marks, by which who rests has page g clean
+    pub marks-keep : (marks : Marks) → ((q : ℕ) → 1 ≤ q → q ≤ s .counts .processors → restsIn marks q ≡ true → dirtyAt (s .pages) q g ≡ false) → Inv words g o (withMarks s marks) γ
+    unfolding standing
+    marks-keep marks resting = record { clocks = inv .clocks; page = inv .page; closed-value = inv .closed-value; resting-clean = resting }
+
     -- such a holder is not the writer
     clean-is-other : (h : Holder) → CleanHolder g s h → (γ .writer ≡ 0 → ⊥) → h ≡ Processor (γ .writer) → ⊥
     clean-is-other h c e d = let b = inv .clocks .writer-present e in false≢true (sym (c .clean (γ .writer) d) ∙ inv .page (γ .writer) (b .0) (b .1) .writer-dirty refl)

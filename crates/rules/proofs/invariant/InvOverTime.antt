@@ -12,6 +12,7 @@ use lib.ListN.{length}
 use borrow.Author.Tests.{eq-eqb, ne-eqb}
 use Rattle.clock.specs.Clocks.{entryOf}
 use Rattle.rules.specs.State.{Limits, Counts, Processor, Applied, clockOf, copyOf, recordsOf, State, standing}
+use Rattle.rules.specs.Lines.{waits}
 use Rattle.rules.specs.Opening.{opened}
 use Rattle.rules.specs.Close.{closed}
 use Rattle.rules.specs.Fetch.{fetched}
@@ -127,7 +128,7 @@ module _ (lim : Limits) (c : Counts) (es : List Event) (r : Timeline lim c es) (
             rw (ne-eqb x w d) (store-elsewhere-keeps lim w (fetched lim s p (pageOfWord lim x)) (ghost t) p x v after-fetch h k awake (current (pageOfWord lim x)) d)
 
     pub want-keeps : Inv (lim .words) g o (effect lim s p Want .after) (ghostAfter w s p Want (ghost t))
-    unfolding effect want ghostAfter standing restsIn
+    unfolding effect want ghostAfter standing restsIn waits
     want-keeps = record { clocks = inv .clocks; page = inv .page; closed-value = inv .closed-value; resting-clean = inv .resting-clean }
 
     -- the steps that close first
@@ -138,10 +139,10 @@ module _ (lim : Limits) (c : Counts) (es : List Event) (r : Timeline lim c es) (
           (copy-words-fit lim c es r t p g h (rw (counts-stay lim c es r t) at k) (rw (counts-stay lim c es r t) at l)) inv
 
       pub acquire-kept : (x : ℕ) → x < s .counts .locks → Inv (lim .words) g o (effect lim s p (Acquire x) .after) (ghostAfter w s p (Acquire x) (ghost t))
-      acquire-kept x there = acquire-keeps lim g o s (ghost t) p h k closing w (known-at-most-writes lim c es r w t) x there
+      acquire-kept x there = acquire-keeps lim g o s (ghost t) p h k closing (known-at-most-writes lim c es r w t) w x there
 
       pub release-kept : (x : ℕ) → x < s .counts .locks → Inv (lim .words) g o (effect lim s p (Release x) .after) (ghostAfter w s p (Release x) (ghost t))
-      release-kept x there = release-keeps lim g o s (ghost t) p h k closing w x there
+      release-kept x there = release-keeps lim g o s (ghost t) p h k closing (known-at-most-writes lim c es r w t) x there w
 
       pub arrive-kept : Inv (lim .words) g o (effect lim s p Arrive .after) (ghostAfter w s p Arrive (ghost t))
       arrive-kept = arrive-keeps lim g o s (ghost t) p h k (r .ordered t) in-page closing (rw (counts-stay lim c es r t) (knowing lim c es r w t)) w

@@ -8,7 +8,7 @@ use mathlib.Core.List.{List}
 use lib.Dec.{eqb}
 use borrow.Author.Tests.{eqb-true, ne-eqb}
 use Rattle.rules.specs.Refusals.{Action, Read, Write, Acquire, Release, Arrive, Want, Unknown, actionOf}
-use Rattle.rules.specs.Order.{Event, eventAt, Took, isArrival}
+use Rattle.rules.specs.Order.{Event, eventAt, Took, isArrival, isAcquireOf, isReleaseOf}
 use Rattle.rules.specs.Demand.{isWriteTo}
 
 -- whether an action is an arrival, and whether it is a write to the word w
@@ -39,6 +39,35 @@ storedBy (Release l) = 0
 storedBy Arrive = 0
 storedBy Want = 0
 storedBy Unknown = 0
+
+-- whether it is an acquire of lock l, and whether it is a release of it
+unfoldable pub acquiresLock : ℕ → Action → Bool
+acquiresLock l (Read x) = false
+acquiresLock l (Write x v) = false
+acquiresLock l (Acquire x) = eqb x l
+acquiresLock l (Release x) = false
+acquiresLock l Arrive = false
+acquiresLock l Want = false
+acquiresLock l Unknown = false
+
+unfoldable pub releasesLock : ℕ → Action → Bool
+releasesLock l (Read x) = false
+releasesLock l (Write x v) = false
+releasesLock l (Acquire x) = false
+releasesLock l (Release x) = eqb x l
+releasesLock l Arrive = false
+releasesLock l Want = false
+releasesLock l Unknown = false
+
+pub releases-is : (l : ℕ) (a : Action) → releasesLock l a ≡ true → a ≡ Release l
+unfolding releasesLock
+releases-is l (Read x) e = absurd (false≢true e)
+releases-is l (Write x v) e = absurd (false≢true e)
+releases-is l (Acquire x) e = absurd (false≢true e)
+releases-is l (Release x) e = ap Release (eqb-true x l e)
+releases-is l Arrive e = absurd (false≢true e)
+releases-is l Want e = absurd (false≢true e)
+releases-is l Unknown e = absurd (false≢true e)
 
 -- an action that arrivesBy is an arrival
 pub arrives-is : (a : Action) → arrivesBy a ≡ true → a ≡ Arrive
@@ -107,6 +136,40 @@ kind-writes w k x v = go (ℕ-discrete k 2)
     go (yes e) = rw e
     go (no e) = rw (ne-eqb k 2 e) (other (eqb k 1) (eqb k 3) (eqb k 4) (eqb k 5) (eqb k 6))
 
+kind-acquires : (l k x v : ℕ) → (eqb k 3 && eqb x l) ≡ acquiresLock l (chosen k x v)
+unfolding acquiresLock
+kind-acquires l k x v = go (ℕ-discrete k 3)
+  where
+    other : (b₁ b₂ b₄ b₅ b₆ : Bool)
+        → false ≡ acquiresLock l (cond b₁ (Read x) (cond b₂ (Write x v) (cond b₄ (Release x) (cond b₅ Arrive (cond b₆ Want Unknown)))))
+    other true b₂ b₄ b₅ b₆ = refl
+    other false true b₄ b₅ b₆ = refl
+    other false false true b₅ b₆ = refl
+    other false false false true b₆ = refl
+    other false false false false true = refl
+    other false false false false false = refl
+
+    go : Dec (k ≡ 3) → (eqb k 3 && eqb x l) ≡ acquiresLock l (chosen k x v)
+    go (yes e) = rw e
+    go (no e) = rw (ne-eqb k 3 e) (other (eqb k 1) (eqb k 2) (eqb k 4) (eqb k 5) (eqb k 6))
+
+kind-releases : (l k x v : ℕ) → (eqb k 4 && eqb x l) ≡ releasesLock l (chosen k x v)
+unfolding releasesLock
+kind-releases l k x v = go (ℕ-discrete k 4)
+  where
+    other : (b₁ b₂ b₃ b₅ b₆ : Bool)
+        → false ≡ releasesLock l (cond b₁ (Read x) (cond b₂ (Write x v) (cond b₃ (Acquire x) (cond b₅ Arrive (cond b₆ Want Unknown)))))
+    other true b₂ b₃ b₅ b₆ = refl
+    other false true b₃ b₅ b₆ = refl
+    other false false true b₅ b₆ = refl
+    other false false false true b₆ = refl
+    other false false false false true = refl
+    other false false false false false = refl
+
+    go : Dec (k ≡ 4) → (eqb k 4 && eqb x l) ≡ releasesLock l (chosen k x v)
+    go (yes e) = rw e
+    go (no e) = rw (ne-eqb k 4 e) (other (eqb k 1) (eqb k 2) (eqb k 3) (eqb k 5) (eqb k 6))
+
 kind-value : (w k x v : ℕ) → writesTo w (chosen k x v) ≡ true → v ≡ storedBy (chosen k x v)
 unfolding storedBy
 kind-value w k x v h = go (ℕ-discrete k 2)
@@ -150,6 +213,26 @@ module _ (es : List Event) (t : ℕ) where
   unfolding isWriteTo actionOf
   took-write w p a k =
       rw (k .accepted, ← k .action) (kind-writes w (eventAt es t .step .kind) (eventAt es t .step .object) (eventAt es t .step .value))
+
+  -- as an acquire or a release of lock l when it is one
+  pub took-acquire : (l p : ℕ) (a : Action) → Took es t p a → isAcquireOf l (eventAt es t) ≡ acquiresLock l a
+  unfolding isAcquireOf actionOf
+  took-acquire l p a k =
+      rw (k .accepted, ← k .action) (kind-acquires l (eventAt es t .step .kind) (eventAt es t .step .object) (eventAt es t .step .value))
+
+  pub took-release : (l p : ℕ) (a : Action) → Took es t p a → isReleaseOf l (eventAt es t) ≡ releasesLock l a
+  unfolding isReleaseOf actionOf
+  took-release l p a k =
+      rw (k .accepted, ← k .action) (kind-releases l (eventAt es t .step .kind) (eventAt es t .step .object) (eventAt es t .step .value))
+
+  -- a refused step is no acquire and no release
+  pub refused-acquire : (l : ℕ) → eventAt es t .accepted ≡ false → isAcquireOf l (eventAt es t) ≡ false
+  unfolding isAcquireOf
+  refused-acquire l e = rw e
+
+  pub refused-release : (l : ℕ) → eventAt es t .accepted ≡ false → isReleaseOf l (eventAt es t) ≡ false
+  unfolding isReleaseOf
+  refused-release l e = rw e
 
   -- a refused step is no arrival
   pub refused-arrival : eventAt es t .accepted ≡ false → isArrival (eventAt es t) ≡ false

@@ -7,21 +7,21 @@ use mathlib.Core.Bool.{Bool, true, false, cond}
 use mathlib.Core.List.{List}
 use lib.Dec.{eqb}
 use borrow.Author.Tests.{eqb-true}
-use Rattle.rules.specs.State.{Limits, Counts, State, own, holder, hasArrived}
+use Rattle.rules.specs.State.{Limits, Counts, State, own, holder}
 use Rattle.rules.specs.Steps.{pageOfWord}
 use Rattle.rules.specs.Refusals.{Action, Read, Acquire, Release, lateRefusal}
 use Rattle.rules.specs.Order.{Event, eventAt, Took}
-use Rattle.rules.proofs.inorder.Accepted.{Accepted, present-says, read-on-page}
+use Rattle.rules.proofs.inorder.Accepted.{Accepted, present-says, late-acquire, read-on-page}
 use Rattle.rules.proofs.order.Timeline.{Timeline, took-accepted, counts-stay}
-use Rattle.rules.proofs.order.MarksAfter.{restsIn, rests}
+use Rattle.rules.proofs.order.MarksAfter.{rests, awake-when}
 
--- the step's processor is one of the n, does not rest, and holds the lock that it releases
+-- the step's processor is one of the n, does not rest, holds the lock that it releases, and does not hold the one that it acquires
 pub record Allowed (n : ℕ) (s : State) (p : ℕ) (a : Action) : Type 0 where
   pub from : 1 ≤ p
   pub to : p ≤ n
   pub not-resting : rests s p ≡ false
   pub holds : (l : ℕ) → a ≡ Release l → holder s l ≡ p
-  pub free : (l : ℕ) → a ≡ Acquire l → holder s l ≡ 0
+  pub asks : (l : ℕ) → a ≡ Acquire l → holder s l ≡ p → ⊥
 
 late-release : (lim : Limits) (s : State) (e p l : ℕ) → lateRefusal lim s e p (Release l) ≡ 0 → holder s l ≡ p
 unfolding lateRefusal
@@ -31,14 +31,6 @@ late-release lim s e p l = go (eqb (holder s l) p) refl
     go true e z = eqb-true (holder s l) p e
     go false e z = absurd (omega (arith, z))
 
-late-acquire : (lim : Limits) (s : State) (e p l : ℕ) → lateRefusal lim s e p (Acquire l) ≡ 0 → holder s l ≡ 0
-unfolding lateRefusal
-late-acquire lim s e p l = go (eqb (holder s l) 0) refl
-  where
-    go : (b : Bool) → eqb (holder s l) 0 ≡ b → cond {A = ℕ} b 0 7 ≡ 0 → holder s l ≡ 0
-    go true e z = eqb-true (holder s l) 0 e
-    go false e z = absurd (omega (arith, z))
-
 module _ (lim : Limits) (c : Counts) (es : List Event) (r : Timeline lim c es) where
   -- what the table says of an accepted step, by its processor and action
   pub allowed : (t p : ℕ) (a : Action) → Took es t p a → Accepted lim (r .state t) (eventAt es t .step) → Allowed (c .processors) (r .state t) p a
@@ -46,9 +38,9 @@ module _ (lim : Limits) (c : Counts) (es : List Event) (r : Timeline lim c es) w
       record {
         from = bounds .0;
         to = rw (ap (λ (k : Counts). k .processors) (counts-stay lim c es r t)) at (bounds .1);
-        not-resting = unfold restsIn hasArrived in (rw (took .processor) at (acc .not-arrived));
+        not-resting = awake-when (r .state t) p (rw (took .processor) at (acc .not-arrived)) (rw (took .processor) at (acc .not-waiting));
         holds = λ l e. late-release lim (r .state t) (own (r .state t) p) p l (rw e at late);
-        free = λ l e. late-acquire lim (r .state t) (own (r .state t) p) p l (rw e at late);
+        asks = λ l e. late-acquire lim (r .state t) (own (r .state t) p) p l (rw e at late);
       }
     where
       bounds : (1 ≤ p) × (p ≤ r .state t .counts .processors)

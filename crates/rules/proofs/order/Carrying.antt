@@ -9,7 +9,7 @@ use mathlib.Core.Bool.{Bool, true, false, false≢true}
 use mathlib.Core.Logic.{_⊎_, inl, inr}
 use mathlib.Core.List.{List}
 use Rattle.rules.specs.Refusals.{Action, Acquire, Release, Arrive, actionOf}
-use Rattle.rules.specs.Order.{Event, eventAt, Took, rounds, Before, program, lock, round, chain}
+use Rattle.rules.specs.Order.{Event, eventAt, Took, rounds, Serves, Before, program, lock, round, granted, chain}
 use Rattle.rules.proofs.StrictOrder.{never-falls}
 use Rattle.rules.proofs.order.ActionKinds.{isAcquire}
 
@@ -28,6 +28,8 @@ pub record Telling (n : ℕ) (es : List Event) (known lockKnown : ℕ → ℕ �
   pub acquire-told : (t q l : ℕ) → Took es t q (Acquire l) → WaitsFor (suc t) q l ⊎ (lockKnown t l ≤ known (suc t) q)
   pub waiting-told : (t q l : ℕ) → WaitsFor t q l → WaitsFor (suc t) q l ⊎ (lockKnown t l ≤ known (suc t) q)
   pub waits-for : (t q l : ℕ) → WaitsFor t q l → waits t q ≡ true
+  -- a release tells the waiter that it serves
+  pub grant-tells : (i p a q l : ℕ) → Serves es l i p a q → known (suc i) p ≤ known (suc i) q
   -- a completed round tells everybody
   pub round-tells : (i p : ℕ) → Took es i p Arrive → (t : ℕ) → rounds n es i < rounds n es t → (q : ℕ) → known (suc i) p ≤ known t q
 
@@ -87,6 +89,9 @@ module _ {n : ℕ} {es : List Event} {known lockKnown : ℕ → ℕ → ℕ} {wa
   carries i j (round p q b from to h) x told =
       let mine = knows-after x i p Arrive from refl told in
       rw (to .processor) (told-at-once x j q (omega (arith, mine, f .round-tells i p from j h q, f .grows q j)))
+  carries i j (granted p q l a b serves to h) x told =
+      let mine = knows-after x i p (Release l) (serves .release) refl told in
+      rw (to .processor) (told-at-once x j q (omega (arith, mine, f .grant-tells i p a q l serves, never-falls (λ t. known t q) (f .grows q) (suc i) (suc j) (omega (arith, h)))))
   carries i j (chain k a b) x told = carries k j b x (carries i k a x told)
 
   -- and at a step that is no acquire its processor knows it before the step
@@ -96,4 +101,7 @@ module _ {n : ℕ} {es : List Event} {known lockKnown : ℕ → ℕ → ℕ} {wa
   carries-strictly i j (lock p q l from to h) none-acquired x told = absurd (none-acquired l (to .action))
   carries-strictly i j (round p q b from to h) none-acquired x told =
       rw (to .processor) (omega (arith, knows-after x i p Arrive from refl told, f .round-tells i p from j h q))
+  carries-strictly i j (granted p q l a b serves to h) none-acquired x told =
+      let mine = knows-after x i p (Release l) (serves .release) refl told in
+      rw (to .processor) (omega (arith, mine, f .grant-tells i p a q l serves, never-falls (λ t. known t q) (f .grows q) (suc i) j h))
   carries-strictly i j (chain k a b) none-acquired x told = carries-strictly k j b none-acquired x (carries i k a x told)

@@ -1,18 +1,13 @@
--- How many of the first steps of a list pass a test: the count by which grants, jobs, adds and messages, requests to come, are told from the
--- list alone. `counted` goes to specs/Order.antt with the first definition there that cites it. Rests on StrictOrder. Assumes nothing.
-use Prim.Native.Nat.{ℕ, zero, suc, _+_, _≤_, _<_}
+-- How many of the first steps of a list pass a test: the count by which a release finds the acquire that it serves, from the list alone. Rests
+-- on StrictOrder. Assumes nothing.
+use Prim.Native.Nat.{ℕ, suc, _+_, _≤_, _<_}
 use native.Mathlib.Omega.{arith}
 use native.Mathlib.Decide.{decLt}
 use mathlib.Core.Path.{_≡_}
 use mathlib.Core.Bool.{Bool, true, false, cond}
 use mathlib.Core.List.{List}
-use Rattle.rules.specs.Order.{Event, eventAt}
+use Rattle.rules.specs.Order.{Event, eventAt, counted}
 use Rattle.rules.proofs.StrictOrder.{never-falls}
-
--- how many of the first t steps pass the test
-unfoldable pub counted : (Event → Bool) → List Event → ℕ → ℕ
-counted test es zero = 0
-counted test es (suc t) = cond (test (eventAt es t)) (counted test es t + 1) (counted test es t)
 
 module _ (test : Event → Bool) (es : List Event) where
   -- a step that passes is one more

@@ -1,6 +1,6 @@
 -- The edges of happens-before-1, each decided by a test that computes, and which edges a derivation has in it: so a run shows that one step is
 -- before another, that it is so by one edge alone, or that it is not. Rests on Tables, Everywhere and ActionKinds. Assumes nothing.
-use Prim.Native.Nat.{ℕ, _<_}
+use Prim.Native.Nat.{ℕ, _+_, _<_}
 use native.Mathlib.Omega.{arith}
 use native.Mathlib.Decide.{decLt}
 use mathlib.Core.Path.{_≡_, refl, sym, ap, _∙_}
@@ -9,25 +9,27 @@ use mathlib.Core.List.{List, [], _∷_}
 use lib.ListN.{length, getD, List·getD-eq-default}
 use lib.Dec.{eqb, leb, ltb}
 use borrow.Author.Tests.{eqb-true, eq-eqb, ltb-true, lt-ltb, not-true}
-use Rattle.lists.specs.Tables.{every}
-use Rattle.lists.proofs.Tables.{every-at}
-use Rattle.lists.proofs.Conditions.{conjoined, conjoined-at}
+use Rattle.lists.specs.Tables.{every, any}
+use Rattle.lists.proofs.Tables.{every-at, any-at, any-holds}
+use Rattle.lists.proofs.Conditions.{conjoined, conjoined-at, Given, conjoined-holds}
 use Rattle.rules.specs.Refusals.{Action, Read, Write, Acquire, Release, Arrive, Want, Unknown, actionOf}
-use Rattle.rules.specs.Order.{Event, noEvent, eventAt, Took, isArrival, countedOff, groupsBefore, rounds, Before, program, lock, round, chain}
+use Rattle.rules.specs.Order.{Event, noEvent, eventAt, Took, isArrival, countedOff, groupsBefore, rounds, counted, isAcquireOf, isReleaseOf, Serves, Before, program, lock, round, granted, chain}
 use Rattle.rules.proofs.order.ActionKinds.{arrivesBy, arrives-is, isAcquire}
 
--- the four ways in which a step is before another
+-- the five ways in which a step is before another
 pub data Edge : Type 0 where
   ByProgram : Edge
   ByLock : Edge
   ByRound : Edge
+  ByGrant : Edge
   ByChain : Edge
 
 numberOf : Edge → ℕ
 numberOf ByProgram = 0
 numberOf ByLock = 1
 numberOf ByRound = 2
-numberOf ByChain = 3
+numberOf ByGrant = 3
+numberOf ByChain = 4
 
 -- the edge e and no other
 unfoldable pub just : Edge → Edge → Bool
@@ -39,6 +41,7 @@ unfoldable pub has : {n : ℕ} {es : List Event} {i j : ℕ} → (Edge → Bool)
 has some (program p a b t u h) = some ByProgram
 has some (lock p q l t u h) = some ByLock
 has some (round p q b t u h) = some ByRound
+has some (granted p q l a b s u h) = some ByGrant
 has some (chain k x y) = some ByChain || has some x || has some y
 
 -- ---- one edge, decided
@@ -89,6 +92,13 @@ processorAt es i = eventAt es i .step .processor
 abbrev actionAt : List Event → ℕ → Action
 actionAt es i = actionOf (eventAt es i .step)
 
+-- what asks that the acquire at place a is served by the release at place i, and is by the processor of place j
+grantTests : List Event → ℕ → ℕ → ℕ → List Bool
+grantTests es i j a =
+    let l = lockOf (actionAt es i) in
+    eventAt es a .accepted ∷ isAcquire (actionAt es a) ∷ eqb (lockOf (actionAt es a)) l ∷ eqb (processorAt es a) (processorAt es j)
+    ∷ eqb (counted (isAcquireOf l) es a) (counted (isReleaseOf l) es i + 1) ∷ []
+
 -- what an edge of a kind from place i to place j asks
 tests : Edge → ℕ → List Event → ℕ → ℕ → List Bool
 tests ByProgram n es i j = eventAt es i .accepted ∷ eventAt es j .accepted ∷ eqb (processorAt es i) (processorAt es j) ∷ ltb i j ∷ []
@@ -96,11 +106,13 @@ tests ByLock n es i j =
     eventAt es i .accepted ∷ eventAt es j .accepted ∷ isRelease (actionAt es i) ∷ isAcquire (actionAt es j)
     ∷ eqb (lockOf (actionAt es i)) (lockOf (actionAt es j)) ∷ ltb i j ∷ []
 tests ByRound n es i j = eventAt es i .accepted ∷ eventAt es j .accepted ∷ arrivesBy (actionAt es i) ∷ ltb (rounds n es i) (rounds n es j) ∷ []
+tests ByGrant n es i j =
+    eventAt es i .accepted ∷ eventAt es j .accepted ∷ isRelease (actionAt es i) ∷ ltb i j ∷ any i (λ a. conjoined (grantTests es i j a)) ∷ []
 tests ByChain n es i j = false ∷ []
 
 -- whether there is such an edge; who unfolds it unfolds what it computes with
 unfoldable pub joins : Edge → ℕ → List Event → ℕ → ℕ → Bool
-unfolding tests isRelease lockOf isAcquire arrivesBy actionOf eventAt noEvent rounds groupsBefore countedOff isArrival conjoined
+unfolding tests grantTests isRelease lockOf isAcquire arrivesBy actionOf eventAt noEvent rounds groupsBefore countedOff isArrival counted isAcquireOf isReleaseOf conjoined any
 joins e n es i j = conjoined (tests e n es i j)
 
 module _ (n : ℕ) (es : List Event) (i j : ℕ) where
@@ -117,6 +129,22 @@ module _ (n : ℕ) (es : List Event) (i j : ℕ) where
   unfolding joins
   round-joins p q b t u h = rw (t .accepted, u .accepted, t .action, lt-ltb (rounds n es i) (rounds n es j) h)
 
+  grant-joins : (p q l a : ℕ) (b : Action) → Serves es l i p a q → Took es j q b → i < j → joins ByGrant n es i j ≡ true
+  unfolding joins tests grantTests Given isRelease isAcquire lockOf
+  grant-joins p q l a b s u h =
+      conjoined-holds (tests ByGrant n es i j) (s .release .accepted) (u .accepted) (ap isRelease (s .release .action)) (lt-ltb i j h)
+      (any-holds i (λ a. conjoined (grantTests es i j a)) a (s .waited) served)
+    where
+      lock-is : lockOf (actionAt es i) ≡ l
+      lock-is = ap lockOf (s .release .action)
+
+      served : conjoined (grantTests es i j a) ≡ true
+      served =
+          conjoined-holds (grantTests es i j a) (s .acquire .accepted) (ap isAcquire (s .acquire .action)) (eq-eqb _ _ (ap lockOf (s .acquire .action) ∙ sym lock-is))
+          (eq-eqb _ _ (s .acquire .processor ∙ sym (u .processor)))
+          (eq-eqb _ _
+          (ap (λ (x : ℕ). counted (isAcquireOf x) es a) lock-is ∙ s .next ∙ ap (λ (x : ℕ). counted (isReleaseOf x) es i + 1) (sym lock-is)))
+
   -- an accepted step is what its fields say
   took : (k p : ℕ) (a : Action) → eventAt es k .accepted ≡ true → processorAt es k ≡ p → actionAt es k ≡ a → Took es k p a
   took k p a h e f = record { accepted = h; processor = e; action = f }
@@ -127,7 +155,7 @@ module _ (n : ℕ) (es : List Event) (i j : ℕ) where
 
   -- and what passes a test is before
   pub joins-before : (e : Edge) → joins e n es i j ≡ true → Before n es i j
-  unfolding joins tests
+  unfolding joins tests grantTests
   joins-before ByProgram h =
       let at = passed ByProgram h in
       program (processorAt es i) (actionAt es i) (actionAt es j) (took i (processorAt es i) (actionAt es i) (at 0) refl refl)
@@ -142,6 +170,22 @@ module _ (n : ℕ) (es : List Event) (i j : ℕ) where
       let at = passed ByRound h in
       round (processorAt es i) (processorAt es j) (actionAt es j) (took i (processorAt es i) Arrive (at 0) refl (arrives-is (actionAt es i) (at 2)))
       (took j (processorAt es j) (actionAt es j) (at 1) refl refl) (ltb-true (rounds n es i) (rounds n es j) (at 3))
+  joins-before ByGrant h =
+      let at = passed ByGrant h in
+      let l = lockOf (actionAt es i) in
+      let found = any-at i (λ a. conjoined (grantTests es i j a)) (at 4) in
+      let a = found .at in
+      let is : (k : ℕ) → getD (grantTests es i j a) k true ≡ true = λ k. conjoined-at (grantTests es i j a) k (found .passes) in
+      granted (processorAt es i) (processorAt es j) l a (actionAt es j)
+      (record {
+        release = took i (processorAt es i) (Release l) (at 0) refl (release-is (actionAt es i) (at 2));
+        acquire =
+            took a (processorAt es j) (Acquire l) (is 0) (eqb-true (processorAt es a) (processorAt es j) (is 3))
+            (acquire-is (actionAt es a) (is 1) ∙ ap Acquire (eqb-true (lockOf (actionAt es a)) l (is 2)));
+        waited = found .below;
+        next = eqb-true (counted (isAcquireOf l) es a) (counted (isReleaseOf l) es i + 1) (is 4);
+      })
+      (took j (processorAt es j) (actionAt es j) (at 1) refl refl) (ltb-true i j (at 3))
   joins-before ByChain h = absurd (false≢true h)
 
 -- ---- places that no edge leads out of
@@ -152,7 +196,7 @@ module _ (dropped : Edge → Bool) (n : ℕ) (es : List Event) (inside : ℕ →
   stays e = every (length es) (λ j. every (length es) (λ i. not (inside i && joins e n es i j) || inside j))
 
   kinds : List Bool
-  kinds = (dropped ByProgram || stays ByProgram) ∷ (dropped ByLock || stays ByLock) ∷ (dropped ByRound || stays ByRound) ∷ []
+  kinds = (dropped ByProgram || stays ByProgram) ∷ (dropped ByLock || stays ByLock) ∷ (dropped ByRound || stays ByRound) ∷ (dropped ByGrant || stays ByGrant) ∷ []
 
   -- nor one of any kind that is not dropped
   unfoldable pub closedUnder : Bool
@@ -194,6 +238,8 @@ module _ (dropped : Edge → Bool) (n : ℕ) (es : List Event) (inside : ℕ →
       edge-stays ByLock i j (conjoined-at kinds 1 c) f (t .accepted) (u .accepted) (lock-joins n es i j p q l t u h)
   before-stays c i j (round p q b t u h) f =
       edge-stays ByRound i j (conjoined-at kinds 2 c) f (t .accepted) (u .accepted) (round-joins n es i j p q b t u h)
+  before-stays c i j (granted p q l a b s u h) f =
+      edge-stays ByGrant i j (conjoined-at kinds 3 c) f (s .release .accepted) (u .accepted) (grant-joins n es i j p q l a b s u h)
   before-stays c i j (chain k x y) f = λ start.
       let g = or-first (dropped ByChain || has dropped x) (has dropped y) f in
       before-stays c k j y (or-second (dropped ByChain || has dropped x) (has dropped y) f) (before-stays c i k x (or-second (dropped ByChain) (has dropped x) g) start)
@@ -209,6 +255,7 @@ unfolding has noEdge
 has-none n es i j (program p a b t u h) = refl
 has-none n es i j (lock p q l t u h) = refl
 has-none n es i j (round p q b t u h) = refl
+has-none n es i j (granted p q l a b s u h) = refl
 has-none n es i j (chain k x y) = rw (has-none n es i k x, has-none n es k j y)
 
 module _ (n : ℕ) (es : List Event) (i j : ℕ) where
@@ -226,27 +273,52 @@ module _ (n : ℕ) (es : List Event) (i j : ℕ) where
       go false h = absurd (false≢true (sym to ∙ before-stays (just e) n es inside c i j x h from))
 
   -- where no edge joins the two, every derivation is a chain
-  pub only-chained : joins ByProgram n es i j ≡ false → joins ByLock n es i j ≡ false → joins ByRound n es i j ≡ false
+  pub only-chained : joins ByProgram n es i j ≡ false → joins ByLock n es i j ≡ false → joins ByRound n es i j ≡ false → joins ByGrant n es i j ≡ false
       → (x : Before n es i j) → has (just ByChain) x ≡ true
   unfolding has just
-  only-chained no-program no-lock no-round (program p a b t u h) = absurd (false≢true (sym no-program ∙ program-joins n es i j p a b t u h))
-  only-chained no-program no-lock no-round (lock p q l t u h) = absurd (false≢true (sym no-lock ∙ lock-joins n es i j p q l t u h))
-  only-chained no-program no-lock no-round (round p q b t u h) = absurd (false≢true (sym no-round ∙ round-joins n es i j p q b t u h))
-  only-chained no-program no-lock no-round (chain k x y) = refl
+  only-chained no-program no-lock no-round no-grant (program p a b t u h) = absurd (false≢true (sym no-program ∙ program-joins n es i j p a b t u h))
+  only-chained no-program no-lock no-round no-grant (lock p q l t u h) = absurd (false≢true (sym no-lock ∙ lock-joins n es i j p q l t u h))
+  only-chained no-program no-lock no-round no-grant (round p q b t u h) = absurd (false≢true (sym no-round ∙ round-joins n es i j p q b t u h))
+  only-chained no-program no-lock no-round no-grant (granted p q l a b s u h) = absurd (false≢true (sym no-grant ∙ grant-joins n es i j p q l a b s u h))
+  only-chained no-program no-lock no-round no-grant (chain k x y) = refl
+
+  cutTests : (ℕ → Bool) → List Bool
+  cutTests inside = closedUnder noEdge n es inside ∷ inside i ∷ not (inside j) ∷ []
+
+  -- place i is inside, place j is not, and no edge leads out
+  cut : (ℕ → Bool) → Bool
+  unfolding cutTests noEdge closedUnder conjoined
+  cut inside = conjoined (cutTests inside)
+
+  cut-not-before : (inside : ℕ → Bool) → cut inside ≡ true → Before n es i j → ⊥
+  unfolding cut
+  cut-not-before inside h =
+      not-before inside (conjoined-at (cutTests inside) 0 h) (conjoined-at (cutTests inside) 1 h) (not-true (inside j) (conjoined-at (cutTests inside) 2 h))
 
   -- the steps from place i on by other processors than the one at place j
   others : ℕ → Bool
   others k = not (eqb (processorAt es k) (processorAt es j)) && leb i k
 
-  apartTests : List Bool
-  apartTests = closedUnder noEdge n es others ∷ others i ∷ not (others j) ∷ []
-
   -- no edge leads from one of those to a step of the processor at place j
   unfoldable pub apart : Bool
-  unfolding apartTests others noEdge closedUnder conjoined
-  apart = conjoined apartTests
+  unfolding others cut
+  apart = cut others
 
   -- then the one is not before the other
   pub apart-not-before : apart ≡ true → Before n es i j → ⊥
   unfolding apart
-  apart-not-before h = not-before others (conjoined-at apartTests 0 h) (conjoined-at apartTests 1 h) (not-true (others j) (conjoined-at apartTests 2 h))
+  apart-not-before = cut-not-before others
+
+  -- the steps from place i on by its own processor
+  mine : ℕ → Bool
+  mine k = eqb (processorAt es k) (processorAt es i) && leb i k
+
+  -- no edge leads from one of those to a step of another processor
+  unfoldable pub alone : Bool
+  unfolding mine cut
+  alone = cut mine
+
+  -- then it is before none of them
+  pub alone-not-before : alone ≡ true → Before n es i j → ⊥
+  unfolding alone
+  alone-not-before = cut-not-before mine

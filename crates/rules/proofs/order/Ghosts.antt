@@ -7,7 +7,8 @@ use mathlib.Core.Bool.{Bool, true, false, cond, _&&_}
 use mathlib.Core.List.{List}
 use lib.Dec.{eqb}
 use borrow.Author.Tests.{eqb-false, ne-eqb}
-use Rattle.rules.specs.State.{Limits, Counts, Holder, Processor, Lock, Barrier, Applied, Interval, State}
+use Rattle.rules.specs.State.{Limits, Counts, Holder, Processor, Lock, Barrier, Applied, Interval, State, holder}
+use Rattle.rules.specs.Lines.{firstInLine}
 use Rattle.rules.specs.Steps.{atBarrier, allArrived, wantsCollection}
 use Rattle.rules.specs.Refusals.{Action, Read, Write, Acquire, Release, Arrive, Want, Unknown, actionOf}
 use Rattle.rules.specs.Order.{Event, eventAt, Took}
@@ -61,6 +62,14 @@ closedGhost γ p = record { writes = γ .writes; last = γ .last; base = γ .bas
 unfoldable pub arrivedNumbers : Ghost → ℕ → Holder → ℕ
 arrivedNumbers γ p = learnedNumbers (γ .known) Barrier (Processor p)
 
+-- the numbers once the lock knows what p knew, which frees it
+abbrev pub freedNumbers : Ghost → ℕ → ℕ → Holder → ℕ
+freedNumbers γ p l = withNumber (γ .known) (Lock l) (γ .known (Processor p))
+
+-- and once q, if it is not nobody, has learned what the lock knows
+unfoldable pub grantedNumbers : (Holder → ℕ) → ℕ → ℕ → Holder → ℕ
+grantedNumbers f q l = cond (eqb q 0) f (learnedNumbers f (Processor q) (Lock l))
+
 -- what an accepted step of processor p, taken in the state s, does to the counts for the word w
 unfoldable pub ghostAfter : ℕ → State → ℕ → Action → Ghost → Ghost
 ghostAfter w s p (Read x) γ = γ
@@ -73,9 +82,9 @@ ghostAfter w s p (Write x v) γ =
       known = cond (eqb x w) (withNumber (γ .known) (Processor p) (γ .writes + 1)) (γ .known);
     }
 ghostAfter w s p (Acquire l) γ =
-    record { writes = γ .writes; last = γ .last; base = γ .base; writer = writerClosed γ p; known = learnedNumbers (γ .known) (Processor p) (Lock l) }
+    record { writes = γ .writes; last = γ .last; base = γ .base; writer = writerClosed γ p; known = cond (eqb (holder s l) 0) (learnedNumbers (γ .known) (Processor p) (Lock l)) (γ .known) }
 ghostAfter w s p (Release l) γ =
-    record { writes = γ .writes; last = γ .last; base = γ .base; writer = writerClosed γ p; known = withNumber (γ .known) (Lock l) (γ .known (Processor p)) }
+    record { writes = γ .writes; last = γ .last; base = γ .base; writer = writerClosed γ p; known = grantedNumbers (freedNumbers γ p l) (firstInLine (s .counts .processors) (s .marks) l) l }
 ghostAfter w s p Arrive γ =
     record {
       writes = γ .writes;

@@ -1,19 +1,21 @@
--- What each kind of step leaves of the marks: the holder of each lock, and who has arrived at the barrier and rests there. Rests on
--- KeptParts and Ghosts. Assumes nothing.
-use Prim.Native.Nat.{ℕ}
-use mathlib.Core.Path.{_≡_, refl, ap, _∙_}
-use mathlib.Core.Bool.{Bool, true, false, cond, not}
+-- What each kind of step leaves of the marks: the holder of each lock and its line of waiters, who has arrived at the barrier, and who rests.
+-- Rests on Waiters, KeptParts and Ghosts. Assumes nothing.
+use Prim.Native.Nat.{ℕ, suc}
+use mathlib.Core.Path.{_≡_, refl, sym, ap, _∙_}
+use mathlib.Core.Bool.{Bool, true, false, cond, not, _||_, false≢true}
 use mathlib.Core.List.{List, map}
 use lib.ListN.{getD}
 use lib.Dec.{eqb}
 use Rattle.lists.specs.Tables.{put}
 use Rattle.lists.proofs.Tables.{get-put, get-map}
-use Rattle.rules.specs.State.{Limits, Marks, State, holder, hasArrived}
+use Rattle.rules.specs.State.{Limits, Marks, withArrived, withWanted, State, holder, hasArrived}
+use Rattle.rules.specs.Lines.{waits, lockAsked, lockHanded}
 use Rattle.rules.specs.Close.{closed}
 use Rattle.rules.specs.Fetch.{fetched}
-use Rattle.rules.specs.Steps.{read, write, withHolder, acquire, release, atBarrier, allArrived, roundDone, emptied, collected, wantsCollection, arrive, want}
+use Rattle.rules.specs.Steps.{read, write, acquire, release, atBarrier, allArrived, roundDone, allFetched, emptied, collected, wantsCollection, arrive, want}
 use Rattle.rules.specs.Refusals.{Action, Read, Write, Acquire, Release, Arrive, Want, Unknown, effect}
 use Rattle.rules.proofs.state.Fetches.{all-fetched-marks}
+use Rattle.rules.proofs.state.Waiters.{awaits, turnAt, holderIn, asked-arrived, handed-arrived}
 use Rattle.rules.proofs.inorder.KeptParts.{arrivedIn}
 use Rattle.rules.proofs.order.Ghosts.{completes}
 
@@ -23,16 +25,24 @@ use Rattle.rules.proofs.order.Ghosts.{completes}
 abbrev arrivedMarks : State → ℕ → List ℕ
 arrivedMarks s p = put 0 (s .marks .arrived) p 1
 
-arrive-holders : (lim : Limits) (s : State) (p : ℕ) → arrive lim s p .after .marks .holders ≡ s .marks .holders
+-- what depends on neither the arrived marks nor the wish stays
+arrive-keeps : (f : Marks → List ℕ) → ((m : Marks) (l : List ℕ) → f (withArrived m l) ≡ f m) → ((m : Marks) (w : ℕ) → f (withWanted m w) ≡ f m)
+    → (lim : Limits) (s : State) (p : ℕ) → f (arrive lim s p .after .marks) ≡ f (s .marks)
 unfolding arrive collected emptied roundDone atBarrier closed
-arrive-holders lim s p = go (allArrived (atBarrier s p)) (wantsCollection (atBarrier s p))
+arrive-keeps f marks-kept wish-kept lim s p = go (allArrived (atBarrier s p)) (wantsCollection (atBarrier s p))
   where
+    there : f (atBarrier s p .marks) ≡ f (s .marks)
+    there = marks-kept (s .marks) (arrivedMarks s p)
+
+    round : f (roundDone (atBarrier s p) .marks) ≡ f (s .marks)
+    round = marks-kept (atBarrier s p .marks) (map (λ (mark : ℕ). 0) (arrivedMarks s p)) ∙ there
+
     go : (a b : Bool)
-        → cond a (cond b (collected lim (roundDone (atBarrier s p))) (record { after = roundDone (atBarrier s p); count = 0 })) (record { after = atBarrier s p; count = 0 }) .after .marks .holders
-        ≡ s .marks .holders
-    go true true = ap (λ (m : Marks). m .holders) (all-fetched-marks lim (roundDone (atBarrier s p)))
-    go true false = refl
-    go false b = refl
+        → f (cond a (cond b (collected lim (roundDone (atBarrier s p))) (record { after = roundDone (atBarrier s p); count = 0 })) (record { after = atBarrier s p; count = 0 }) .after .marks)
+        ≡ f (s .marks)
+    go true true = wish-kept (allFetched lim (roundDone (atBarrier s p)) (s .counts .processors) .after .marks) 0 ∙ ap f (all-fetched-marks lim (roundDone (atBarrier s p))) ∙ round
+    go true false = round
+    go false b = there
 
 arrive-arrived : (lim : Limits) (s : State) (p : ℕ)
     → arrive lim s p .after .marks .arrived ≡ cond (completes s p) (map (λ (mark : ℕ). 0) (arrivedMarks s p)) (arrivedMarks s p)
@@ -69,9 +79,9 @@ arrived-at-barrier s p q = marked-put (s .marks .arrived) p q
 
 -- ---- who rests
 
--- whether the marks say of a processor that it does nothing until others have acted: it has arrived
+-- whether the marks say of a processor that it does nothing until others have acted: it has arrived, or waits for a lock
 unfoldable pub restsIn : Marks → ℕ → Bool
-restsIn m p = arrivedIn m p
+restsIn m p = arrivedIn m p || waits m p
 
 -- the same of a state
 abbrev pub rests : State → ℕ → Bool
@@ -80,39 +90,96 @@ rests s p = restsIn (s .marks) p
 -- who has arrived rests
 pub arrived-rests : (s : State) (p : ℕ) → hasArrived s p ≡ true → rests s p ≡ true
 unfolding hasArrived restsIn
-arrived-rests s p e = e
+arrived-rests s p e = rw e
+
+-- who waits rests
+pub waiter-rests : (s : State) (p : ℕ) → waits (s .marks) p ≡ true → rests s p ≡ true
+unfolding restsIn
+waiter-rests s p e = rw e (go (arrivedIn (s .marks) p))
+  where
+    go : (b : Bool) → (b || true) ≡ true
+    go true = refl
+    go false = refl
 
 -- so who does not rest has not arrived
 pub awake-not-arrived : (s : State) (p : ℕ) → rests s p ≡ false → hasArrived s p ≡ false
 unfolding hasArrived restsIn
-awake-not-arrived s p e = e
+awake-not-arrived s p e = go (arrivedIn (s .marks) p) e
+  where
+    go : (b : Bool) → (b || waits (s .marks) p) ≡ false → b ≡ false
+    go true e = e
+    go false e = refl
+
+-- and waits for no lock
+pub awake-not-waiting : (s : State) (p : ℕ) → rests s p ≡ false → waits (s .marks) p ≡ false
+unfolding restsIn
+awake-not-waiting s p e = go (arrivedIn (s .marks) p) e
+  where
+    go : (b : Bool) → (b || waits (s .marks) p) ≡ false → waits (s .marks) p ≡ false
+    go true e = absurd (false≢true (sym e))
+    go false e = e
+
+-- who has neither arrived nor waits does not rest
+pub awake-when : (s : State) (p : ℕ) → hasArrived s p ≡ false → waits (s .marks) p ≡ false → rests s p ≡ false
+unfolding hasArrived restsIn
+awake-when s p e d = rw (e, d)
 
 -- at the barrier the arriving processor rests, and who rested
 pub rests-at-barrier : (s : State) (p q : ℕ) → rests (atBarrier s p) q ≡ cond (eqb q p) true (rests s q)
-unfolding hasArrived restsIn
-rests-at-barrier s p q = arrived-at-barrier s p q
+unfolding hasArrived restsIn atBarrier closed waits
+rests-at-barrier s p q = rw (arrived-at-barrier s p q) (go (eqb q p))
+  where
+    go : (b : Bool) → (cond b true (hasArrived s q) || waits (s .marks) q) ≡ cond b true (hasArrived s q || waits (s .marks) q)
+    go true = refl
+    go false = refl
 
--- ---- the holder of each lock after a step
+-- ---- holders and lines after a step
 
-unfoldable pub holderAfter : State → ℕ → Action → ℕ → ℕ
-holderAfter s p (Read x) l = holder s l
-holderAfter s p (Write x v) l = holder s l
-holderAfter s p (Acquire k) l = cond (eqb l k) p (holder s l)
-holderAfter s p (Release k) l = cond (eqb l k) 0 (holder s l)
-holderAfter s p Arrive l = holder s l
-holderAfter s p Want l = holder s l
-holderAfter s p Unknown l = holder s l
+-- the marks as far as holders, waiters and turns go
+unfoldable pub linesAfter : State → ℕ → Action → Marks
+linesAfter s p (Read x) = s .marks
+linesAfter s p (Write x v) = s .marks
+linesAfter s p (Acquire l) = lockAsked (s .counts .processors) (s .marks) l p
+linesAfter s p (Release l) = lockHanded (s .counts .processors) (s .marks) l
+linesAfter s p Arrive = s .marks
+linesAfter s p Want = s .marks
+linesAfter s p Unknown = s .marks
 
--- it is the holder in the state that the step leaves
-pub holder-after : (lim : Limits) (s : State) (p : ℕ) (a : Action) (l : ℕ) → holder (effect lim s p a .after) l ≡ holderAfter s p a l
-unfolding effect read write acquire release want closed fetched withHolder holder holderAfter
-holder-after lim s p (Read x) l = refl
-holder-after lim s p (Write x v) l = refl
-holder-after lim s p (Acquire k) l = get-put 0 (s .marks .holders) k l p
-holder-after lim s p (Release k) l = get-put 0 (s .marks .holders) k l 0
-holder-after lim s p Arrive l = ap (λ (h : List ℕ). getD h l 0) (arrive-holders lim s p)
-holder-after lim s p Want l = refl
-holder-after lim s p Unknown l = refl
+-- the same holders, waiters and turns
+pub record SameLines (m m′ : Marks) : Type 0 where
+  pub holders : m .holders ≡ m′ .holders
+  pub awaited : m .awaited ≡ m′ .awaited
+  pub turns : m .turns ≡ m′ .turns
+
+-- they are those of the state that the step leaves
+pub lines-after : (lim : Limits) (s : State) (p : ℕ) (a : Action) → SameLines (effect lim s p a .after .marks) (linesAfter s p a)
+unfolding effect read write acquire release want closed fetched linesAfter
+lines-after lim s p (Read x) = record { holders = refl; awaited = refl; turns = refl }
+lines-after lim s p (Write x v) = record { holders = refl; awaited = refl; turns = refl }
+lines-after lim s p (Acquire l) = record { holders = refl; awaited = refl; turns = refl }
+lines-after lim s p (Release l) = record { holders = refl; awaited = refl; turns = refl }
+lines-after lim s p Arrive =
+    record {
+      holders = arrive-keeps (λ m. m .holders) (λ m l. refl) (λ m w. refl) lim s p;
+      awaited = arrive-keeps (λ m. m .awaited) (λ m l. refl) (λ m w. refl) lim s p;
+      turns = arrive-keeps (λ m. m .turns) (λ m l. refl) (λ m w. refl) lim s p;
+    }
+lines-after lim s p Want = record { holders = refl; awaited = refl; turns = refl }
+lines-after lim s p Unknown = record { holders = refl; awaited = refl; turns = refl }
+
+module _ (lim : Limits) (s : State) (p : ℕ) (a : Action) where
+  -- the holder of a lock
+  pub holder-after : (l : ℕ) → holder (effect lim s p a .after) l ≡ holderIn (linesAfter s p a) l
+  unfolding holder
+  holder-after l = ap (λ (h : List ℕ). getD h l 0) (lines-after lim s p a .holders)
+
+  -- the lock that a processor waits for
+  pub awaits-after : (k : ℕ) → awaits (effect lim s p a .after .marks) k ≡ awaits (linesAfter s p a) k
+  awaits-after k = ap (λ (h : List ℕ). getD h (suc k) 0) (lines-after lim s p a .awaited)
+
+  -- its turn
+  pub turn-after : (k : ℕ) → turnAt (effect lim s p a .after .marks) k ≡ turnAt (linesAfter s p a) k
+  turn-after k = ap (λ (h : List ℕ). getD h (suc k) 0) (lines-after lim s p a .turns)
 
 -- ---- who has arrived after a step
 
@@ -135,11 +202,11 @@ arrived-after-arrive lim s p q = ap (λ (l : List ℕ). marked l q) (arrive-arri
 
 -- it is the mark in the state that the step leaves
 pub arrived-after : (lim : Limits) (s : State) (p : ℕ) (a : Action) (q : ℕ) → hasArrived (effect lim s p a .after) q ≡ arrivedAfter s p a q
-unfolding effect read write acquire release want closed fetched withHolder hasArrived arrivedAfter
+unfolding effect read write acquire release want closed fetched hasArrived arrivedAfter
 arrived-after lim s p (Read x) q = refl
 arrived-after lim s p (Write x v) q = refl
-arrived-after lim s p (Acquire k) q = refl
-arrived-after lim s p (Release k) q = refl
+arrived-after lim s p (Acquire k) q = ap (λ (l : List ℕ). not (eqb (getD l q 0) 0)) (asked-arrived (s .counts .processors) (s .marks) k p)
+arrived-after lim s p (Release k) q = ap (λ (l : List ℕ). not (eqb (getD l q 0) 0)) (handed-arrived (s .counts .processors) (s .marks) k)
 arrived-after lim s p Arrive q = arrived-after-arrive lim s p q
 arrived-after lim s p Want q = refl
 arrived-after lim s p Unknown q = refl

@@ -7,17 +7,18 @@ use mathlib.Core.Path.{_≡_, refl, ap}
 use mathlib.Core.Bool.{Bool, true, false, cond, _&&_}
 use mathlib.Core.List.{List}
 use lib.Dec.{eqb}
-use Rattle.rules.specs.State.{Limits, Counts, Holder, Processor, Lock, Barrier, State}
+use Rattle.rules.specs.State.{Limits, Counts, Holder, Processor, Lock, Barrier, State, holder}
+use Rattle.rules.specs.Lines.{firstInLine}
 use Rattle.rules.specs.Refusals.{Action, Read, Write, Acquire, Release, Arrive, Want, Unknown}
 use Rattle.rules.specs.Order.{Event, Took, rounds}
 use Rattle.rules.proofs.state.Holders.{sameHolder}
 use Rattle.rules.proofs.order.Timeline.{Timeline, Moment, Refused, Taken, moment, counts-stay}
-use Rattle.rules.proofs.order.Ghosts.{Ghost, withNumber, roundNumbers, completes, arrivedNumbers, ghostAfter, ghostAt, ghost-refused, ghost-taken}
+use Rattle.rules.proofs.order.Ghosts.{Ghost, withNumber, learnedNumbers, freedNumbers, roundNumbers, completes, arrivedNumbers, ghostAfter, ghostAt, ghost-refused, ghost-taken}
 use Rattle.rules.proofs.StrictOrder.{never-falls, rounds-never-fall}
 use Rattle.rules.proofs.order.ActionKinds.{arrivesBy, arrives-is}
 use Rattle.rules.proofs.order.Allowed.{allowed}
 use Rattle.rules.proofs.order.Rounds.{rounds-after-step, rounds-after-refusal}
-use Rattle.rules.proofs.order.NumbersAfter.{Knowing, processor-grows, lock-grows, knowing-after}
+use Rattle.rules.proofs.order.NumbersAfter.{Knowing, granted-grows, processor-grows, lock-grows, knowing-after}
 
 -- ---- what an arrival hands on
 
@@ -31,8 +32,12 @@ module _ (w : ℕ) (s : State) (p : ℕ) (γ : Ghost) where
       go : (b : Bool) → γ .known Barrier ≤ cond b (withNumber (γ .known) (Processor p) (γ .writes + 1)) (γ .known) Barrier
       go true = omega arith
       go false = omega arith
-  barrier-grows (Acquire l) e = omega arith
-  barrier-grows (Release l) e = omega arith
+  barrier-grows (Acquire l) e = go (eqb (holder s l) 0)
+    where
+      go : (b : Bool) → γ .known Barrier ≤ cond b (learnedNumbers (γ .known) (Processor p) (Lock l)) (γ .known) Barrier
+      go true = omega arith
+      go false = omega arith
+  barrier-grows (Release l) e = granted-grows (freedNumbers γ p l) (firstInLine (s .counts .processors) (s .marks) l) l Barrier
   barrier-grows Arrive e = rw e (omega arith)
   barrier-grows Want e = omega arith
   barrier-grows Unknown e = omega arith
@@ -71,7 +76,7 @@ module _ (lim : Limits) (c : Counts) (es : List Event) (r : Timeline lim c es) (
       go (Refused e k) ih = rw (k, ghost-refused lim c es r w t e) ih
       go (Taken p a took acc k) ih =
           rw (k, ghost-taken lim c es r w t p a took)
-          (knowing-after (c .processors) w (r .state t) p (ghostAt lim c es r w t) lim ih a (allowed lim c es r t p a took acc))
+          (knowing-after (c .processors) w (r .state t) p (ghostAt lim c es r w t) lim (r .ordered t .lines) ih a (allowed lim c es r t p a took acc))
 
   -- no number is above the writes
   pub known-at-most-writes : (t : ℕ) (h : Holder) → ghostAt lim c es r w t .known h ≤ ghostAt lim c es r w t .writes

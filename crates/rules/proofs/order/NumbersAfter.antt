@@ -1,17 +1,20 @@
 -- What one accepted step does to the numbers of known writes (ghosts): none of a processor or a lock falls, and what holds of them between
 -- processors, locks and the barrier stays. Rests on ActionKinds, MarksAfter and Allowed. Assumes nothing.
-use Prim.Native.Nat.{ℕ, _+_, _≤_, max}
+use Prim.Native.Nat.{ℕ, zero, suc, _+_, _≤_, max}
 use native.Mathlib.Omega.{arith}
 use mathlib.Core.Path.{_≡_, refl, sym, _∙_}
-use mathlib.Core.Bool.{Bool, true, false, cond, false≢true}
+use mathlib.Core.Bool.{Bool, true, false, cond, _&&_, false≢true}
 use lib.Dec.{eqb}
-use borrow.Author.Tests.{eqb-true, ne-eqb}
+use borrow.Author.Tests.{eqb-true, eqb-false, ne-eqb}
 use Rattle.rules.specs.State.{Limits, Holder, Processor, Lock, Barrier, Applied, Interval, State, holder, hasArrived}
+use Rattle.rules.specs.Lines.{firstInLine}
 use Rattle.rules.specs.Refusals.{Action, Read, Write, Acquire, Release, Arrive, Want, Unknown, effect}
 use Rattle.rules.proofs.state.Holders.{sameHolder, same-holder-refl, same-holder}
-use Rattle.rules.proofs.order.Ghosts.{Ghost, withNumber, learnedNumbers, roundNumbers, completes, arrivedNumbers, ghostAfter}
+use Rattle.rules.proofs.state.Waiters.{holderIn, found-stands, asked-holder, handed-holder}
+use Rattle.rules.proofs.inorder.Facts.{LinesInOrder}
+use Rattle.rules.proofs.order.Ghosts.{Ghost, withNumber, learnedNumbers, roundNumbers, completes, arrivedNumbers, freedNumbers, grantedNumbers, ghostAfter}
 use Rattle.rules.proofs.order.ActionKinds.{writesTo}
-use Rattle.rules.proofs.order.MarksAfter.{awake-not-arrived, holderAfter, holder-after, arrivedAfter, arrived-after}
+use Rattle.rules.proofs.order.MarksAfter.{awake-not-arrived, linesAfter, holder-after, arrivedAfter, arrived-after}
 use Rattle.rules.proofs.order.Allowed.{Allowed}
 
 -- ---- the numbers with one of them replaced
@@ -54,6 +57,71 @@ learned-at-most f to from m all = with-number-at-most f to (max (f to) (f from))
 learned-grows : (f : Holder → ℕ) (to from k : Holder) → f k ≤ learnedNumbers f to from k
 learned-grows f to from = with-number-grows f to (max (f to) (f from)) (omega arith)
 
+-- ---- a lock that is handed on
+
+-- no number comes above what none was above
+pub freed-at-most : (γ : Ghost) (p l m : ℕ) → ((k : Holder) → γ .known k ≤ m) → (k : Holder) → freedNumbers γ p l k ≤ m
+freed-at-most γ p l m all = with-number-at-most (γ .known) (Lock l) (γ .known (Processor p)) m (all (Processor p)) all
+
+module _ (f : Holder → ℕ) (q l : ℕ) where
+  granted-at-most : (m : ℕ) → ((k : Holder) → f k ≤ m) → (k : Holder) → grantedNumbers f q l k ≤ m
+  unfolding grantedNumbers
+  granted-at-most m all k = go (eqb q 0)
+    where
+      go : (b : Bool) → cond b f (learnedNumbers f (Processor q) (Lock l)) k ≤ m
+      go true = all k
+      go false = learned-at-most f (Processor q) (Lock l) m all k
+
+  -- no number falls
+  pub granted-grows : (k : Holder) → f k ≤ grantedNumbers f q l k
+  unfolding grantedNumbers
+  granted-grows k = go (eqb q 0)
+    where
+      go : (b : Bool) → f k ≤ cond b f (learnedNumbers f (Processor q) (Lock l)) k
+      go true = omega arith
+      go false = learned-grows f (Processor q) (Lock l) k
+
+  -- those of locks and of the barrier stay
+  granted-lock : (i : ℕ) → grantedNumbers f q l (Lock i) ≡ f (Lock i)
+  unfolding grantedNumbers withNumber sameHolder
+  granted-lock i = go (eqb q 0)
+    where
+      go : (b : Bool) → cond b f (learnedNumbers f (Processor q) (Lock l)) (Lock i) ≡ f (Lock i)
+      go true = refl
+      go false = refl
+
+  granted-barrier : grantedNumbers f q l Barrier ≡ f Barrier
+  unfolding grantedNumbers withNumber sameHolder
+  granted-barrier = go (eqb q 0)
+    where
+      go : (b : Bool) → cond b f (learnedNumbers f (Processor q) (Lock l)) Barrier ≡ f Barrier
+      go true = refl
+      go false = refl
+
+  -- and those of other processors
+  granted-other : (r : ℕ) → (r ≡ q → q ≡ 0) → grantedNumbers f q l (Processor r) ≡ f (Processor r)
+  unfolding grantedNumbers withNumber sameHolder
+  granted-other r d = go (eqb q 0) refl
+    where
+      go : (b : Bool) → eqb q 0 ≡ b → cond b f (learnedNumbers f (Processor q) (Lock l)) (Processor r) ≡ f (Processor r)
+      go true e = refl
+      go false e = rw (ne-eqb r q (λ z. eqb-false q 0 e (d z)))
+
+  -- who knew no more than the lock knows no more than it
+  pub granted-at-lock : (r : ℕ) → f (Processor r) ≤ f (Lock l) → grantedNumbers f q l (Processor r) ≤ f (Lock l)
+  unfolding grantedNumbers withNumber sameHolder
+  granted-at-lock r h = go (eqb q 0) (eqb r q) refl
+    where
+      go : (a b : Bool) → eqb r q ≡ b → cond a f (λ k. cond (sameHolder (Processor q) k) (max (f (Processor q)) (f (Lock l))) (f k)) (Processor r) ≤ f (Lock l)
+      go true b e = h
+      go false true e = rw e (rw (← eqb-true r q e) (omega arith))
+      go false false e = rw e h
+
+  -- the new holder knows what the lock knows
+  granted-knows : (q ≡ 0 → ⊥) → f (Lock l) ≤ grantedNumbers f q l (Processor q)
+  unfolding grantedNumbers
+  granted-knows d = rw (ne-eqb q 0 d) (learner-knows f (Processor q) (Lock l))
+
 -- ---- a completed round
 
 round-numbers-at-most : (f : Holder → ℕ) (m : ℕ) → ((k : Holder) → f k ≤ m) → (k : Holder) → roundNumbers f k ≤ m
@@ -86,8 +154,13 @@ module _ (n w : ℕ) (s : State) (p : ℕ) (γ : Ghost) where
       go : (b : Bool) → cond b (withNumber (γ .known) (Processor p) (γ .writes + 1)) (γ .known) h ≤ cond b (γ .writes + 1) (γ .writes)
       go true = with-number-at-most (γ .known) (Processor p) (γ .writes + 1) (γ .writes + 1) (omega arith) (λ i. omega (arith, k .at-most i)) h
       go false = k .at-most h
-  at-most-after k (Acquire l) h = learned-at-most (γ .known) (Processor p) (Lock l) (γ .writes) (k .at-most) h
-  at-most-after k (Release l) h = with-number-at-most (γ .known) (Lock l) (γ .known (Processor p)) (γ .writes) (k .at-most (Processor p)) (k .at-most) h
+  at-most-after k (Acquire l) h = go (eqb (holder s l) 0)
+    where
+      go : (b : Bool) → cond b (learnedNumbers (γ .known) (Processor p) (Lock l)) (γ .known) h ≤ γ .writes
+      go true = learned-at-most (γ .known) (Processor p) (Lock l) (γ .writes) (k .at-most) h
+      go false = k .at-most h
+  at-most-after k (Release l) h =
+      granted-at-most (freedNumbers γ p l) (firstInLine (s .counts .processors) (s .marks) l) l (γ .writes) (freed-at-most γ p l (γ .writes) (k .at-most)) h
   at-most-after k Arrive h = go (completes s p)
     where
       arrived : (i : Holder) → arrivedNumbers γ p i ≤ γ .writes
@@ -108,8 +181,12 @@ module _ (n w : ℕ) (s : State) (p : ℕ) (γ : Ghost) where
       go : (b : Bool) → γ .known (Processor q) ≤ cond b (withNumber (γ .known) (Processor p) (γ .writes + 1)) (γ .known) (Processor q)
       go true = with-number-grows (γ .known) (Processor p) (γ .writes + 1) (omega (arith, k .at-most (Processor p))) (Processor q)
       go false = omega arith
-  processor-grows k (Acquire l) q = learned-grows (γ .known) (Processor p) (Lock l) (Processor q)
-  processor-grows k (Release l) q = omega arith
+  processor-grows k (Acquire l) q = go (eqb (holder s l) 0)
+    where
+      go : (b : Bool) → γ .known (Processor q) ≤ cond b (learnedNumbers (γ .known) (Processor p) (Lock l)) (γ .known) (Processor q)
+      go true = learned-grows (γ .known) (Processor p) (Lock l) (Processor q)
+      go false = omega arith
+  processor-grows k (Release l) q = granted-grows (freedNumbers γ p l) (firstInLine (s .counts .processors) (s .marks) l) l (Processor q)
   processor-grows k Arrive q = go (completes s p)
     where
       go : (b : Bool) → γ .known (Processor q) ≤ cond b (roundNumbers (arrivedNumbers γ p)) (arrivedNumbers γ p) (Processor q)
@@ -127,10 +204,18 @@ module _ (n w : ℕ) (s : State) (p : ℕ) (γ : Ghost) where
       go : (b : Bool) → γ .known (Lock i) ≤ cond b (withNumber (γ .known) (Processor p) (γ .writes + 1)) (γ .known) (Lock i)
       go true = omega arith
       go false = omega arith
-  lock-grows k (Acquire l) al i = omega arith
+  lock-grows k (Acquire l) al i = go (eqb (holder s l) 0)
+    where
+      go : (b : Bool) → γ .known (Lock i) ≤ cond b (learnedNumbers (γ .known) (Processor p) (Lock l)) (γ .known) (Lock i)
+      go true = omega arith
+      go false = omega arith
   lock-grows k (Release l) al i =
       let held : holder s l ≡ p = al .holds l refl in
-      with-number-grows (γ .known) (Lock l) (γ .known (Processor p)) (rw held at (k .holder-knows l (λ e. omega (arith, e, held, al .from)))) (Lock i)
+      omega (
+        arith,
+        with-number-grows (γ .known) (Lock l) (γ .known (Processor p)) (rw held at (k .holder-knows l (λ e. omega (arith, e, held, al .from)))) (Lock i),
+        granted-lock (freedNumbers γ p l) (firstInLine (s .counts .processors) (s .marks) l) l i,
+      )
   lock-grows k Arrive al i = go (completes s p)
     where
       go : (b : Bool) → γ .known (Lock i) ≤ cond b (roundNumbers (arrivedNumbers γ p)) (arrivedNumbers γ p) (Lock i)
@@ -139,9 +224,9 @@ module _ (n w : ℕ) (s : State) (p : ℕ) (γ : Ghost) where
   lock-grows k Want al i = omega arith
   lock-grows k Unknown al i = omega arith
 
-  holder-knows-after : Knowing n s γ → (a : Action) (l : ℕ) → (holderAfter s p a l ≡ 0 → ⊥)
-      → ghostAfter w s p a γ .known (Lock l) ≤ ghostAfter w s p a γ .known (Processor (holderAfter s p a l))
-  unfolding ghostAfter arrivedNumbers withNumber sameHolder roundNumbers holderAfter
+  holder-knows-after : Knowing n s γ → (a : Action) (l : ℕ) → (holderIn (linesAfter s p a) l ≡ 0 → ⊥)
+      → ghostAfter w s p a γ .known (Lock l) ≤ ghostAfter w s p a γ .known (Processor (holderIn (linesAfter s p a) l))
+  unfolding ghostAfter arrivedNumbers withNumber sameHolder roundNumbers linesAfter holder
   holder-knows-after k (Read x) l h = k .holder-knows l h
   holder-knows-after k (Write x v) l h = go (eqb x w) (k .holder-knows l h)
     where
@@ -151,18 +236,32 @@ module _ (n w : ℕ) (s : State) (p : ℕ) (γ : Ghost) where
       go true below =
           omega (arith, below, with-number-grows (γ .known) (Processor p) (γ .writes + 1) (omega (arith, k .at-most (Processor p))) (Processor (holder s l)))
       go false below = below
-  holder-knows-after k (Acquire i) l h = go (eqb l i) refl h
+  holder-knows-after k (Acquire i) l h =
+      rw (asked-holder (s .counts .processors) (s .marks) i p l) (go (eqb (holder s i) 0) (eqb l i) refl (λ e. h (asked-holder (s .counts .processors) (s .marks) i p l ∙ e)))
     where
-      go : (b : Bool) → eqb l i ≡ b → (cond b p (holder s l) ≡ 0 → ⊥)
-          → γ .known (Lock l) ≤ learnedNumbers (γ .known) (Processor p) (Lock i) (Processor (cond b p (holder s l)))
-      go true e h = rw (eqb-true l i e) (learner-knows (γ .known) (Processor p) (Lock i))
-      go false e h = omega (arith, k .holder-knows l h, learned-grows (γ .known) (Processor p) (Lock i) (Processor (holder s l)))
-  holder-knows-after k (Release i) l h = go (eqb l i) h
+      go : (a b : Bool) → eqb l i ≡ b → (cond (a && b) p (holder s l) ≡ 0 → ⊥)
+          → cond a (learnedNumbers (γ .known) (Processor p) (Lock i)) (γ .known) (Lock l)
+          ≤ cond a (learnedNumbers (γ .known) (Processor p) (Lock i)) (γ .known) (Processor (cond (a && b) p (holder s l)))
+      go true true e h = rw (eqb-true l i e) (learner-knows (γ .known) (Processor p) (Lock i))
+      go true false e h = omega (arith, k .holder-knows l h, learned-grows (γ .known) (Processor p) (Lock i) (Processor (holder s l)))
+      go false b e h = k .holder-knows l h
+  holder-knows-after k (Release i) l h =
+      rw (handed-holder (s .counts .processors) (s .marks) i l) (go (eqb l i) refl (λ e. h (handed-holder (s .counts .processors) (s .marks) i l ∙ e)))
     where
-      go : (b : Bool) → (cond b 0 (holder s l) ≡ 0 → ⊥)
-          → cond b (γ .known (Processor p)) (γ .known (Lock l)) ≤ γ .known (Processor (cond b 0 (holder s l)))
-      go true h = absurd (h refl)
-      go false h = k .holder-knows l h
+      q : ℕ
+      q = firstInLine (s .counts .processors) (s .marks) i
+
+      go : (b : Bool) → eqb l i ≡ b → (cond b q (holder s l) ≡ 0 → ⊥)
+          → grantedNumbers (freedNumbers γ p i) q i (Lock l) ≤ grantedNumbers (freedNumbers γ p i) q i (Processor (cond b q (holder s l)))
+      go true e h = rw (eqb-true l i e) (omega (arith, granted-lock (freedNumbers γ p i) q i i, granted-knows (freedNumbers γ p i) q i h))
+      go false e h =
+          omega (
+            arith,
+            granted-lock (freedNumbers γ p i) q i l,
+            with-number-other (γ .known) (Lock i) (γ .known (Processor p)) (Lock l) e,
+            k .holder-knows l h,
+            granted-grows (freedNumbers γ p i) q i (Processor (holder s l)),
+          )
   holder-knows-after k Arrive l h = go (completes s p) (k .holder-knows l h)
     where
       go : (b : Bool) → γ .known (Lock l) ≤ γ .known (Processor (holder s l))
@@ -178,25 +277,44 @@ module _ (n w : ℕ) (s : State) (p : ℕ) (γ : Ghost) where
   unfolding sameHolder
   not-the-taker a al q h = ne-eqb q p (λ e. false≢true (sym (awake-not-arrived s p (al .not-resting)) ∙ (rw e at h)))
 
-  arrived-knows-after : Knowing n s γ → (a : Action) → Allowed n s p a → (q : ℕ) → arrivedAfter s p a q ≡ true
+  -- nor does it wait, so no lock is handed to it
+  not-served : LinesInOrder (s .counts) (s .marks) → (l q : ℕ) → hasArrived s q ≡ true → q ≡ firstInLine (s .counts .processors) (s .marks) l → firstInLine (s .counts .processors) (s .marks) l ≡ 0
+  unfolding hasArrived firstInLine
+  not-served f l zero h e = sym e
+  not-served f l (suc q) h e =
+      let first = found-stands (s .counts .processors) (s .marks) l 0 q (sym e) in
+      absurd (false≢true (sym (f .not-arrived q l (first .0) (first .1)) ∙ h))
+
+  arrived-knows-after : LinesInOrder (s .counts) (s .marks) → Knowing n s γ → (a : Action) → Allowed n s p a → (q : ℕ) → arrivedAfter s p a q ≡ true
       → ghostAfter w s p a γ .known (Processor q) ≤ ghostAfter w s p a γ .known Barrier
   unfolding ghostAfter arrivedNumbers withNumber sameHolder roundNumbers arrivedAfter
-  arrived-knows-after k (Read x) al q h = k .arrived-knows q h
-  arrived-knows-after k (Write x v) al q h = go (eqb x w)
+  arrived-knows-after f k (Read x) al q h = k .arrived-knows q h
+  arrived-knows-after f k (Write x v) al q h = go (eqb x w)
     where
       go : (b : Bool)
           → cond b (withNumber (γ .known) (Processor p) (γ .writes + 1)) (γ .known) (Processor q)
           ≤ cond b (withNumber (γ .known) (Processor p) (γ .writes + 1)) (γ .known) Barrier
       go true = omega (arith, with-number-other (γ .known) (Processor p) (γ .writes + 1) (Processor q) (not-the-taker (Write x v) al q h), k .arrived-knows q h)
       go false = k .arrived-knows q h
-  arrived-knows-after k (Acquire l) al q h =
+  arrived-knows-after f k (Acquire l) al q h = go (eqb (holder s l) 0)
+    where
+      go : (b : Bool)
+          → cond b (learnedNumbers (γ .known) (Processor p) (Lock l)) (γ .known) (Processor q) ≤ cond b (learnedNumbers (γ .known) (Processor p) (Lock l)) (γ .known) Barrier
+      go true =
+          omega (
+            arith,
+            with-number-other (γ .known) (Processor p) (max (γ .known (Processor p)) (γ .known (Lock l))) (Processor q) (not-the-taker (Acquire l) al q h),
+            k .arrived-knows q h,
+          )
+      go false = k .arrived-knows q h
+  arrived-knows-after f k (Release l) al q h =
       omega (
         arith,
-        with-number-other (γ .known) (Processor p) (max (γ .known (Processor p)) (γ .known (Lock l))) (Processor q) (not-the-taker (Acquire l) al q h),
+        granted-other (freedNumbers γ p l) (firstInLine (s .counts .processors) (s .marks) l) l q (not-served f l q h),
+        granted-barrier (freedNumbers γ p l) (firstInLine (s .counts .processors) (s .marks) l) l,
         k .arrived-knows q h,
       )
-  arrived-knows-after k (Release l) al q h = k .arrived-knows q h
-  arrived-knows-after k Arrive al q h = go (completes s p) (eqb q p) refl h
+  arrived-knows-after f k Arrive al q h = go (completes s p) (eqb q p) refl h
     where
       go : (a b : Bool) → eqb q p ≡ b → cond a false (cond b true (hasArrived s q)) ≡ true
           → cond a (roundNumbers (arrivedNumbers γ p)) (arrivedNumbers γ p) (Processor q)
@@ -204,8 +322,8 @@ module _ (n w : ℕ) (s : State) (p : ℕ) (γ : Ghost) where
       go true b e h = absurd (false≢true h)
       go false true e h = rw (eqb-true q p e) (omega arith)
       go false false e h = omega (arith, k .arrived-knows q h)
-  arrived-knows-after k Want al q h = k .arrived-knows q h
-  arrived-knows-after k Unknown al q h = k .arrived-knows q h
+  arrived-knows-after f k Want al q h = k .arrived-knows q h
+  arrived-knows-after f k Unknown al q h = k .arrived-knows q h
 
   -- a step that is no write to w leaves the number of writes
   pub writes-after : (a : Action) → writesTo w a ≡ false → ghostAfter w s p a γ .writes ≡ γ .writes
@@ -230,8 +348,8 @@ module _ (n w : ℕ) (s : State) (p : ℕ) (γ : Ghost) where
   writer-knows Unknown e = absurd (false≢true e)
 
   -- all of it stays
-  pub knowing-after : (lim : Limits) → Knowing n s γ → (a : Action) → Allowed n s p a → Knowing n (effect lim s p a .after) (ghostAfter w s p a γ)
-  knowing-after lim k a al = go (writesTo w a) refl
+  pub knowing-after : (lim : Limits) → LinesInOrder (s .counts) (s .marks) → Knowing n s γ → (a : Action) → Allowed n s p a → Knowing n (effect lim s p a .after) (ghostAfter w s p a γ)
+  knowing-after lim f k a al = go (writesTo w a) refl
     where
       holder-knows : (l : ℕ) → (holder (effect lim s p a .after) l ≡ 0 → ⊥)
           → ghostAfter w s p a γ .known (Lock l) ≤ ghostAfter w s p a γ .known (Processor (holder (effect lim s p a .after) l))
@@ -239,7 +357,7 @@ module _ (n w : ℕ) (s : State) (p : ℕ) (γ : Ghost) where
 
       arrived-knows : (q : ℕ) → hasArrived (effect lim s p a .after) q ≡ true
           → ghostAfter w s p a γ .known (Processor q) ≤ ghostAfter w s p a γ .known Barrier
-      arrived-knows q h = arrived-knows-after k a al q (sym (arrived-after lim s p a q) ∙ h)
+      arrived-knows q h = arrived-knows-after f k a al q (sym (arrived-after lim s p a q) ∙ h)
 
       go : (b : Bool) → writesTo w a ≡ b → Knowing n (effect lim s p a .after) (ghostAfter w s p a γ)
       go true e =

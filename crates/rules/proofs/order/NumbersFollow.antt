@@ -1,33 +1,76 @@
 -- The numbers of known writes (ghosts) follow happens-before-1, so a processor whose step every earlier write to w is before knows all of
 -- them. Rests on Carrying and Numbers. Assumes nothing.
-use Prim.Native.Nat.{ℕ, zero, suc, _≤_}
+use Prim.Native.Nat.{ℕ, zero, suc, _≤_, _<_}
 use native.Mathlib.Omega.{arith}
+use native.Mathlib.Decide.{ℕ-discrete}
 use mathlib.Core.Path.{_≡_, refl, sym, ap, _∙_}
-use mathlib.Core.Bool.{Bool, true, false, cond}
+use mathlib.Core.Bool.{Bool, true, false, cond, not, false≢true}
 use mathlib.Core.Logic.{_⊎_, inl, inr}
 use mathlib.Core.List.{List}
-use Rattle.rules.specs.State.{Limits, Counts, Processor, Lock, State}
+use lib.ListN.{getD}
+use lib.Dec.{eqb}
+use borrow.Author.Tests.{eq-eqb}
+use Rattle.lists.proofs.Tables.{get-put}
+use Rattle.rules.specs.State.{Limits, Counts, Processor, Lock, Marks, withHolder, State, holder}
+use Rattle.rules.specs.Lines.{waits, firstInLine, withoutWaiter, lockHanded}
 use Rattle.rules.specs.Refusals.{Action, Read, Write, Acquire, Release, Arrive, Want, Unknown}
-use Rattle.rules.specs.Order.{Event, eventAt, Took, Before}
+use Rattle.rules.specs.Order.{Event, eventAt, Took, Serves, Before}
 use Rattle.rules.specs.Demand.{valueField, lastWritten, EarlierWrite}
 use Rattle.rules.proofs.state.Holders.{sameHolder}
-use Rattle.rules.proofs.order.Timeline.{Timeline, Moment, Refused, Taken, moment}
-use Rattle.rules.proofs.order.Ghosts.{Ghost, withNumber, ghostAfter, ghostAt, ghost-refused, ghost-taken}
-use Rattle.rules.proofs.order.ActionKinds.{writesTo, storedBy, writes-to-is, took-write, refused-write, took-value}
-use Rattle.rules.proofs.order.NumbersAfter.{with-number-same, learner-knows, writes-after, writer-knows}
-use Rattle.rules.proofs.order.Numbers.{known-at-most-writes, processor-never-falls, lock-never-falls, round-tells}
+use Rattle.rules.proofs.state.Waiters.{awaits, turnAt, waiter-waits}
+use Rattle.rules.proofs.order.Timeline.{Timeline, course-of, Moment, Refused, Taken, moment, effect-of, counts-stay}
+use Rattle.rules.proofs.order.Ghosts.{Ghost, withNumber, freedNumbers, ghostAfter, ghostAt, ghost-refused, ghost-taken}
+use Rattle.rules.proofs.order.ActionKinds.{isAcquire, writesTo, storedBy, writes-to-is, took-write, refused-write, took-value}
+use Rattle.rules.proofs.order.MarksAfter.{awake-not-waiting, linesAfter, lines-after}
+use Rattle.rules.proofs.order.Allowed.{took-allowed}
+use Rattle.rules.proofs.order.Turns.{waits-or-holds}
+use Rattle.rules.proofs.order.Grants.{waits-behind, served-holds}
+use Rattle.rules.proofs.order.NumbersAfter.{with-number-same, learner-knows, granted-grows, granted-at-lock, writes-after, writer-knows}
+use Rattle.rules.proofs.order.Numbers.{knowing, known-at-most-writes, processor-never-falls, lock-never-falls, round-tells}
 use Rattle.rules.proofs.order.Carrying.{Telling, told-at-once, carries-strictly}
+
+-- ---- who waits
+
+-- processor q, one of the n, waits for lock l
+record Awaits (n : ℕ) (m : Marks) (q l : ℕ) : Type 0 where
+  place : ℕ
+  is : q ≡ suc place
+  there : place < n
+  for-lock : awaits m place ≡ suc l
+
+-- of its own steps only an acquire makes a processor wait
+awake-after : (s : State) (p : ℕ) (a : Action) → isAcquire a ≡ false → waits (s .marks) p ≡ false → waits (linesAfter s p a) p ≡ false
+unfolding linesAfter isAcquire waits lockHanded withHolder withoutWaiter
+awake-after s p (Read x) e h = h
+awake-after s p (Write x v) e h = h
+awake-after s p (Acquire l) e h = absurd (false≢true (sym e))
+awake-after s p (Release l) e h = rw (get-put 0 (s .marks .awaited) (firstInLine (s .counts .processors) (s .marks) l) p 0) (go (eqb p (firstInLine (s .counts .processors) (s .marks) l)))
+  where
+    go : (b : Bool) → not (eqb (cond b 0 (getD (s .marks .awaited) p 0)) 0) ≡ false
+    go true = refl
+    go false = h
+awake-after s p Arrive e h = h
+awake-after s p Want e h = h
+awake-after s p Unknown e h = h
 
 -- ---- what a release and an acquire hand on
 
 module _ (w : ℕ) (s : State) (p : ℕ) (γ : Ghost) where
   release-hands-on : (l : ℕ) → ghostAfter w s p (Release l) γ .known (Processor p) ≤ ghostAfter w s p (Release l) γ .known (Lock l)
-  unfolding ghostAfter withNumber sameHolder
-  release-hands-on l = omega (arith, with-number-same (γ .known) (Lock l) (γ .known (Processor p)))
-
-  acquire-takes-over : (l : ℕ) → γ .known (Lock l) ≤ ghostAfter w s p (Acquire l) γ .known (Processor p)
   unfolding ghostAfter
-  acquire-takes-over l = learner-knows (γ .known) (Processor p) (Lock l)
+  release-hands-on l =
+      omega (
+        arith,
+        granted-at-lock (freedNumbers γ p l) (firstInLine (s .counts .processors) (s .marks) l) l p mine,
+        granted-grows (freedNumbers γ p l) (firstInLine (s .counts .processors) (s .marks) l) l (Lock l),
+      )
+    where
+      mine : freedNumbers γ p l (Processor p) ≤ freedNumbers γ p l (Lock l)
+      mine = unfold withNumber sameHolder in omega (arith, with-number-same (γ .known) (Lock l) (γ .known (Processor p)))
+
+  acquire-takes-over : (l : ℕ) → holder s l ≡ 0 → γ .known (Lock l) ≤ ghostAfter w s p (Acquire l) γ .known (Processor p)
+  unfolding ghostAfter
+  acquire-takes-over l e = rw (eq-eqb (holder s l) 0 e) (learner-knows (γ .known) (Processor p) (Lock l))
 
   -- the last value after a step
   last-after : (a : Action) → ghostAfter w s p a γ .last ≡ cond (writesTo w a) (valueField (storedBy a)) (γ .last)
@@ -50,25 +93,73 @@ module _ (lim : Limits) (c : Counts) (es : List Event) (r : Timeline lim c es) (
   abbrev lockKnown : ℕ → ℕ → ℕ
   lockKnown t l = ghostAt lim c es r w t .known (Lock l)
 
-  -- nobody waits: the acquire of a held lock is refused
-  abbrev waits : ℕ → ℕ → Bool
-  waits t q = false
+  -- whether a processor waits then, and for which lock
+  abbrev waitsAt : ℕ → ℕ → Bool
+  waitsAt t q = waits (r .state t .marks) q
 
   abbrev WaitsFor : ℕ → ℕ → ℕ → Type 0
-  WaitsFor t q l = ⊥
+  WaitsFor t q l = Awaits (c .processors) (r .state t .marks) q l
+
+  -- the holder of a lock knows what the lock knows
+  holder-told : (t q l : ℕ) → 1 ≤ q → holder (r .state t) l ≡ q → lockKnown t l ≤ known t q
+  holder-told t q l from e = rw e at (knowing lim c es r w t .holder-knows l (λ z. omega (arith, z, e, from)))
+
+  stays-awake : (t p : ℕ) (a : Action) → Took es t p a → isAcquire a ≡ false → waitsAt (suc t) p ≡ false
+  unfolding waits
+  stays-awake t p a took e =
+      rw (effect-of lim es (r .state) (course-of lim c es r) t p a took, lines-after lim (r .state t) p a .awaited)
+      (awake-after (r .state t) p a e (awake-not-waiting (r .state t) p (took-allowed lim c es r t p a took .not-resting)))
+
+  release-tells : (t p l : ℕ) → Took es t p (Release l) → known (suc t) p ≤ lockKnown (suc t) l
+  release-tells t p l took = rw (known, lockKnown, ghost-taken lim c es r w t p (Release l) took) (release-hands-on w (r .state t) p (ghostAt lim c es r w t) l)
+
+  acquire-told : (t q l : ℕ) → Took es t q (Acquire l) → WaitsFor (suc t) q l ⊎ (lockKnown t l ≤ known (suc t) q)
+  acquire-told t zero l took = absurd (omega (arith, took-allowed lim c es r t zero (Acquire l) took .from))
+  acquire-told t (suc k) l took = go (ℕ-discrete (holder (r .state t) l) 0)
+    where
+      go : Dec (holder (r .state t) l ≡ 0) → WaitsFor (suc t) (suc k) l ⊎ (lockKnown t l ≤ known (suc t) (suc k))
+      go (yes e) = inr (rw (known, lockKnown, ghost-taken lim c es r w t (suc k) (Acquire l) took) (acquire-takes-over w (r .state t) (suc k) (ghostAt lim c es r w t) l e))
+      go (no e) =
+          inl
+          (record {
+            place = k;
+            is = refl;
+            there = took-allowed lim c es r t (suc k) (Acquire l) took .to;
+            for-lock = waits-behind lim c es r l t k took (unfold holder in e) .for-lock;
+          })
+
+  waiting-told : (t q l : ℕ) → WaitsFor t q l → WaitsFor (suc t) q l ⊎ (lockKnown t l ≤ known (suc t) q)
+  waiting-told t q l v = go (waits-or-holds lim es (r .state) (course-of lim c es r) l (v .place) t (turnAt (r .state t .marks) (v .place)) there (record { for-lock = v .for-lock; turn = refl }))
+    where
+      there : v .place < r .state 0 .counts .processors
+      there = rw (ap (λ (k : Counts). k .processors) (counts-stay lim c es r 0)) (v .there)
+
+      go : (awaits (r .state (suc t) .marks) (v .place) ≡ suc l) ⊎ (holder (r .state (suc t)) l ≡ suc (v .place)) → WaitsFor (suc t) q l ⊎ (lockKnown t l ≤ known (suc t) q)
+      go (inl e) = inl (record { place = v .place; is = v .is; there = v .there; for-lock = e })
+      go (inr e) =
+          inr (omega (arith, lock-never-falls lim c es r w l t (suc t) (omega arith), holder-told (suc t) q l (omega (arith, v .is)) (e ∙ sym (v .is))))
+
+  grant-tells : (i p a q l : ℕ) → Serves es l i p a q → known (suc i) p ≤ known (suc i) q
+  grant-tells i p a q l serves =
+      omega (
+        arith,
+        release-tells i p l (serves .release),
+        holder-told (suc i) q l (took-allowed lim c es r a q (Acquire l) (serves .acquire) .from) (served-holds lim c es r l i p a q serves),
+      )
 
   -- the numbers of known writes are told along the order
-  numbers-tell : Telling (c .processors) es known lockKnown waits WaitsFor
+  numbers-tell : Telling (c .processors) es known lockKnown waitsAt WaitsFor
   numbers-tell =
       record {
         grows = λ q t. processor-never-falls lim c es r w q t (suc t) (omega arith);
         lock-grows = λ l t. lock-never-falls lim c es r w l t (suc t) (omega arith);
-        acts-awake = λ t p a took. refl;
-        stays-awake = λ t p a took e. refl;
-        release-tells = λ t p l took. rw (known, lockKnown, ghost-taken lim c es r w t p (Release l) took) (release-hands-on w (r .state t) p (ghostAt lim c es r w t) l);
-        acquire-told = λ t q l took. inr (rw (known, lockKnown, ghost-taken lim c es r w t q (Acquire l) took) (acquire-takes-over w (r .state t) q (ghostAt lim c es r w t) l));
-        waiting-told = λ t q l z. absurd z;
-        waits-for = λ t q l z. absurd z;
+        acts-awake = λ t p a took. awake-not-waiting (r .state t) p (took-allowed lim c es r t p a took .not-resting);
+        stays-awake = stays-awake;
+        release-tells = release-tells;
+        acquire-told = acquire-told;
+        waiting-told = waiting-told;
+        waits-for = λ t q l v. ap (waits (r .state t .marks)) (v .is) ∙ waiter-waits (r .state t .marks) (v .place) l (v .for-lock);
+        grant-tells = grant-tells;
         round-tells = round-tells lim c es r w;
       }
 

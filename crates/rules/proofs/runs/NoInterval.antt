@@ -1,5 +1,5 @@
--- A processor that stores in a word the value that the word has, and releases, makes no interval: bench case F in any state and for any
--- limits. Assumes nothing.
+-- A processor that stores in a word the value that the word has, and releases, makes no interval: bench case F in any state in order and for any
+-- limits. The release may hand its lock to a waiter, which then learns, but no own entry rises. Rests on KeptLocks. Assumes nothing.
 use Prim.Native.Nat.{ℕ, zero, suc, _%_}
 use native.Mathlib.Decide.{ℕ-discrete}
 use mathlib.Core.Path.{_≡_, refl, sym, ap, _∙_}
@@ -8,20 +8,26 @@ use mathlib.Core.List.{List, [], _∷_}
 use lib.ListN.{set}
 use lib.Seq.{set-getD}
 use lib.Dec.{eqb}
-use borrow.Author.Tests.{eq-eqb}
+use borrow.Author.Tests.{eqb-true, eq-eqb}
 use Rattle.lists.specs.Tables.{any}
-use Rattle.rules.specs.State.{Limits, withClock, Pages, copyOf, twinOf, dirtyAt, State}
+use Rattle.rules.specs.State.{Limits, clockOf, withClock, Pages, copyOf, twinOf, dirtyAt, State, clock, own}
+use Rattle.rules.specs.InOrder.{present}
 use Rattle.rules.specs.Close.{differ, changed, anyChanged, ticked, recorded, closed}
 use Rattle.rules.specs.Fetch.{withCopy, fetched}
 use Rattle.rules.specs.Steps.{pageOfWord, offsetOfWord, wordOf, write, release}
 use Rattle.rules.specs.Refusals.{actionOf, refusalInOrder, effect, nextInOrder}
 use Rattle.rules.specs.Runs.{stateInOrder}
+use Rattle.rules.proofs.inorder.Facts.{InOrder}
+use Rattle.rules.proofs.inorder.KeptParts.{ownIn, parts-of}
+use Rattle.rules.proofs.inorder.Accepted.{accepted-says, release-there}
+use Rattle.rules.proofs.inorder.KeptLocks.{release-moves, release-intervals}
+use Rattle.rules.proofs.inorder.Kept.{next-keeps-order}
 use Rattle.rules.proofs.invariant.InvStore.{storedPages, stored-copy, stored-dirty, stored-dirty-elsewhere, stored-twin-clean}
 use Rattle.rules.proofs.runs.Listing.{writes, releases}
 
--- no interval is made from one state to another: no processor's clock has risen, no clock of an interval is kept, no record is added
+-- no interval is made from one state to another: no processor's own entry has risen, no clock of an interval is kept, no record is added
 pub record NoInterval (s s′ : State) : Type 0 where
-  pub processors : s′ .clocks .processors ≡ s .clocks .processors
+  pub own-entries : (q : ℕ) → own s′ q ≡ own s q
   pub intervals : s′ .clocks .intervals ≡ s .clocks .intervals
   pub records : s′ .records ≡ s .records
 
@@ -42,11 +48,11 @@ recorded-none s p (suc g) h = rw (h g) (recorded-none s p g h)
 
 -- "Otherwise no interval is made"
 pub close-without-change : (s : State) (p : ℕ) → ((g : ℕ) → changed s p g ≡ false) → NoInterval s (closed s p)
-unfolding closed anyChanged
+unfolding closed anyChanged own clock
 close-without-change s p h =
     let none-changed : any (s .counts .pages) (changed s p) ≡ false = any-fails (s .counts .pages) (changed s p) h in
     record {
-      processors = ap (λ (b : Bool). cond b (ticked s p) (s .clocks) .processors) none-changed;
+      own-entries = λ q. ap (λ (b : Bool). ownIn (cond b (ticked s p) (s .clocks)) q) none-changed;
       intervals = ap (λ (b : Bool). cond b (ticked s p) (s .clocks) .intervals) none-changed;
       records = recorded-none s p (s .counts .pages) h;
     }
@@ -55,19 +61,26 @@ close-without-change s p h =
 
 no-interval-chain : (s s₁ s₂ : State) → NoInterval s s₁ → NoInterval s₁ s₂ → NoInterval s s₂
 no-interval-chain s s₁ s₂ a b =
-    record { processors = b .processors ∙ a .processors; intervals = b .intervals ∙ a .intervals; records = b .records ∙ a .records }
+    record { own-entries = λ q. b .own-entries q ∙ a .own-entries q; intervals = b .intervals ∙ a .intervals; records = b .records ∙ a .records }
 
 -- a release, accepted or not, of a processor that has changed nothing
-release-without-change : (lim : Limits) (s : State) (p l : ℕ) → ((g : ℕ) → changed s p g ≡ false) → NoInterval s (nextInOrder lim s (releases p l))
-unfolding nextInOrder actionOf effect release withClock
-release-without-change lim s p l h = go (eqb (refusalInOrder lim s (releases p l)) 0) (close-without-change s p h)
+release-without-change : (lim : Limits) (s : State) (p l : ℕ) → InOrder lim s → ((g : ℕ) → changed s p g ≡ false) → NoInterval s (nextInOrder lim s (releases p l))
+unfolding nextInOrder actionOf effect present release own clock
+release-without-change lim s p l o h = go (eqb (refusalInOrder lim s (releases p l)) 0) refl (close-without-change s p h)
   where
-    go : (b : Bool) → NoInterval s (closed s p) → NoInterval s (cond b (release s p l) s)
-    go true c = record { processors = c .processors; intervals = c .intervals; records = c .records }
-    go false c = record { processors = refl; intervals = refl; records = refl }
+    go : (b : Bool) → eqb (refusalInOrder lim s (releases p l)) 0 ≡ b → NoInterval s (closed s p) → NoInterval s (cond b (release s p l) s)
+    go true e c =
+        let acc = accepted-says lim s (releases p l) (eqb-true (refusalInOrder lim s (releases p l)) 0 e) in
+        let there = release-there lim s (releases p l) l refl acc in
+        record {
+          own-entries = λ q. release-moves lim s p l (parts-of lim s o) (acc .processor-present) there .own-kept q ∙ c .own-entries q;
+          intervals = release-intervals s p l ∙ c .intervals;
+          records = c .records;
+        }
+    go false e c = record { own-entries = λ q. refl; intervals = refl; records = refl }
 
 -- a store of the value that the word has, by a processor all of whose pages are clean
-module _ (lim : Limits) (s : State) (p w v : ℕ) (clean : (g : ℕ) → dirtyAt (s .pages) p g ≡ false)
+module _ (lim : Limits) (s : State) (p w v : ℕ) (o : InOrder lim s) (clean : (g : ℕ) → dirtyAt (s .pages) p g ≡ false)
     (same : wordOf lim (fetched lim s p (pageOfWord lim w)) p w ≡ v % 4294967296) where
   unchanged : (g : ℕ) → changed (write lim s p w v .after) p g ≡ false
   unfolding changed write wordOf
@@ -93,16 +106,16 @@ module _ (lim : Limits) (s : State) (p w v : ℕ) (clean : (g : ℕ) → dirtyAt
       go (no e) = rw (stored-dirty-elsewhere lim m p w v p g (λ same. e), still-clean g)
 
   store-makes-none : NoInterval s (write lim s p w v .after)
-  unfolding write fetched withClock
-  store-makes-none = record { processors = refl; intervals = refl; records = refl }
+  unfolding write fetched withClock own clock clockOf
+  store-makes-none = record { own-entries = λ q. refl; intervals = refl; records = refl }
 
   -- storing a word's own value and releasing makes no interval, whether the steps are accepted or not
   pub store-and-release : (l : ℕ) → NoInterval s (stateInOrder lim s (writes p w v ∷ releases p l ∷ []))
   unfolding stateInOrder nextInOrder actionOf effect changed
-  store-and-release l = go (eqb (refusalInOrder lim s (writes p w v)) 0)
+  store-and-release l = go (eqb (refusalInOrder lim s (writes p w v)) 0) (next-keeps-order lim s (writes p w v) o)
     where
-      go : (b : Bool) → NoInterval s (nextInOrder lim (cond b (write lim s p w v .after) s) (releases p l))
-      go true =
+      go : (b : Bool) → InOrder lim (cond b (write lim s p w v .after) s) → NoInterval s (nextInOrder lim (cond b (write lim s p w v .after) s) (releases p l))
+      go true kept =
           no-interval-chain s (write lim s p w v .after) (nextInOrder lim (write lim s p w v .after) (releases p l)) store-makes-none
-          (release-without-change lim (write lim s p w v .after) p l unchanged)
-      go false = release-without-change lim s p l (λ g. rw (clean g))
+          (release-without-change lim (write lim s p w v .after) p l kept unchanged)
+      go false kept = release-without-change lim s p l o (λ g. rw (clean g))

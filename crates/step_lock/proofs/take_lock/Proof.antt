@@ -6,4 +6,4 @@ use Rattle.step_lock.proofs.take_lock.Tie as tie
 pub take-lock-spec : {M : Type 1} → statement M
 take-lock-spec =
     tie.close
-    (tie.spec (λ c κs. search lock-laws) (λ c κs. search lock-laws) (λ c κs. search lock-laws) (λ c. search lock-laws) (λ c. search lock-laws) (λ c. search lock-laws))
+    (tie.spec (λ c κs. search lock-laws) (λ c κs. search lock-laws) (λ c. search lock-laws) (λ c. search lock-laws) (λ c. search lock-laws) (λ c. search lock-laws) (λ c. search lock-laws))

@@ -6,4 +6,4 @@ use Rattle.layout.proofs.marks.put_standing_count.Tie as tie
 pub put-standing-count-spec : {M : Type 1} → statement M
 put-standing-count-spec =
     tie.close
-    (tie.spec (λ c. search mark-laws) (λ c. search mark-laws) (λ c. search mark-laws) (λ c. search mark-laws))
+    (tie.spec (λ c. search mark-laws) (λ c. search mark-laws) (λ c. search mark-laws) (λ c. search mark-laws) (λ c. search mark-laws) (λ c. search mark-laws))

@@ -6,4 +6,4 @@ use Rattle.layout.proofs.marks.standing_count.Tie as tie
 pub standing-count-spec : {M : Type 1} → statement M
 standing-count-spec =
     tie.close
-    (tie.spec (λ c. search mark-laws) (λ c κs. search mark-laws) (λ c. search mark-laws))
+    (tie.spec (λ c. search mark-laws) (λ c κs. search mark-laws) (λ c. search mark-laws) (λ c κs. search mark-laws) (λ c. search mark-laws) (λ c. search mark-laws) (λ c. search mark-laws))
