@@ -11,7 +11,7 @@ use Rattle.clock.specs.Clocks.{zeros}
 use Rattle.diff.specs.Format.{written}
 use Rattle.diff.specs.Reading.{readRefusal}
 use Rattle.diff.proofs.Cases.{CaseG, case-G, case-H, case-I, case-J, case-K, case-L}
-use Rattle.rules.specs.State.{Limits, mainframe, dirtyAt, State, clock, own, standing, hasArrived}
+use Rattle.rules.specs.State.{mainframe, dirtyAt, State, clock, own, standing, hasArrived}
 use Rattle.rules.specs.InOrder.{inRange, countsInRange, inOrder}
 use Rattle.rules.specs.Fetch.{fetched}
 use Rattle.rules.specs.Steps.{pageOfWord, wordOf, write}

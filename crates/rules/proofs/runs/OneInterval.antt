@@ -15,7 +15,7 @@ use Rattle.lists.specs.Tables.{any}
 use Rattle.lists.proofs.Tables.{any-holds}
 use Rattle.diff.specs.Format.{written}
 use Rattle.diff.proofs.Theorems.{equal-pages}
-use Rattle.rules.specs.State.{Limits, clockOf, withClock, Pages, copyOf, twinOf, dirtyAt, Record, Records, appended, State, clock, own}
+use Rattle.rules.specs.State.{Limits, clockOf, withClock, Pages, copyOf, twinOf, dirtyAt, Records, appended, State, clock, own}
 use Rattle.rules.specs.InOrder.{present}
 use Rattle.rules.specs.Close.{anyDirty, ticked, newRecord, recorded, closed}
 use Rattle.rules.specs.Fetch.{withCopy, fetched}
@@ -28,7 +28,7 @@ use Rattle.rules.proofs.inorder.Accepted.{accepted-says, write-on-page,
 use Rattle.rules.proofs.inorder.KeptRounds.{own-ticked-same, own-ticked-other}
 use Rattle.rules.proofs.inorder.KeptLocks.{release-moves, release-intervals}
 use Rattle.rules.proofs.inorder.Kept.{next-keeps-order}
-use Rattle.rules.proofs.invariant.InvStore.{storedPages, stored-copy, stored-dirty, stored-dirty-elsewhere, stored-twin-clean}
+use Rattle.rules.proofs.invariant.InvStore.{stored-copy, stored-dirty, stored-dirty-elsewhere, stored-twin-clean}
 use Rattle.rules.proofs.runs.Listing.{writes, releases}
 
 -- no interval is made from one state to another: no processor's own entry has risen, no clock of an interval is kept, no record is added
