@@ -88,13 +88,7 @@ fn close_dirty(
 }
 
 // The records of all dirty pages, upwards.
-fn record_pages(
-    p: ProcessorId,
-    clocks: &[u8],
-    words: &[u32],
-    records: &mut [u8],
-    marks: &mut [u8],
-)
+fn record_pages(p: ProcessorId, clocks: &[u8], words: &[u32], records: &mut [u8], marks: &mut [u8])
     requires { ⌜ ActsDirty (now clocks) (now words) (now records) (now marks) (p .0) ⌝ }
     ensures { λ _. ⌜ Holds (now (clocks .entry)) (now (words .entry)) (now (records .exit)) (now (marks .exit)) (allRecorded (stateIn mainframe (now (clocks .entry)) (now (words .entry)) (now (records .entry)) (now (marks .entry))) (p .0)) ⌝ }
 {
