@@ -25,7 +25,7 @@ use Rattle.rules.proofs.InOrderRuns.{refusal-is-not-one, state-in-order
 use Rattle.rules.proofs.runs.Listing.{writes, acquires, releases, arrives, start, answering}
 use Rattle.rules.proofs.runs.BenchFaults.{stepsC, computed-C, computed-clock-of-3}
 use Rattle.rules.proofs.runs.FromStart.{answers-from-start, state-from-start}
-use Rattle.rules.proofs.runs.OneInterval.{NoInterval, OneInterval, pageBefore, pageAfter, release-without-store, store-and-release, equal-store}
+use Rattle.rules.proofs.runs.OneInterval.{NoInterval, OneInterval, pageFetched, pageStored, release-without-store, store-and-release, equal-store}
 use Rattle.rules.proofs.runs.StoredCases.{StoredValues, accepted, stepsB, case-B, stepsUnderLock, answersUnderLock, case-D, case-E}
 
 -- "storing 0 over 0 and releasing"
@@ -46,9 +46,9 @@ pub record CaseF : Type 0 where
   pub records : standing (stateAfter mainframe (start 1 1 1) stepsF) ≡ record { processor = 1; interval = 1; page = 0; diff = 0 ∷ [] } ∷ []
   pub in-any-state : (s : State) (p w v l : ℕ) → ((g : ℕ) → dirtyAt (s .pages) p g ≡ false) → refusal mainframe s (writes p w v) ≡ 0
       → refusal mainframe (next mainframe s (writes p w v)) (releases p l) ≡ 0
-      → OneInterval s (stateAfter mainframe s (writes p w v ∷ releases p l ∷ [])) p (pageOfWord mainframe w) (written (pageBefore mainframe s p w) (pageAfter mainframe s p w v))
+      → OneInterval s (stateAfter mainframe s (writes p w v ∷ releases p l ∷ [])) p (pageOfWord mainframe w) (written (pageFetched mainframe s p w) (pageStored mainframe s p w v))
   pub same-value : (s : State) (p w v : ℕ) → wordOf mainframe (fetched mainframe s p (pageOfWord mainframe w)) p w ≡ v % 4294967296
-      → written (pageBefore mainframe s p w) (pageAfter mainframe s p w v) ≡ 0 ∷ []
+      → written (pageFetched mainframe s p w) (pageStored mainframe s p w v) ≡ 0 ∷ []
   pub nothing-dirty : (s : State) (p l : ℕ) → ((g : ℕ) → dirtyAt (s .pages) p g ≡ false) → NoInterval s (next mainframe s (releases p l))
 
 -- "M: one card's arrival completes its round": its mark is clear, the round is counted, and it may arrive again
@@ -131,7 +131,7 @@ accepted-in-order s t e = go (inOrder mainframe s) refl e
 -- a store of any value and a release, both accepted
 stored-and-released : (s : State) (p w v l : ℕ) → ((g : ℕ) → dirtyAt (s .pages) p g ≡ false) → refusal mainframe s (writes p w v) ≡ 0
     → refusal mainframe (next mainframe s (writes p w v)) (releases p l) ≡ 0
-    → OneInterval s (stateAfter mainframe s (writes p w v ∷ releases p l ∷ [])) p (pageOfWord mainframe w) (written (pageBefore mainframe s p w) (pageAfter mainframe s p w v))
+    → OneInterval s (stateAfter mainframe s (writes p w v ∷ releases p l ∷ [])) p (pageOfWord mainframe w) (written (pageFetched mainframe s p w) (pageStored mainframe s p w v))
 stored-and-released s p w v l clean e f =
     let o = accepted-in-order s (writes p w v) e in
     let fine : refusalInOrder mainframe s (writes p w v) ≡ 0 = sym (refusal-is-not-one mainframe s (writes p w v) (in-order-when mainframe s o)) ∙ e in

@@ -125,11 +125,11 @@ release-noting lim s s₁ p g l d o e c =
     })
 
 -- the page of a store before it, and after it
-abbrev pub pageBefore : Limits → State → ℕ → ℕ → List ℕ
-pageBefore lim s p w = copyOf (fetched lim s p (pageOfWord lim w) .pages) p (pageOfWord lim w)
+abbrev pub pageFetched : Limits → State → ℕ → ℕ → List ℕ
+pageFetched lim s p w = copyOf (fetched lim s p (pageOfWord lim w) .pages) p (pageOfWord lim w)
 
-abbrev pub pageAfter : Limits → State → ℕ → ℕ → ℕ → List ℕ
-pageAfter lim s p w v = set (pageBefore lim s p w) (offsetOfWord lim w) (v % 4294967296)
+abbrev pub pageStored : Limits → State → ℕ → ℕ → ℕ → List ℕ
+pageStored lim s p w v = set (pageFetched lim s p w) (offsetOfWord lim w) (v % 4294967296)
 
 -- an accepted store by a processor all of whose pages are clean
 module _ (lim : Limits) (s : State) (p w v : ℕ) (o : InOrder lim s) (clean : (g : ℕ) → dirtyAt (s .pages) p g ≡ false) (fine : refusalInOrder lim s (writes p w v) ≡ 0) where
@@ -137,7 +137,7 @@ module _ (lim : Limits) (s : State) (p w v : ℕ) (o : InOrder lim s) (clean : (
   page = pageOfWord lim w
 
   -- the store makes no interval, and its page alone is dirty then
-  written-closed : OneInterval s (closed (write lim s p w v .after) p) p page (written (pageBefore lim s p w) (pageAfter lim s p w v))
+  written-closed : OneInterval s (closed (write lim s p w v .after) p) p page (written (pageFetched lim s p w) (pageStored lim s p w v))
   unfolding write fetched withClock own clock clockOf ticked actionOf
   written-closed =
       let acc = accepted-says lim s (writes p w v) fine in
@@ -156,14 +156,14 @@ module _ (lim : Limits) (s : State) (p w v : ℕ) (o : InOrder lim s) (clean : (
       others : (g : ℕ) → (g ≡ page → ⊥) → dirtyAt (write lim s p w v .after .pages) p g ≡ false
       others g e = unfold write in stored-dirty-elsewhere lim m p w v p g (λ same. e) ∙ still-clean g
 
-      diffs : written (twinOf (write lim s p w v .after .pages) p page) (copyOf (write lim s p w v .after .pages) p page) ≡ written (pageBefore lim s p w) (pageAfter lim s p w v)
+      diffs : written (twinOf (write lim s p w v .after .pages) p page) (copyOf (write lim s p w v .after .pages) p page) ≡ written (pageFetched lim s p w) (pageStored lim s p w v)
       diffs = unfold write in ap₂ written (stored-twin-clean lim m p w v (still-clean page)) (stored-copy lim m p w v)
 
   -- a store of any value and a release make exactly one interval, with exactly one record
   pub store-and-release : (l : ℕ) → refusalInOrder lim (write lim s p w v .after) (releases p l) ≡ 0
-      → OneInterval s (stateInOrder lim s (writes p w v ∷ releases p l ∷ [])) p page (written (pageBefore lim s p w) (pageAfter lim s p w v))
+      → OneInterval s (stateInOrder lim s (writes p w v ∷ releases p l ∷ [])) p page (written (pageFetched lim s p w) (pageStored lim s p w v))
   unfolding stateInOrder
-  store-and-release l e = rw stored (release-noting lim s (write lim s p w v .after) p page l (written (pageBefore lim s p w) (pageAfter lim s p w v)) kept e written-closed)
+  store-and-release l e = rw stored (release-noting lim s (write lim s p w v .after) p page l (written (pageFetched lim s p w) (pageStored lim s p w v)) kept e written-closed)
     where
       stored : nextInOrder lim s (writes p w v) ≡ write lim s p w v .after
       stored = unfold nextInOrder actionOf effect in rw fine
@@ -172,7 +172,7 @@ module _ (lim : Limits) (s : State) (p w v : ℕ) (o : InOrder lim s) (clean : (
       kept = rw stored at (next-keeps-order lim s (writes p w v) o)
 
 -- the diff of a store of the value that the word has is the one byte 0
-pub equal-store : (lim : Limits) (s : State) (p w v : ℕ) → wordOf lim (fetched lim s p (pageOfWord lim w)) p w ≡ v % 4294967296 → written (pageBefore lim s p w) (pageAfter lim s p w v) ≡ 0 ∷ []
+pub equal-store : (lim : Limits) (s : State) (p w v : ℕ) → wordOf lim (fetched lim s p (pageOfWord lim w)) p w ≡ v % 4294967296 → written (pageFetched lim s p w) (pageStored lim s p w v) ≡ 0 ∷ []
 unfolding wordOf
 equal-store lim s p w v same =
     let page : List ℕ = copyOf (fetched lim s p (pageOfWord lim w) .pages) p (pageOfWord lim w) in
