@@ -11,6 +11,8 @@ pub const PAGE_WIDTH: usize = 32;
 pub const LOCK_LIMIT: usize = 16;
 
 pub const RECORD_LIMIT: usize = 128;
+
+pub const TALLY_LIMIT: usize = 16;
 // The intervals of a processor.
 pub const INTERVAL_LIMIT: usize = 63;
 // The same as a byte, as clocks have it.
