@@ -79,7 +79,10 @@ pub const FIRST_TURN: usize = FIRST_AWAITED + PROCESSOR_LIMIT;
 // The four areas.
 pub const CLOCK_AREA: usize = CLOCK_WIDTH * CLOCK_ROW_LIMIT;
 
-pub const WORD_AREA: usize = PAGE_WIDTH * WORD_ROW_LIMIT;
+// The words of the pages, and behind them the tallies: of each the posted total, then the adds of each processor.
+pub const FIRST_TALLY: usize = PAGE_WIDTH * WORD_ROW_LIMIT;
+
+pub const WORD_AREA: usize = FIRST_TALLY + (PROCESSOR_LIMIT + 1) * TALLY_LIMIT;
 
 pub const RECORD_AREA: usize = SLOT_WIDTH * RECORD_LIMIT;
 
