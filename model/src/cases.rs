@@ -1,8 +1,10 @@
-//! The files of tests/files; those of cards that wait are in `wait_cases.rs`.
-//! Each expected line is written by hand from documents 01 and 02; `model
-//! make-files` refuses to write a file whose lines the model does not print.
+//! The files of tests/files; those of cards that wait are in `wait_cases.rs`,
+//! those of stores that alter nothing in `equal_cases.rs`. Each expected line
+//! is written by hand from documents 01 and 02; `model make-files` refuses to
+//! write a file whose lines the model does not print.
 
 use crate::case::{acquire, any, arrive, read, release, want, write, Case};
+use crate::equal_cases::equal_cases;
 use crate::model::Step;
 use crate::wait_cases::wait_cases;
 
@@ -14,6 +16,7 @@ pub fn all_cases() -> Vec<Case> {
     cases.extend(fault_cases());
     cases.extend(further_cases());
     cases.extend(wait_cases());
+    cases.extend(equal_cases());
     cases
 }
 
@@ -37,7 +40,7 @@ fn bench_cases() -> Vec<Case> {
         case_m(),
         case_n(),
         case_o(),
-        room_given_back(),
+        room_kept(),
     ]
 }
 
@@ -94,12 +97,15 @@ fn case_e(name: &str, shows: &str) -> Case {
 }
 
 fn case_f() -> Case {
-    let shows = "Bench case F: storing 0 over 0 makes no interval (count 0); the next store does.";
+    let shows = "Bench case F: storing 0 over 0 and releasing makes one interval, one record; so does a store put back, and one of 9.";
     let mut c = Case::open("case-f", [2, 1, 1], shows);
-    c.ok(&[acquire(1, 0), write(1, 0, 0), release(1, 0)]);
-    c.ok(&[acquire(2, 0), read(2, 0), release(2, 0)]);
+    c.ok(&[acquire(1, 0), write(1, 0, 0), release(1, 0), acquire(2, 0)]);
+    c.gives(read(2, 0), 0, 1);
+    c.ok(&[release(2, 0)]);
     c.ok(&[acquire(1, 0), write(1, 0, 8), write(1, 0, 0), release(1, 0)]);
-    c.ok(&[acquire(2, 0), read(2, 0), release(2, 0)]);
+    c.ok(&[acquire(2, 0)]);
+    c.gives(read(2, 0), 0, 1);
+    c.ok(&[release(2, 0)]);
     c.ok(&[acquire(1, 0), write(1, 0, 9), release(1, 0), acquire(2, 0)]);
     c.gives(read(2, 0), 9, 1);
     c
@@ -178,13 +184,14 @@ fn case_o() -> Case {
     c
 }
 
-fn room_given_back() -> Case {
-    let shows = "After case O: closing a dirty page without a difference gives its room back.";
+fn room_kept() -> Case {
+    let shows = "After case O: an equal store takes the last room, and its closing keeps it: 128 records, 10 for both cards.";
     let mut c = Case::open("case-o-equal", [2, 8, 1], shows);
     make_127_records(&mut c);
     c.ok(&[write(1, 0, 16)]);
     c.refused(write(2, 0, 1), 10);
-    c.ok(&[acquire(1, 0), write(2, 0, 1)]);
+    c.ok(&[acquire(1, 0)]);
+    c.refused(write(2, 0, 1), 10);
     c.refused(write(1, 0, 17), 10);
     c
 }

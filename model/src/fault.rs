@@ -1,5 +1,5 @@
-//! Document 01, "Faults that pass on a two-card bench": the names of the
-//! switches of `model run --fault NAME`.
+//! The names of the switches of `model run --fault NAME`: document 01's
+//! "Faults that pass on a two-card bench", and one against request L2.
 
 #[derive(Clone, Copy, PartialEq, Eq, Debug)]
 pub enum Fault {
@@ -18,15 +18,19 @@ pub enum Fault {
     /// "Learning before closing, so an interval's clock claims news its
     /// stores had not seen."
     LearnFirst,
+    /// Against L2, "each dirty page now gets a record": a page without a
+    /// word that differs gets none, and makes no interval.
+    SkipEqual,
 }
 
-pub const FAULTS: [(&str, Fault); 6] = [
+pub const FAULTS: [(&str, Fault); 7] = [
     ("lock-own", Fault::LockOwn),
     ("by-card", Fault::ByCard),
     ("join", Fault::Join),
     ("join-all", Fault::JoinAll),
     ("whole-page", Fault::WholePage),
     ("learn-first", Fault::LearnFirst),
+    ("skip-equal", Fault::SkipEqual),
 ];
 
 pub fn by_name(name: &str) -> Option<Fault> {

@@ -13,6 +13,9 @@ mod compare;
 mod compare_tests;
 mod coverage;
 mod diff;
+mod equal_cases;
+#[cfg(test)]
+mod equal_tests;
 mod fault;
 mod files;
 mod generate;

@@ -1,8 +1,9 @@
-//! The rules of document 01 with request L1 of document 02: opening, the six
-//! kinds of step, their refusals, and the lines of cards that wait for locks.
+//! The rules of document 01 with requests L1 and L2 of document 02: opening,
+//! the six kinds of step, their refusals, the lines of cards that wait for
+//! locks, and a record for each dirty page at closing.
 //!
 //! Written from the documents alone, as plainly as they state them. Quoted
-//! text is theirs; "L1" stands before that of document 02. A card is a
+//! text is theirs; "L1" or "L2" stands before that of document 02. A card is a
 //! processor here; nothing is encoded.
 
 use crate::clock::{IntervalId, LockId, PageId, ProcId, VectorClock};
@@ -203,6 +204,12 @@ impl Model {
         &self.processors[&card].pages[&page]
     }
 
+    /// The word as it stands in a present card's copy, without a fetch.
+    pub fn word(&self, card: ProcId, word: u16) -> u32 {
+        let (page, offset) = place(word);
+        self.page(card, page).words[offset]
+    }
+
     fn page_mut(&mut self, card: ProcId, page: PageId) -> &mut PageCopy {
         let processor = self.processors.get_mut(&card).expect("present card");
         processor.pages.get_mut(&page).expect("present page")
@@ -331,9 +338,8 @@ impl Model {
 
     /// "Read: fetch, then answer the word."
     fn read(&mut self, card: ProcId, word: u16) -> Answer {
-        let (page, offset) = place(word);
-        let count = self.fetch(card, page);
-        Answer::accepted(self.page(card, page).words[offset], count)
+        let count = self.fetch(card, place(word).0);
+        Answer::accepted(self.word(card, word), count)
     }
 
     /// "Write: fetch; if the page is clean, take the twin; store."
@@ -458,9 +464,10 @@ impl Model {
 // Close, pending and fetch.
 impl Model {
     /// "for each dirty page, upwards, compare twin and copy; the page becomes
-    /// clean. If any word differs on any page, the card's own entry rises by
-    /// 1, the interval keeps the card's clock, and each page that differs
-    /// gets one record. Otherwise no interval is made."
+    /// clean. ... the card's own entry rises by 1, the interval keeps the
+    /// card's clock". L2: "each dirty page now gets a record at closing ...
+    /// and an interval is made for any dirty page". With no dirty page "no
+    /// interval is made."
     fn close(&mut self, card: ProcId) {
         let diffs = self.take_diffs(card);
         if diffs.is_empty() {
@@ -481,7 +488,9 @@ impl Model {
         }
     }
 
-    /// Makes each page of the card clean; gives the diffs that are not empty.
+    /// Makes each page of the card clean; gives the diff of each that was
+    /// dirty. L2: "the change that is the single byte 0 where nothing
+    /// differs" is the empty diff.
     fn take_diffs(&mut self, card: ProcId) -> Vec<(PageId, Diff)> {
         let mut diffs = Vec::new();
         for (page, copy) in &mut self.processor_mut(card).pages {
@@ -489,7 +498,9 @@ impl Model {
                 diffs.push((*page, Diff::between(&twin, &copy.words)));
             }
         }
-        diffs.retain(|(_, diff)| !diff.is_empty());
+        if self.fault == Some(Fault::SkipEqual) {
+            diffs.retain(|(_, diff)| !diff.is_empty());
+        }
         diffs
     }
 
@@ -548,7 +559,7 @@ impl Model {
             Fault::Join => right = Model::joined(&right),
             Fault::JoinAll => right = self.joined_with_applied(card, &right),
             Fault::WholePage => return self.copy_whole_page(card, page, &right),
-            Fault::LockOwn | Fault::LearnFirst => {}
+            Fault::LockOwn | Fault::LearnFirst | Fault::SkipEqual => {}
         }
         self.apply_all(card, page, &right);
     }

@@ -62,9 +62,11 @@ impl Script {
         self.put(READ, card, word, 0)
     }
 
-    /// Writes mostly a value never written before, at times 0 or a repeat.
+    /// Writes mostly a value never written before, at times 0, a repeat, or
+    /// what the card's copy has: a store that alters nothing, as long as no
+    /// other card's store comes with the fetch.
     pub fn write(&mut self, card: u8, word: u16) -> Answer {
-        let value = self.value();
+        let value = self.value(card, word);
         self.put(WRITE, card, word, value)
     }
 
@@ -92,10 +94,11 @@ impl Script {
         self.put(WANT, card, 0, 0)
     }
 
-    fn value(&mut self) -> u32 {
+    fn value(&mut self, card: u8, word: u16) -> u32 {
         match self.rng.below(100) {
             0..=4 => 0,
-            5..=9 => self.fresh,
+            5..=6 => self.fresh,
+            7..=9 => self.model.word(ProcId(card), word),
             10..=14 => self.rng.next() as u32,
             _ => {
                 self.fresh += 1;

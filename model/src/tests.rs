@@ -1,5 +1,6 @@
 //! The starred bench cases asked of the model, and the judge's own tests. The
-//! tests of cards that wait are in `wait_tests.rs`.
+//! tests of cards that wait are in `wait_tests.rs`, those of stores that alter
+//! nothing in `equal_tests.rs`.
 
 use crate::clock::{ProcId, VectorClock};
 use crate::diff;
@@ -68,9 +69,10 @@ fn case_c_clock() {
     assert_eq!(entries(&model.processors[&ProcId(3)].clock, 3), [1, 0, 0]);
 }
 
-/// F: "storing 0 over 0 and releasing makes no interval."
+/// F: "storing 0 over 0 and releasing"; L2: "one interval, one record", "the
+/// change that is the single byte 0".
 #[test]
-fn case_f_no_interval() {
+fn case_f_one_interval() {
     let mut model = Model::open([0, 1, 1, 1, 0, 0, 0, 0], None).expect("opening");
     for record in [
         [3, 1, 0, 0, 0, 0, 0, 0],
@@ -79,8 +81,9 @@ fn case_f_no_interval() {
     ] {
         assert_eq!(model.step(&Step::from_bytes(record)).refusal, 0);
     }
-    assert_eq!(model.own_entry(ProcId(1)), 0);
-    assert!(model.records.is_empty());
+    assert_eq!((model.own_entry(ProcId(1)), model.intervals.len()), (1, 1));
+    let changes = model.records.iter().map(|record| record.diff.to_bytes());
+    assert_eq!(changes.collect::<Vec<_>>(), [[0]]);
 }
 
 /// N: the own entry is 63 when 9 is given; O: 128 records stand.
@@ -89,7 +92,7 @@ fn cases_n_and_o_counts() {
     assert_eq!(state_after("refusal-9").own_entry(ProcId(1)), 63);
     assert_eq!(state_after("case-n").own_entry(ProcId(1)), 1);
     assert_eq!(state_after("refusal-order").records_and_dirty(), 128);
-    assert_eq!(state_after("case-o-equal").records.len(), 127);
+    assert_eq!(state_after("case-o-equal").records.len(), 128);
 }
 
 /// G: "words 0, 1 and 31 differ: 17 bytes, starting 2, 0, 2, 31, 1."

@@ -2,6 +2,7 @@
 
 use crate::answers::{self, ACQUIRE, READ, RELEASE};
 use crate::areas::{copy_at, lock_row, processor_row, Areas, PAGE_WORDS};
+use crate::closing;
 use crate::library::{self, Step};
 use crate::order;
 use crate::random::Random;
@@ -21,6 +22,10 @@ pub struct Met {
     /// waited.
     pub waits: u64,
     pub grants: u64,
+    /// Dirty pages that accepted steps closed, and those of them without a
+    /// word that differs.
+    pub closed: u64,
+    pub equal: u64,
 }
 
 impl Met {
@@ -31,6 +36,11 @@ impl Met {
             RELEASE => self.grants += u64::from(s.waiters(lock).next().is_some()),
             _ => {}
         }
+    }
+
+    fn add_closing(&mut self, s: State, step: Step) {
+        self.closed += closing::closed_pages(s, step).len() as u64;
+        self.equal += closing::equal_pages(s, step) as u64;
     }
 }
 
@@ -92,6 +102,7 @@ pub fn check_step(
     let [_, value, count] = answer;
     if due == 0 {
         met.add_lock_use(State(before.shown()), step);
+        met.add_closing(State(before.shown()), step);
         accepted(areas, before, step, value, count).map_err(|e| format!("{step:?}: {e}"))
     } else if [value, count] != [0, 0] {
         Err(format!("{step:?}: refused {refusal} with {value} {count}"))
@@ -113,7 +124,7 @@ fn same(areas: &Areas, before: &Areas, wrong: &str) -> Result<(), String> {
 
 /// An accepted step leaves a state in order and touches nothing outside; its
 /// value is the word that stands in the copy, its count the pending records;
-/// locks and their lines are as they must be.
+/// locks and their lines are as they must be, and so is what a closing leaves.
 fn accepted(
     areas: &Areas,
     before: &Areas,
@@ -140,6 +151,9 @@ fn accepted(
     }
     if step.kind == RELEASE && !is_told(was, is, step) {
         return Err("tells the lock or the waiter something else".to_string());
+    }
+    if let Some(wrong) = closing::wrong(was, is, step) {
+        return Err(format!("closes wrongly: {wrong}"));
     }
     let word = match step.kind {
         READ => word_of(areas, step),

@@ -7,6 +7,7 @@
 mod answers;
 mod areas;
 mod checks;
+mod closing;
 mod damage;
 #[path = "../../bench/library.rs"]
 mod library;
@@ -81,6 +82,7 @@ fn report(met: &Met) {
     let refusals: Vec<String> = refusals.map(|(n, times)| format!("{n}:{times}")).collect();
     println!("steps by refusal: {}", refusals.join(" "));
     println!("locks: {} waits, {} grants", met.waits, met.grants);
+    println!("pages closed: {}, {} of them equal", met.closed, met.equal);
     println!(
         "order asked: {} in order, {} not",
         met.in_order, met.out_of_order

@@ -65,17 +65,20 @@ fn any_processor(random: &mut Random, s: State) -> usize {
     p
 }
 
-/// A word, often one of the first four on its page.
+/// A word, often one of the first four on its page. Some stores are of what
+/// the copy has.
 fn use_word(random: &mut Random, s: State, kind: u32) -> Step {
     let page = random.below(s.pages().clamp(1, PAGES));
     let few = if random.percent(60) { 4 } else { PAGE_WORDS };
-    let word = PAGE_WORDS * page + random.below(few);
+    let at = random.below(few);
+    let p = any_processor(random, s);
     let value = match kind {
         WRITE if random.percent(20) => random.below(3) as u32,
+        WRITE if random.percent(10) => s.copy(p, page)[at],
         WRITE => random.word(),
         _ => 0,
     };
-    step(kind, any_processor(random, s), word, value)
+    step(kind, p, PAGE_WORDS * page + at, value)
 }
 
 /// Mostly a free lock is taken, and one that is held is asked for or freed,

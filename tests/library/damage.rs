@@ -31,7 +31,7 @@ fn applied_row(p: usize, g: usize) -> usize {
     25 + (p - 1) * 8 + g
 }
 
-fn interval_row(p: usize, i: usize) -> usize {
+pub fn interval_row(p: usize, i: usize) -> usize {
     89 + (p - 1) * 63 + i - 1
 }
 
@@ -44,7 +44,7 @@ fn twin(p: usize, g: usize) -> usize {
     WORDS / 2 + copy(p, g)
 }
 
-fn slot(i: usize) -> usize {
+pub fn slot(i: usize) -> usize {
     135 * i
 }
 
@@ -56,7 +56,7 @@ pub fn holder(l: usize) -> usize {
     14 + l
 }
 
-fn dirty(p: usize, g: usize) -> usize {
+pub fn dirty(p: usize, g: usize) -> usize {
     30 + (p - 1) * 8 + g
 }
 
@@ -322,13 +322,16 @@ fn sweep(
 
 /// Changes of which "in order" says nothing: the step is done.
 fn harmless(tally: &mut Tally, reached: &Areas) {
-    let changes: [(&str, fn(&mut Areas)); 10] = [
+    let changes: [(&str, fn(&mut Areas)); 11] = [
         ("a word of a copy", |a| a.words[copy(3, 1)] = 1),
         ("a twin of a clean page", |a| a.words[twin(1, 0)] = 1),
         ("a slot behind the standing records", |a| {
             a.records[slot(2)] = 255
         }),
         ("the rest of a slot", |a| a.records[slot(0) + 134] = 255),
+        ("a record without words", |a| {
+            (a.records[slot(0) + 3], a.records[slot(0) + 4]) = (1, 0)
+        }),
         ("a wish of 255", |a| a.marks[5] = 255),
         ("own entry 62 with a dirty page", |a| {
             a.clocks[entry(2, 2)] = 62

@@ -1,6 +1,7 @@
 //! The test of the static library, run from the repository's root: `tests/library/build && target/library-test`.
 //! Each check counts; the last line is `N passed, M failed`, and the exit status is 0 only if M is 0.
 
+mod closing;
 mod damage;
 mod diffs;
 mod files;
@@ -43,6 +44,7 @@ fn main() -> ExitCode {
     let reached = steps::reached(&mut tally);
     steps::check(&mut tally, &reached);
     lines::check(&mut tally, &reached);
+    closing::check(&mut tally);
     damage::check(&mut tally, &reached);
     diffs::check(&mut tally);
     println!("{} passed, {} failed", tally.passed, tally.failed);

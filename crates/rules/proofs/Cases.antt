@@ -1,8 +1,9 @@
 -- Document 01, "Bench cases (starred ones proved)": one table, a field for each starred case, and the theorem that they all hold of the rules.
 -- Assumes nothing.
-use Prim.Native.Nat.{ℕ, _-_}
-use mathlib.Core.Path.{_≡_, refl, ap, _∙_}
-use mathlib.Core.Bool.{Bool, true, false}
+use Prim.Native.Nat.{ℕ, _-_, _%_}
+use native.Mathlib.Omega.{arith}
+use mathlib.Core.Path.{_≡_, refl, sym, ap, _∙_}
+use mathlib.Core.Bool.{Bool, true, false, cond}
 use mathlib.Core.List.{List, [], _∷_, _++_}
 use lib.ListN.{length}
 use Rattle.limits.specs.Limits.{processorLimit}
@@ -10,20 +11,21 @@ use Rattle.clock.specs.Clocks.{zeros}
 use Rattle.diff.specs.Format.{written}
 use Rattle.diff.specs.Reading.{readRefusal}
 use Rattle.diff.proofs.Cases.{CaseG, case-G, case-H, case-I, case-J, case-K, case-L}
-use Rattle.rules.specs.State.{Limits, mainframe, dirtyAt, State, clock, own, standing, hasArrived}
+use Rattle.rules.specs.State.{mainframe, dirtyAt, State, clock, own, standing, hasArrived}
 use Rattle.rules.specs.InOrder.{inRange, countsInRange, inOrder}
 use Rattle.rules.specs.Fetch.{fetched}
-use Rattle.rules.specs.Steps.{pageOfWord, wordOf}
-use Rattle.rules.specs.Refusals.{Step, Answer, next}
+use Rattle.rules.specs.Steps.{pageOfWord, wordOf, write}
+use Rattle.rules.specs.Refusals.{Step, Answer, actionOf, effect, refusalInOrder, nextInOrder, refusal, next}
 use Rattle.rules.specs.Runs.{answers, stateAfter, answersInOrder, stateInOrder}
 use Rattle.rules.specs.Order.{events, eventAt, isArrival, countedOff, groupsBefore, rounds}
 use Rattle.rules.proofs.inorder.Facts.{InOrder}
 use Rattle.rules.proofs.inorder.InOrderSays.{in-order-says}
-use Rattle.rules.proofs.InOrderRuns.{state-in-order}
+use Rattle.rules.proofs.inorder.InOrderWhen.{in-order-when}
+use Rattle.rules.proofs.InOrderRuns.{refusal-is-not-one, state-in-order}
 use Rattle.rules.proofs.runs.Listing.{writes, acquires, releases, arrives, start, answering}
 use Rattle.rules.proofs.runs.BenchFaults.{stepsC, computed-C, computed-clock-of-3}
 use Rattle.rules.proofs.runs.FromStart.{answers-from-start, state-from-start}
-use Rattle.rules.proofs.runs.NoInterval.{NoInterval, store-and-release}
+use Rattle.rules.proofs.runs.OneInterval.{NoInterval, OneInterval, pageFetched, pageStored, release-without-store, store-and-release, equal-store}
 use Rattle.rules.proofs.runs.StoredCases.{StoredValues, accepted, stepsB, case-B, stepsUnderLock, answersUnderLock, case-D, case-E}
 
 -- "storing 0 over 0 and releasing"
@@ -36,15 +38,18 @@ pub record CaseC : Type 0 where
       ≡ accepted ∷ accepted ∷ accepted ∷ accepted ∷ accepted ∷ accepted ∷ accepted ∷ accepted ∷ answering 0 5 1 ∷ []
   pub clock-of-3 : clock (stateAfter mainframe (start 3 1 2) stepsC) 3 ≡ 1 ∷ 0 ∷ 0 ∷ zeros (processorLimit - 3)
 
--- "F: storing 0 over 0 and releasing makes no interval": from the opening, and in any state where the processor's pages are clean and it
--- would read 0 in the word
+-- F, "storing 0 over 0 and releasing", by document 02, L2: "one interval, one record", with the one byte 0 for its diff. From the opening; and in
+-- any state where the processor's pages are clean, for a store of any value. A release with nothing dirty makes none
 pub record CaseF : Type 0 where
   pub answered : answers mainframe (start 1 1 1) stepsF ≡ accepted ∷ accepted ∷ accepted ∷ []
-  pub own-entry : own (stateAfter mainframe (start 1 1 1) stepsF) 1 ≡ 0
-  pub records : standing (stateAfter mainframe (start 1 1 1) stepsF) ≡ []
-  pub in-any-state : (s : State) (p w l : ℕ) → ((g : ℕ) → dirtyAt (s .pages) p g ≡ false)
-      → wordOf mainframe (fetched mainframe s p (pageOfWord mainframe w)) p w ≡ 0
-      → NoInterval s (stateAfter mainframe s (writes p w 0 ∷ releases p l ∷ []))
+  pub own-entry : own (stateAfter mainframe (start 1 1 1) stepsF) 1 ≡ 1
+  pub records : standing (stateAfter mainframe (start 1 1 1) stepsF) ≡ record { processor = 1; interval = 1; page = 0; diff = 0 ∷ [] } ∷ []
+  pub in-any-state : (s : State) (p w v l : ℕ) → ((g : ℕ) → dirtyAt (s .pages) p g ≡ false) → refusal mainframe s (writes p w v) ≡ 0
+      → refusal mainframe (next mainframe s (writes p w v)) (releases p l) ≡ 0
+      → OneInterval s (stateAfter mainframe s (writes p w v ∷ releases p l ∷ [])) p (pageOfWord mainframe w) (written (pageFetched mainframe s p w) (pageStored mainframe s p w v))
+  pub same-value : (s : State) (p w v : ℕ) → wordOf mainframe (fetched mainframe s p (pageOfWord mainframe w)) p w ≡ v % 4294967296
+      → written (pageFetched mainframe s p w) (pageStored mainframe s p w v) ≡ 0 ∷ []
+  pub nothing-dirty : (s : State) (p l : ℕ) → ((g : ℕ) → dirtyAt (s .pages) p g ≡ false) → NoInterval s (next mainframe s (releases p l))
 
 -- "M: one card's arrival completes its round": its mark is clear, the round is counted, and it may arrive again
 pub record CaseM : Type 0 where
@@ -84,11 +89,11 @@ computed-F : answersInOrder mainframe (start 1 1 1) stepsF ≡ accepted ∷ acce
 unfolding start stepsF
 computed-F = refl
 
-computed-own-entry : own (stateInOrder mainframe (start 1 1 1) stepsF) 1 ≡ 0
+computed-own-entry : own (stateInOrder mainframe (start 1 1 1) stepsF) 1 ≡ 1
 unfolding start stepsF
 computed-own-entry = refl
 
-computed-records : standing (stateInOrder mainframe (start 1 1 1) stepsF) ≡ []
+computed-records : standing (stateInOrder mainframe (start 1 1 1) stepsF) ≡ record { processor = 1; interval = 1; page = 0; diff = 0 ∷ [] } ∷ []
 unfolding start stepsF
 computed-records = refl
 
@@ -114,19 +119,38 @@ case-C =
       clock-of-3 = ap (λ (s : State). clock s 3) (state-from-start 3 1 2 refl stepsC) ∙ computed-clock-of-3;
     }
 
--- where the state is not in order every step is refused
-not-in-order-stays : (lim : Limits) (s : State) (ts : List Step) → inOrder lim s ≡ false → stateAfter lim s ts ≡ s
-unfolding stateAfter next
-not-in-order-stays lim s [] e = refl
-not-in-order-stays lim s (t ∷ ts) e = rw e (not-in-order-stays lim s ts e)
-
--- so a run that makes no interval from a state in order makes none from any state
-makes-none-anywhere : (s : State) (ts : List Step) → (InOrder mainframe s → NoInterval s (stateInOrder mainframe s ts)) → NoInterval s (stateAfter mainframe s ts)
-makes-none-anywhere s ts h = go (inOrder mainframe s) refl
+-- a step that is not refused begins in order
+accepted-in-order : (s : State) (t : Step) → refusal mainframe s t ≡ 0 → InOrder mainframe s
+unfolding refusal
+accepted-in-order s t e = go (inOrder mainframe s) refl e
   where
-    go : (b : Bool) → inOrder mainframe s ≡ b → NoInterval s (stateAfter mainframe s ts)
-    go true e = rw (state-in-order mainframe s ts (in-order-says mainframe s e)) (h (in-order-says mainframe s e))
-    go false e = rw (not-in-order-stays mainframe s ts e) (record { own-entries = λ q. refl; intervals = refl; records = refl })
+    go : (b : Bool) → inOrder mainframe s ≡ b → cond {A = ℕ} b (refusalInOrder mainframe s t) 1 ≡ 0 → InOrder mainframe s
+    go true i f = in-order-says mainframe s i
+    go false i f = absurd (omega (arith, f))
+
+-- a store of any value and a release, both accepted
+stored-and-released : (s : State) (p w v l : ℕ) → ((g : ℕ) → dirtyAt (s .pages) p g ≡ false) → refusal mainframe s (writes p w v) ≡ 0
+    → refusal mainframe (next mainframe s (writes p w v)) (releases p l) ≡ 0
+    → OneInterval s (stateAfter mainframe s (writes p w v ∷ releases p l ∷ [])) p (pageOfWord mainframe w) (written (pageFetched mainframe s p w) (pageStored mainframe s p w v))
+stored-and-released s p w v l clean e f =
+    let o = accepted-in-order s (writes p w v) e in
+    let fine : refusalInOrder mainframe s (writes p w v) ≡ 0 = sym (refusal-is-not-one mainframe s (writes p w v) (in-order-when mainframe s o)) ∙ e in
+    rw (state-in-order mainframe s (writes p w v ∷ releases p l ∷ []) o) (store-and-release mainframe s p w v o clean fine l (released o fine))
+  where
+    released : InOrder mainframe s → refusalInOrder mainframe s (writes p w v) ≡ 0 → refusalInOrder mainframe (write mainframe s p w v .after) (releases p l) ≡ 0
+    released o fine =
+        let kept = accepted-in-order (next mainframe s (writes p w v)) (releases p l) f in
+        let is : next mainframe s (writes p w v) ≡ write mainframe s p w v .after = unfold next nextInOrder actionOf effect in rw (in-order-when mainframe s o, fine) refl in
+        rw is at (sym (refusal-is-not-one mainframe (next mainframe s (writes p w v)) (releases p l) (in-order-when mainframe (next mainframe s (writes p w v)) kept)) ∙ f)
+
+-- a release with nothing dirty
+released-clean : (s : State) (p l : ℕ) → ((g : ℕ) → dirtyAt (s .pages) p g ≡ false) → NoInterval s (next mainframe s (releases p l))
+unfolding next
+released-clean s p l clean = go (inOrder mainframe s) refl
+  where
+    go : (b : Bool) → inOrder mainframe s ≡ b → NoInterval s (cond b (nextInOrder mainframe s (releases p l)) s)
+    go true e = release-without-store mainframe s p l (in-order-says mainframe s e) clean
+    go false e = record { own-entries = λ q. refl; intervals = refl; records = refl }
 
 case-F : CaseF
 unfolding countsInRange inRange mainframe
@@ -135,8 +159,9 @@ case-F =
       answered = answers-from-start 1 1 1 refl stepsF ∙ computed-F;
       own-entry = ap (λ (s : State). own s 1) (state-from-start 1 1 1 refl stepsF) ∙ computed-own-entry;
       records = ap standing (state-from-start 1 1 1 refl stepsF) ∙ computed-records;
-      in-any-state = λ s p w l clean zero-there.
-          makes-none-anywhere s (writes p w 0 ∷ releases p l ∷ []) (λ o. store-and-release mainframe s p w 0 o clean zero-there l);
+      in-any-state = stored-and-released;
+      same-value = equal-store mainframe;
+      nothing-dirty = released-clean;
     }
 
 case-M : CaseM

@@ -4,6 +4,7 @@ pub mod InOrderRuns
 pub mod StrictOrder
 pub mod WaitsItsTurn
 pub mod WaitingCases
+pub mod StoresNoted
 pub mod Fetching
 pub mod DemandThree
 pub mod Cases

@@ -10,7 +10,7 @@ use borrow.Author.Tests.{eqb-true, eqb-false, lt-ltb, ne-eqb}
 use Rattle.rules.specs.State.{Limits, Processor, dirtyAt, State, clock, own, hasArrived}
 use Rattle.rules.specs.Lines.{waits}
 use Rattle.rules.specs.InOrder.{present, dirtyPages}
-use Rattle.rules.specs.Close.{anyChanged, ticked, recorded}
+use Rattle.rules.specs.Close.{anyDirty, ticked, recorded}
 use Rattle.rules.specs.Steps.{pageOfWord, allFetched, emptied, collected}
 use Rattle.rules.specs.Refusals.{Step, Write, actionOf, knownKind, objectBound, usesValue, fits, lateRefusal, refusalBy, refusalInOrder}
 use Rattle.rules.proofs.inorder.KindsOfSteps.{kindOf, kind-of, objectIn, object-in}
@@ -18,7 +18,7 @@ use Rattle.rules.proofs.inorder.Facts.{InOrder}
 use Rattle.rules.proofs.inorder.KeptParts.{ownIn, parts-of}
 use Rattle.rules.proofs.inorder.KeptRounds.{entry-all-cleared}
 use Rattle.rules.proofs.inorder.KeptNewRecords.{recorded-below}
-use Rattle.rules.proofs.inorder.KeptClose.{changed-has-interval, closing-ready}
+use Rattle.rules.proofs.inorder.KeptClose.{closing-has-interval, closing-ready}
 
 -- a write of v to word w that no row above 9 refuses
 pub record WriteSoFar (lim : Limits) (s : State) (t : Step) (w v : ℕ) : Type 0 where
@@ -108,7 +108,7 @@ accepted-while-space-remains lim s t w v h space = rw (refusal-of-write lim s t 
 -- every closing finds room for its records, and an interval if it makes one
 pub record RoomToClose (lim : Limits) (s : State) (p : ℕ) : Type 0 where
   pub records-fit : recorded s p (s .counts .pages) .standing ≤ lim .records
-  pub interval-fits : anyChanged s p ≡ true → own s p + 1 ≤ lim .intervals
+  pub interval-fits : anyDirty s p ≡ true → own s p + 1 ≤ lim .intervals
 
 -- it does in every state in order
 pub closing-finds-room : (lim : Limits) (s : State) (p : ℕ) → InOrder lim s → present s p ≡ true → RoomToClose lim s p
@@ -117,7 +117,7 @@ closing-finds-room lim s p f a =
     let k = parts-of lim s f in
     record {
       records-fit = recorded-below lim s p (ownIn (ticked s p)) (s .counts .pages) (closing-ready lim s p k a) (omega arith) .in-order .few-standing;
-      interval-fits = λ e. omega (arith, changed-has-interval lim s p k e);
+      interval-fits = λ e. omega (arith, closing-has-interval lim s p k e);
     }
 
 -- "Space freed serves later writes": after a collection no record stands and every processor has all its intervals left

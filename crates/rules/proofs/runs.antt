@@ -4,5 +4,5 @@ pub mod BenchFaults
 pub mod FromStart
 pub mod JudgedRuns
 pub mod ClosingFirst
-pub mod NoInterval
+pub mod OneInterval
 pub mod StoredCases

@@ -6,3 +6,4 @@ pub mod Fetches
 pub mod Lines
 pub mod Waiters
 pub mod LineOf
+pub mod Outlines

@@ -4,34 +4,33 @@ use native.Mathlib.Numerals.{add-one}
 use native.Mathlib.Omega.{arith}
 use native.Mathlib.Decide.{ℕ-discrete}
 use mathlib.Core.Path.{_≡_, refl, sym, ap, _∙_}
-use mathlib.Core.Bool.{Bool, true, false, cond, _||_}
+use mathlib.Core.Bool.{Bool, true, false, cond}
 use mathlib.Core.List.{List}
 use lib.ListN.{length}
 use borrow.Author.Tests.{le-leb}
 use borrow.Author.Needs.{needs}
-use Rattle.lists.specs.Tables.{any}
 use Rattle.limits.specs.Limits.{intervalLimit, pageLimit, processorLimit, recordLimit}
-use Rattle.rules.specs.Close.{changed, anyChanged, newRecord, recorded}
+use Rattle.rules.specs.Close.{newRecord, recorded}
 use Rattle.rules.specs.InOrder.{present}
-use Rattle.rules.specs.State.{mainframe, appended, State, withRecords, clock, own}
+use Rattle.rules.specs.State.{mainframe, dirtyAt, appended, State, withRecords, clock, own}
 use Rattle.rules.proofs.inorder.Facts.{InOrder}
 use Rattle.rules.proofs.Space.{closing-finds-room}
 use Rattle.layout.specs.Areas.{recordsIn, stateIn, standingCount}
-use Rattle.layout.specs.inner.Needed.{Acts, Holds}
+use Rattle.layout.specs.inner.Needed.{Holds}
 use Rattle.layout.specs.inner.Marks.{pageCount}
-use Rattle.step_close.specs.inner.Parts.{pageRecorded, allRecorded, PageChanged, AnyChanged}
-use Rattle.step_close.specs.inner.Needed.{Recordable}
+use Rattle.step_close.specs.inner.Parts.{pageRecorded, allRecorded}
+use Rattle.step_close.specs.inner.Needed.{ActsDirty, Recordable}
 
 -- ---- every closing finds room
 
 module _ (s : State) (p : ℕ) where
-  standing-one : (g : ℕ) → changed s p g ≡ true → recorded s p (suc g) .standing ≡ recorded s p g .standing + 1
+  standing-one : (g : ℕ) → dirtyAt (s .pages) p g ≡ true → recorded s p (suc g) .standing ≡ recorded s p g .standing + 1
   unfolding recorded appended
   standing-one g e = rw e
 
   standing-next : (g : ℕ) → recorded s p g .standing ≤ recorded s p (suc g) .standing
   unfolding recorded appended
-  standing-next g = go (changed s p g)
+  standing-next g = go (dirtyAt (s .pages) p g)
     where
       go : (b : Bool) → recorded s p g .standing ≤ cond b (appended (recorded s p g) (newRecord s p g)) (recorded s p g) .standing
       go true = omega arith
@@ -45,7 +44,7 @@ module _ (s : State) (p : ℕ) where
       go (yes e) k = rw e (omega arith)
       go (no e) k = omega (arith, k (omega arith), standing-next n)
 
-  slot-left : InOrder mainframe s → 1 ≤ p → p ≤ s .counts .processors → (g : ℕ) → g < s .counts .pages → changed s p g ≡ true → recorded s p g .standing < recordLimit
+  slot-left : InOrder mainframe s → 1 ≤ p → p ≤ s .counts .processors → (g : ℕ) → g < s .counts .pages → dirtyAt (s .pages) p g ≡ true → recorded s p g .standing < recordLimit
   unfolding present mainframe
   slot-left f from to g h e =
       let here : present s p ≡ true = rw (le-leb 1 p from, le-leb p (s .counts .processors) to) in
@@ -53,27 +52,25 @@ module _ (s : State) (p : ℕ) where
 
 -- ---- after the pages below g
 
--- the areas hold the state with the records of the pages below g, and b says whether one of them changed
-pub record RecordingPages (c w r₀ m₀ r m : List ℕ) (p n g : ℕ) (b : Bool) : Type 0 where
-  pub closable : Acts c w r₀ m₀ p
+-- the areas hold the state with the records of the pages below g
+pub record RecordingPages (c w r₀ m₀ r m : List ℕ) (p n g : ℕ) : Type 0 where
+  pub closable : ActsDirty c w r₀ m₀ p
   pub pages : n ≡ pageCount m₀
   pub upto : g ≤ n
   pub holds : Holds c w r m (withRecords (stateIn mainframe c w r₀ m₀) (recorded (stateIn mainframe c w r₀ m₀) p g))
-  pub found : b ≡ any g (changed (stateIn mainframe c w r₀ m₀) p)
 
 -- the number of pages is there
-pub page-count-place : (c w r m : List ℕ) (p : ℕ) → Acts c w r m p → 1 < length m
-page-count-place c w r m p h = omega (arith, h .lent .marks)
+pub page-count-place : (c w r m : List ℕ) (p : ℕ) → ActsDirty c w r m p → 1 < length m
+page-count-place c w r m p h = omega (arith, h .acts .lent .marks)
 
 -- before the first page
-pub recording-begins : (c w r m : List ℕ) (p n : ℕ) → Acts c w r m p → n ≡ pageCount m → RecordingPages c w r m r m p n 0 false
-unfolding recorded any
-recording-begins c w r m p n h e = record { closable = h; pages = e; upto = omega arith; holds = record { lent = h .lent; is = refl }; found = refl }
+pub recording-begins : (c w r m : List ℕ) (p n : ℕ) → ActsDirty c w r m p → n ≡ pageCount m → RecordingPages c w r m r m p n 0
+unfolding recorded
+recording-begins c w r m p n h e = record { closable = h; pages = e; upto = omega arith; holds = record { lent = h .acts .lent; is = refl } }
 
-module _ (c w r₀ m₀ r m : List ℕ) (p n g : ℕ) (a : Bool) (now : RecordingPages c w r₀ m₀ r m p n g a) where
-  same-changed : changed (stateIn mainframe c w r m) p g ≡ changed (stateIn mainframe c w r₀ m₀) p g
-  unfolding changed
-  same-changed = ap (λ (s : State). changed s p g) (now .holds .is)
+module _ (c w r₀ m₀ r m : List ℕ) (p n g : ℕ) (now : RecordingPages c w r₀ m₀ r m p n g) where
+  same-dirty : dirtyAt (stateIn mainframe c w r m .pages) p g ≡ dirtyAt (stateIn mainframe c w r₀ m₀ .pages) p g
+  same-dirty = ap (λ (s : State). dirtyAt (s .pages) p g) (now .holds .is)
 
   standing-now : standingCount m ≡ recorded (stateIn mainframe c w r₀ m₀) p g .standing
   unfolding stateIn recordsIn
@@ -84,13 +81,13 @@ module _ (c w r₀ m₀ r m : List ℕ) (p n g : ℕ) (a : Bool) (now : Recordin
   recording-page more =
       record {
         lent = now .holds .lent;
-        from = now .closable .from;
-        to = omega (arith, now .closable .to, few-processors (now .closable .in-order));
-        page = omega (arith, now .pages, few-pages (now .closable .in-order));
-        own-fits = own-now (now .closable .in-order);
+        from = now .closable .acts .from;
+        to = omega (arith, now .closable .acts .to, few-processors (now .closable .acts .in-order));
+        page = omega (arith, now .pages, few-pages (now .closable .acts .in-order));
+        own-fits = own-now (now .closable .acts .in-order);
         room = λ e.
-            let left = slot-left (stateIn mainframe c w r₀ m₀) p (now .closable .in-order) (now .closable .from) (now .closable .to) g
-            (present-page more) (sym same-changed ∙ e) in
+            let left = slot-left (stateIn mainframe c w r₀ m₀) p (now .closable .acts .in-order) (now .closable .acts .from) (now .closable .acts .to) g
+            (present-page more) (sym same-dirty ∙ e) in
             omega (arith, standing-now, left);
       }
     where
@@ -106,45 +103,16 @@ module _ (c w r₀ m₀ r m : List ℕ) (p n g : ℕ) (a : Bool) (now : Recordin
       present-page : g < n → g < stateIn mainframe c w r₀ m₀ .counts .pages
       present-page h = unfold stateIn in omega (arith, now .pages, h)
 
-  module _ (b : Bool) (said : PageChanged w m p g b) (r′ m′ : List ℕ) (after : Holds c w r′ m′ (pageRecorded (stateIn mainframe c w r m) p g)) where
-    holds-after : Holds c w r′ m′ (withRecords (stateIn mainframe c w r₀ m₀) (recorded (stateIn mainframe c w r₀ m₀) p (g + 1)))
-    unfolding pageRecorded changed newRecord own clock recorded
-    holds-after = record { lent = after .lent; is = after .is ∙ ap (λ (s : State). pageRecorded s p g) (now .holds .is) ∙ rw (add-one g) }
-
-    changed-is : b ≡ changed (stateIn mainframe c w r₀ m₀) p g
-    changed-is = said .is c r ∙ same-changed
-
-    -- one more page, which changed
-    pub recorded-page : g < n → b ≡ true → RecordingPages c w r₀ m₀ r′ m′ p n (g + 1) true
-    unfolding any
-    recorded-page more e =
-        record {
-          closable = now .closable;
-          pages = now .pages;
-          upto = omega arith;
-          holds = holds-after;
-          found = rw (add-one g, ← changed-is, e) (sym (or-true (any g (changed (stateIn mainframe c w r₀ m₀) p))));
-        }
-      where
-        or-true : (x : Bool) → (x || true) ≡ true
-        or-true true = refl
-        or-true false = refl
-
-    -- one more page, which did not
-    pub passed-page : g < n → b ≡ false → RecordingPages c w r₀ m₀ r′ m′ p n (g + 1) a
-    unfolding any
-    passed-page more e =
-        record {
-          closable = now .closable;
-          pages = now .pages;
-          upto = omega arith;
-          holds = holds-after;
-          found = rw (add-one g, ← changed-is, e) (now .found ∙ sym (or-false (any g (changed (stateIn mainframe c w r₀ m₀) p))));
-        }
-      where
-        or-false : (x : Bool) → (x || false) ≡ x
-        or-false true = refl
-        or-false false = refl
+  -- one more page
+  pub recorded-page : g < n → (r′ m′ : List ℕ) → Holds c w r′ m′ (pageRecorded (stateIn mainframe c w r m) p g) → RecordingPages c w r₀ m₀ r′ m′ p n (g + 1)
+  unfolding pageRecorded newRecord own clock recorded
+  recorded-page more r′ m′ after =
+      record {
+        closable = now .closable;
+        pages = now .pages;
+        upto = omega arith;
+        holds = record { lent = after .lent; is = after .is ∙ ap (λ (s : State). pageRecorded s p g) (now .holds .is) ∙ rw (add-one g) };
+      }
 
   last-page : n ≤ g → g ≡ stateIn mainframe c w r₀ m₀ .counts .pages
   unfolding stateIn
@@ -155,9 +123,4 @@ module _ (c w r₀ m₀ r m : List ℕ) (p n g : ℕ) (a : Bool) (now : Recordin
   unfolding allRecorded
   pages-recorded done = record { lent = now .holds .lent; is = now .holds .is ∙ rw (last-page done) }
 
-  -- and the answer is known
-  pub pages-said : n ≤ g → AnyChanged (stateIn mainframe c w r₀ m₀) p a
-  unfolding anyChanged
-  pages-said done = record { is = now .found ∙ rw (last-page done) }
-
-pub ruleset all-pages-laws = (page-count-place, recording-begins, recording-page, recorded-page, passed-page, pages-recorded, pages-said, needs)
+pub ruleset all-pages-laws = (page-count-place, recording-begins, recording-page, recorded-page, pages-recorded, needs)

@@ -4,25 +4,27 @@ use Prim.Native.Nat.{ℕ, zero, suc, _+_, _≤_, _<_}
 use native.Mathlib.Numerals.{add-one}
 use native.Mathlib.Omega.{arith}
 use mathlib.Core.Path.{_≡_, refl, sym, ap, ap₂, _∙_}
-use mathlib.Core.Bool.{Bool, true, false, cond, not, _||_, false≢true}
+use mathlib.Core.Bool.{Bool, true, false, cond, not, _&&_, _||_, false≢true}
 use mathlib.Core.List.{List, [], _∷_, map}
 use lib.ListN.{length, getD}
 use lib.Seq.{set-getD}
-use lib.Dec.{eqb}
-use borrow.Author.Tests.{eqb-true, not-false}
+use lib.Dec.{eqb, ltb}
+use borrow.Author.Tests.{eqb-true, ltb-true, not-false}
 use borrow.Author.Needs.{needs}
 use Rattle.lists.specs.Tables.{any}
-use Rattle.lists.proofs.Tables.{any-holds, put-within}
+use Rattle.lists.proofs.Tables.{any-at, any-holds, put-within}
 use Rattle.limits.specs.Limits.{pageLimit}
 use Rattle.limits.specs.inner.Sizes.{markArea}
-use Rattle.rules.specs.Close.{changed, anyChanged, ticked, recorded, cleaned, closed}
+use Rattle.rules.specs.Close.{anyDirty, ticked, recorded, cleaned, closed}
 use Rattle.rules.specs.State.{Limits, mainframe, dirtyAt, State, withClocks, withPages, withRecords}
+use Rattle.rules.specs.InOrder.{present, presentHolder}
 use Rattle.rules.proofs.inorder.Facts.{InOrder}
 use Rattle.layout.specs.Areas.{dirtyPlace, pagesIn, stateIn}
 use Rattle.layout.specs.inner.Needed.{Acts, MarksOf, Holds}
 use Rattle.layout.proofs.PageLaws.{dirty-read}
 use Rattle.layout.proofs.MarkFunctions.{first-on-page, last-dirty-there}
 use Rattle.step_close.specs.inner.Parts.{AnyDirty}
+use Rattle.step_close.specs.inner.Needed.{ActsDirty}
 
 -- ---- the marks of a processor, one by one
 
@@ -82,13 +84,13 @@ zeros-kept [] h = refl
 zeros-kept (x ∷ row) h = ap₂ _∷_ (sym (h 0 (omega arith))) (zeros-kept row (λ i k. h (suc i) (omega arith)))
 
 module _ (s : State) (p : ℕ) where
-  none-changed : (n : ℕ) → ((g : ℕ) → g < n → dirtyAt (s .pages) p g ≡ false) → any n (changed s p) ≡ false
-  unfolding any changed
-  none-changed zero h = refl
-  none-changed (suc n) h = rw (none-changed n (λ g k. h g (omega arith)), h n (omega arith))
+  none-dirty : (n : ℕ) → ((g : ℕ) → g < n → dirtyAt (s .pages) p g ≡ false) → any n (dirtyAt (s .pages) p) ≡ false
+  unfolding any
+  none-dirty zero h = refl
+  none-dirty (suc n) h = rw (none-dirty n (λ g k. h g (omega arith)), h n (omega arith))
 
   none-recorded : (n : ℕ) → ((g : ℕ) → g < n → dirtyAt (s .pages) p g ≡ false) → recorded s p n ≡ s .records
-  unfolding recorded changed
+  unfolding recorded
   none-recorded zero h = refl
   none-recorded (suc n) h = rw (h n (omega arith)) (none-recorded n (λ g k. h g (omega arith)))
 
@@ -109,12 +111,30 @@ module _ (s : State) (p : ℕ) where
 
     -- closing leaves the state as it is
     pub nothing-to-close : closed s p ≡ s
-    unfolding closed anyChanged
+    unfolding closed anyDirty
     nothing-to-close =
         let present-clean : (g : ℕ) → g < s .counts .pages → dirtyAt (s .pages) p g ≡ false = λ g h. clean-at g (omega (arith, order .pages-fit)) in
-        let unchanged = none-changed (s .counts .pages) present-clean in
+        let unchanged = none-dirty (s .counts .pages) present-clean in
         let unrecorded = none-recorded (s .counts .pages) present-clean in
         λ i. withRecords (withClocks (withPages s (pages-kept i)) (cond (unchanged i) (ticked s p) (s .clocks))) (unrecorded i)
+
+-- ---- the state with one
+
+-- a dirty page is a present one
+some-dirty : (lim : Limits) (s : State) (p : ℕ) → InOrder lim s → any (lim .pages) (dirtyAt (s .pages) p) ≡ true → anyDirty s p ≡ true
+unfolding anyDirty
+some-dirty lim s p order e = let a = any-at (lim .pages) (dirtyAt (s .pages) p) e in any-holds (s .counts .pages) (dirtyAt (s .pages) p) (a .at) (here (a .at) (a .passes)) (a .passes)
+  where
+    no-and : (b : Bool) → (b && false) ≡ false
+    no-and true = refl
+    no-and false = refl
+
+    here : (g : ℕ) → dirtyAt (s .pages) p g ≡ true → g < s .counts .pages
+    here g d = go (ltb g (s .counts .pages)) refl
+      where
+        go : (b : Bool) → ltb g (s .counts .pages) ≡ b → g < s .counts .pages
+        go true l = ltb-true g (s .counts .pages) l
+        go false l = absurd (false≢true (sym (order .absent-clean p g (unfold presentHolder in rw l (no-and (present s p)))) ∙ d))
 
 -- ---- closing
 
@@ -132,4 +152,8 @@ module _ (c w r m : List ℕ) (p : ℕ) (ready : Acts c w r m p) where
   closed-already b said e =
       record { lent = ready .lent; is = sym (nothing-to-close (stateIn mainframe c w r m) p mainframe (ready .in-order) (ready .from) on-machine (sym (said .is c w r) ∙ e)) }
 
-pub ruleset dirty-laws = (first-on-page, looked-begins, looked-place, looked-more, looked-ends, marks-there, closed-already, needs)
+  -- with a dirty page there is an interval to close
+  pub dirty-acts : (b : Bool) → AnyDirty m p b → b ≡ true → ActsDirty c w r m p
+  dirty-acts b said e = record { acts = ready; dirty = some-dirty mainframe (stateIn mainframe c w r m) p (ready .in-order) (sym (said .is c w r) ∙ e) }
+
+pub ruleset dirty-laws = (first-on-page, looked-begins, looked-place, looked-more, looked-ends, marks-there, closed-already, dirty-acts, needs)

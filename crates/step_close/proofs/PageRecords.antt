@@ -24,7 +24,7 @@ use Rattle.layout.proofs.PageLaws.{copy-row-there, twin-row-there, copy-read, t
 use Rattle.layout.proofs.RowLaws.{length-row}
 use Rattle.layout.proofs.SlotLaws.{slot-written}
 use Rattle.step_close.specs.inner.Parts.{oneMore, recordMade, pageRecord}
-use Rattle.step_close.specs.inner.Needed.{ChangeAppendable, PageSlotThere, RecordFits}
+use Rattle.step_close.specs.inner.Needed.{PageAppendable, PageSlotThere, RecordFits}
 use Rattle.step_close.proofs.SlotBytes.{part-stored}
 
 -- ---- in a slot of the area
@@ -33,16 +33,15 @@ use Rattle.step_close.proofs.SlotBytes.{part-stored}
 pub words-row : (w : List ℕ) (row : ℕ) → length w ≡ wordArea → row < wordRowLimit → RowThere pageWidth w row
 words-row w row e h = record { within = omega arith }
 
-module _ (w r : List ℕ) (p i g mask slot : ℕ) (there : PageSlotThere w r p i g mask slot) where
+module _ (w r : List ℕ) (p i g slot : ℕ) (there : PageSlotThere w r p i g slot) where
   -- the page has its rows
   pub record-on-page : OnPage p g
   record-on-page = record { from = there .from; to = there .to; page = there .page }
 
   -- the pages are whole and the slot is
-  pub record-fits : (old new : List ℕ) (twin copy : ℕ) → old ≡ rowOf pageWidth w twin → new ≡ rowOf pageWidth w copy → twin ≡ twinRow mainframe p g → copy ≡ copyRow mainframe p g
-      → twin < wordRowLimit → copy < wordRowLimit
-      → RecordFits p i g old new mask (take (slotWidth * slot + slotWidth - slotWidth * slot) (drop (slotWidth * slot) r))
-  record-fits old new twin copy eo en et ec ht hc =
+  pub record-fits : (old new : List ℕ) (twin copy : ℕ) → old ≡ rowOf pageWidth w twin → new ≡ rowOf pageWidth w copy → twin < wordRowLimit → copy < wordRowLimit
+      → RecordFits p i g old new (take (slotWidth * slot + slotWidth - slotWidth * slot) (drop (slotWidth * slot) r))
+  record-fits old new twin copy eo en ht hc =
       let k : slotWidth * slot + slotWidth - slotWidth * slot ≡ slotWidth = omega arith in
       record {
         processor = there .to;
@@ -51,7 +50,6 @@ module _ (w r : List ℕ) (p i g mask slot : ℕ) (there : PageSlotThere w r p i
         old-whole = ap length eo ∙ length-row pageWidth w twin (omega (arith, there .words));
         new-whole = ap length en ∙ length-row pageWidth w copy (omega (arith, there .words));
         room = rw k (length-take-le slotWidth (drop (slotWidth * slot) r) (omega (arith, length-drop (slotWidth * slot) r, there .records, there .place)));
-        masked = there .masked ∙ rw (eo, en, et, ec);
       }
 
   -- the slot put back has the bytes of the record
@@ -61,14 +59,14 @@ module _ (w r : List ℕ) (p i g mask slot : ℕ) (there : PageSlotThere w r p i
       → take (slotWidth * slot) r ++ (part ++ drop (slotWidth * slot + slotWidth - slotWidth * slot) (drop (slotWidth * slot) r)) ≡ sets r (slotWidth * slot) (slotBytes (pageRecord p i g w))
   unfolding pageRecord recordMade slotBytes
   record-laid part old new twin copy e eo en et ec ht hc =
-      let fits = record-fits old new twin copy eo en et ec ht hc in
+      let fits = record-fits old new twin copy eo en ht hc in
       let few : length (written old new) ≤ diffLimit = at-most-131-bytes old new (fits .old-whole) (fits .new-whole) in
       part-stored r part (slotBytes (recordMade p i g old new)) (slotWidth * slot) (slotWidth * slot + slotWidth - slotWidth * slot) (omega (arith, there .records, there .place)) (omega (arith, few)) e
       ∙ rw (eo, en, et, ec)
 
 -- ---- one record more
 
-module _ (c w r m : List ℕ) (p g mask : ℕ) (ready : ChangeAppendable c w r m p g mask) where
+module _ (c w r m : List ℕ) (p g : ℕ) (ready : PageAppendable c w r m p g) where
   -- its clock is there
   pub append-clocks : ClocksOf c p
   append-clocks = record { clocks = ready .lent .clocks; from = ready .from; to = ready .to }
@@ -84,7 +82,7 @@ module _ (c w r m : List ℕ) (p g mask : ℕ) (ready : ChangeAppendable c w r m
 
   module _ (e : ℕ) (entry : OwnEntry c p e) where
     -- the first free slot is there, and numbers a little above the own entry fit a byte
-    pub append-slot : (slot x k : ℕ) → (slot ≡ standingCount m) × (slot < 65536) → x ≡ e → k ≤ 100 → PageSlotThere w r p (x + k) g mask slot
+    pub append-slot : (slot x k : ℕ) → (slot ≡ standingCount m) × (slot < 65536) → x ≡ e → k ≤ 100 → PageSlotThere w r p (x + k) g slot
     append-slot slot x k at is h =
         record {
           words = ready .lent .words;
@@ -94,7 +92,6 @@ module _ (c w r m : List ℕ) (p g mask : ℕ) (ready : ChangeAppendable c w r m
           interval = omega (arith, is, entry .is w r m, ready .own-fits);
           page = ready .page;
           place = omega (arith, at .0, ready .room);
-          masked = ready .masked;
         }
 
     record-is : pageRecord p (e + 1) g w ≡ newRecord (stateIn mainframe c w r m) p g

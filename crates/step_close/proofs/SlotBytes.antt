@@ -9,9 +9,10 @@ use lib.Seq.{length-take-le, drop-append-le, set-comm, drop-drop, sets, length-s
 use borrow.Author.Needs.{needs}
 use Rattle.limits.specs.Limits.{slotHead}
 use Rattle.limits.specs.inner.Sizes.{diffLimit, slotWidth}
-use Rattle.diff.specs.Format.{written}
+use Rattle.diff.specs.Format.{difference, written}
 use Rattle.diff.proofs.Theorems.{at-most-131-bytes}
-use Rattle.diff_writer.specs.inner.Needed.{RoomForDiff}
+use Rattle.diff_writer.specs.inner.Masks.{maskOf}
+use Rattle.diff_writer.specs.inner.Needed.{PagesWhole, RoomForDiff}
 use Rattle.rules.specs.State.{slotBytes}
 use Rattle.step_close.specs.inner.Parts.{recordMade}
 use Rattle.step_close.specs.inner.Needed.{RecordFits, SlotFits, DiffFits}
@@ -35,12 +36,16 @@ part-stored xs ys vs a k h l e =
 
 -- ---- the diff of two whole pages finds room
 
-module _ (old new : List ℕ) (mask : ℕ) (out : List ℕ) (fits : DiffFits old new mask out) where
-  pub diff-room : RoomForDiff old new mask out
-  diff-room =
+module _ (old new out : List ℕ) (fits : DiffFits old new out) where
+  -- both pages are whole
+  pub diff-pages : PagesWhole old new
+  diff-pages = record { old-whole = fits .old-whole; new-whole = fits .new-whole }
+
+  pub diff-room : (mask : ℕ) → mask ≡ maskOf (difference old new) → RoomForDiff old new mask out
+  diff-room mask e =
       record {
-        whole = record { old-whole = fits .old-whole; new-whole = fits .new-whole };
-        is = fits .masked;
+        whole = diff-pages;
+        is = e;
         room = omega (arith, at-most-131-bytes old new (fits .old-whole) (fits .new-whole), fits .room);
       }
 
@@ -50,15 +55,14 @@ module _ (old new : List ℕ) (mask : ℕ) (out : List ℕ) (fits : DiffFits old
 
 -- ---- the part behind the four numbers
 
-module _ (old new : List ℕ) (mask : ℕ) (slot : List ℕ) (fits : SlotFits old new mask slot) where
+module _ (old new slot : List ℕ) (fits : SlotFits old new slot) where
   -- every diff has room behind the numbers
-  pub room-behind : DiffFits old new mask (take (slotWidth - slotHead) (drop slotHead slot))
+  pub room-behind : DiffFits old new (take (slotWidth - slotHead) (drop slotHead slot))
   room-behind =
       record {
         old-whole = fits .old-whole;
         new-whole = fits .new-whole;
         room = omega (arith, length-take-le diffLimit (drop slotHead slot) (omega (arith, length-drop slotHead slot, fits .room)));
-        masked = fits .masked;
       }
 
   -- the part put back has the diff behind the numbers
@@ -75,10 +79,10 @@ set-before [] l i j a h = refl
 set-before (v ∷ vs) l i j a h =
     set-before vs (set l i v) (suc i) j a (omega arith) ∙ ap (λ (k : List ℕ). sets k (suc i) vs) (set-comm l i j v a (λ e. omega (arith, e, h)))
 
-module _ (p i g : ℕ) (old new : List ℕ) (mask : ℕ) (slot : List ℕ) (fits : RecordFits p i g old new mask slot) where
+module _ (p i g : ℕ) (old new slot : List ℕ) (fits : RecordFits p i g old new slot) where
   -- what the diff needs
-  pub slot-fits : SlotFits old new mask slot
-  slot-fits = record { old-whole = fits .old-whole; new-whole = fits .new-whole; room = fits .room; masked = fits .masked }
+  pub slot-fits : SlotFits old new slot
+  slot-fits = record { old-whole = fits .old-whole; new-whole = fits .new-whole; room = fits .room }
 
   -- a place of the slot, after the diff was laid
   pub slot-place : (out : List ℕ) (k : ℕ) → out ≡ sets slot slotHead (written old new) → k < slotWidth → k < length out
@@ -111,4 +115,4 @@ module _ (p i g : ℕ) (old new : List ℕ) (mask : ℕ) (slot : List ℕ) (fits
       ∙ ap (λ (x : List ℕ). set x 3 (length d)) (set-before d (set (set slot 0 p) 1 i) slotHead 2 g (omega arith))
       ∙ set-before d (set (set (set slot 0 p) 1 i) 2 g) slotHead 3 (length d) (omega arith))
 
-pub ruleset slot-laws = (diff-room, diff-length, room-behind, diff-behind, slot-fits, slot-place, slot-place-1, slot-place-2, slot-place-3, slot-filled, needs)
+pub ruleset slot-laws = (diff-pages, diff-room, diff-length, room-behind, diff-behind, slot-fits, slot-place, slot-place-1, slot-place-2, slot-place-3, slot-filled, needs)

@@ -1,4 +1,4 @@
-// Closing an interval: what its processor changed becomes records, its clock ticks, its pages become clean.
+// Closing an interval: the pages that its processor has written become records, its clock ticks, its pages become clean.
 // The contracts say so of the state that the lent areas hold, in the words of the rules (specs/Close.antt of the crate rules).
 ghost use mathlib.Core.Path.{_≡_};
 ghost use mathlib.Core.Bool.{not, _||_};
@@ -13,9 +13,9 @@ ghost use Rattle.rules.specs.State.{mainframe, slotBytes};
 ghost use Rattle.rules.specs.Close.{raised, closed};
 ghost use Rattle.layout.specs.Layout.{rowOf};
 ghost use Rattle.layout.specs.Areas.{stateIn};
-ghost use Rattle.layout.specs.inner.Needed.{Acts, RowThere, MarksOf, Holds, PageThere};
-ghost use Rattle.step_close.specs.inner.Parts.{recordMade, pageRecord, oneMore, pageRecorded, allRecorded, PageChanged, AnyChanged, AnyDirty, Ticked};
-ghost use Rattle.step_close.specs.inner.Needed.{Recordable, ChangeAppendable, PageSlotThere, RecordFits, SlotFits, DiffFits, ChangedWords, Raisable, Tickable};
+ghost use Rattle.layout.specs.inner.Needed.{Acts, RowThere, MarksOf, Holds};
+ghost use Rattle.step_close.specs.inner.Parts.{recordMade, pageRecord, oneMore, pageRecorded, allRecorded, AnyDirty, Ticked};
+ghost use Rattle.step_close.specs.inner.Needed.{ActsDirty, Recordable, PageAppendable, PageSlotThere, RecordFits, SlotFits, DiffFits, Raisable, Tickable};
 use clock::Clock;
 use clock::IntervalId;
 use clock::PageId;
@@ -38,7 +38,7 @@ use limits::PAGE_WIDTH;
 use limits::SLOT_HEAD;
 use limits::SLOT_WIDTH;
 
-// Closes the interval of a processor: for each page that changed one record, if there is one the clock of the interval, and clean pages.
+// Closes the interval of a processor: for each dirty page one record, if there is one the clock of the interval, and clean pages.
 // A processor without a dirty page has nothing to close.
 pub fn close(p: ProcessorId, clocks: &mut [u8], words: &[u32], records: &mut [u8], marks: &mut [u8])
     requires { ⌜ Acts (now clocks) (now words) (now records) (now marks) (p .0) ⌝ }
@@ -71,7 +71,7 @@ fn also(before: bool, mark: u8) -> bool
     if mark == 0 { before } else { true }
 }
 
-// The same page by page. It is right without a dirty page too, only slower.
+// Closes the interval of a processor that has a dirty page.
 fn close_dirty(
     p: ProcessorId,
     clocks: &mut [u8],
@@ -79,43 +79,28 @@ fn close_dirty(
     records: &mut [u8],
     marks: &mut [u8],
 )
-    requires { ⌜ Acts (now clocks) (now words) (now records) (now marks) (p .0) ⌝ }
+    requires { ⌜ ActsDirty (now clocks) (now words) (now records) (now marks) (p .0) ⌝ }
     ensures { λ _. ⌜ Holds (now (clocks .exit)) (now (words .entry)) (now (records .exit)) (now (marks .exit)) (closed (stateIn mainframe (now (clocks .entry)) (now (words .entry)) (now (records .entry)) (now (marks .entry))) (p .0)) ⌝ }
 {
-    let any = record_pages(p, clocks, words, records, marks);
+    record_pages(p, clocks, words, records, marks);
     clean_pages(marks, p);
-    if any {
-        tick(p, clocks);
-    }
+    tick(p, clocks);
 }
 
-// The records of all pages that changed, upwards, and whether any did.
-fn record_pages(
-    p: ProcessorId,
-    clocks: &[u8],
-    words: &[u32],
-    records: &mut [u8],
-    marks: &mut [u8],
-) -> bool
-    requires { ⌜ Acts (now clocks) (now words) (now records) (now marks) (p .0) ⌝ }
-    ensures { λ r. ⌜ AnyChanged (stateIn mainframe (now (clocks .entry)) (now (words .entry)) (now (records .entry)) (now (marks .entry))) (p .0) r ⌝ }
-    ensures { λ r. ⌜ Holds (now (clocks .entry)) (now (words .entry)) (now (records .exit)) (now (marks .exit)) (allRecorded (stateIn mainframe (now (clocks .entry)) (now (words .entry)) (now (records .entry)) (now (marks .entry))) (p .0)) ⌝ }
+// The records of all dirty pages, upwards.
+fn record_pages(p: ProcessorId, clocks: &[u8], words: &[u32], records: &mut [u8], marks: &mut [u8])
+    requires { ⌜ ActsDirty (now clocks) (now words) (now records) (now marks) (p .0) ⌝ }
+    ensures { λ _. ⌜ Holds (now (clocks .entry)) (now (words .entry)) (now (records .exit)) (now (marks .exit)) (allRecorded (stateIn mainframe (now (clocks .entry)) (now (words .entry)) (now (records .entry)) (now (marks .entry))) (p .0)) ⌝ }
 {
     let n = page_count(marks);
-    let mut any = false;
     let mut g: usize = 0;
     while g < n {
-        if record_page(p, PageId(g), clocks, words, records, marks) {
-            any = true;
-            g = g + 1;
-        } else {
-            g = g + 1;
-        }
+        record_page(p, PageId(g), clocks, words, records, marks);
+        g = g + 1;
     }
-    any
 }
 
-// The record of a page, if the page changed, and whether it did.
+// The record of a page, if it is dirty: a page that was written is noted, though no word of it may differ.
 fn record_page(
     p: ProcessorId,
     g: PageId,
@@ -123,48 +108,30 @@ fn record_page(
     words: &[u32],
     records: &mut [u8],
     marks: &mut [u8],
-) -> bool
+)
     requires { ⌜ Recordable (now clocks) (now words) (now records) (now marks) (p .0) (g .0) ⌝ }
-    ensures { λ r. ⌜ PageChanged (now (words .entry)) (now (marks .entry)) (p .0) (g .0) r ⌝ }
-    ensures { λ r. ⌜ Holds (now (clocks .entry)) (now (words .entry)) (now (records .exit)) (now (marks .exit)) (pageRecorded (stateIn mainframe (now (clocks .entry)) (now (words .entry)) (now (records .entry)) (now (marks .entry))) (p .0) (g .0)) ⌝ }
+    ensures { λ _. ⌜ Holds (now (clocks .entry)) (now (words .entry)) (now (records .exit)) (now (marks .exit)) (pageRecorded (stateIn mainframe (now (clocks .entry)) (now (words .entry)) (now (records .entry)) (now (marks .entry))) (p .0) (g .0)) ⌝ }
 {
-    let mask = changed_words(p, g, words, marks);
-    if mask == 0 {
-        return false;
+    if is_dirty(marks, p, g) {
+        append(p, g, clocks, words, records, marks);
     }
-    append(p, g, mask, clocks, words, records, marks);
-    true
 }
 
-// The words in which a dirty page of a processor differs from its twin, as a mask; 0 for a page that is clean.
-fn changed_words(p: ProcessorId, g: PageId, words: &[u32], marks: &[u8]) -> u32
-    requires { ⌜ PageThere (now words) (now marks) (p .0) (g .0) ⌝ }
-    ensures { λ r. ⌜ ChangedWords (now (words .entry)) (now (marks .entry)) (p .0) (g .0) r ⌝ }
-{
-    if !is_dirty(marks, p, g) {
-        return 0;
-    }
-    let old = page(words, twin_row(p, g));
-    let new = page(words, copy_row(p, g));
-    diff_writer::changed_words(old, new)
-}
-
-// One record more: that of a page that changed, in the first slot that is free.
+// One record more: that of a dirty page, in the first slot that is free.
 fn append(
     p: ProcessorId,
     g: PageId,
-    mask: u32,
     clocks: &[u8],
     words: &[u32],
     records: &mut [u8],
     marks: &mut [u8],
 )
-    requires { ⌜ ChangeAppendable (now clocks) (now words) (now records) (now marks) (p .0) (g .0) mask ⌝ }
+    requires { ⌜ PageAppendable (now clocks) (now words) (now records) (now marks) (p .0) (g .0) ⌝ }
     ensures { λ _. ⌜ Holds (now (clocks .entry)) (now (words .entry)) (now (records .exit)) (now (marks .exit)) (oneMore (stateIn mainframe (now (clocks .entry)) (now (words .entry)) (now (records .entry)) (now (marks .entry))) (p .0) (g .0)) ⌝ }
 {
     let interval = IntervalId(wide(own_entry(clocks, p)) + 1);
     let count = standing_count(marks);
-    lay_record(p, interval, g, mask, words, records, count);
+    lay_record(p, interval, g, words, records, count);
     put_standing_count(marks, count + 1);
 }
 
@@ -173,19 +140,18 @@ fn lay_record(
     p: ProcessorId,
     interval: IntervalId,
     g: PageId,
-    mask: u32,
     words: &[u32],
     records: &mut [u8],
     slot: usize,
 )
-    requires { ⌜ PageSlotThere (now words) (now records) (p .0) (interval .0) (g .0) mask slot ⌝ }
+    requires { ⌜ PageSlotThere (now words) (now records) (p .0) (interval .0) (g .0) slot ⌝ }
     ensures { λ _. ⌜ now (records .exit) ≡ sets (now (records .entry)) (slotWidth * slot) (slotBytes (pageRecord (p .0) (interval .0) (g .0) (now (words .entry)))) ⌝ }
 {
     let old = page(words, twin_row(p, g));
     let new = page(words, copy_row(p, g));
     let from = SLOT_WIDTH * slot;
     let to = from + SLOT_WIDTH;
-    fill_slot(p, interval, g, old, new, mask, &mut records[from..to]);
+    fill_slot(p, interval, g, old, new, &mut records[from..to]);
 }
 
 // The bytes of a record in its slot; those behind it keep what they hold.
@@ -195,13 +161,12 @@ fn fill_slot(
     g: PageId,
     old: &[u32],
     new: &[u32],
-    mask: u32,
     slot: &mut [u8],
 )
-    requires { ⌜ RecordFits (p .0) (interval .0) (g .0) (now old) (now new) mask (now slot) ⌝ }
+    requires { ⌜ RecordFits (p .0) (interval .0) (g .0) (now old) (now new) (now slot) ⌝ }
     ensures { λ _. ⌜ now (slot .exit) ≡ sets (now (slot .entry)) 0 (slotBytes (recordMade (p .0) (interval .0) (g .0) (now (old .entry)) (now (new .entry)))) ⌝ }
 {
-    let n = lay_diff_behind(old, new, mask, slot);
+    let n = lay_diff_behind(old, new, slot);
     slot[0] = (p.0 % 256) as u8;
     slot[1] = (interval.0 % 256) as u8;
     slot[2] = (g.0 % 256) as u8;
@@ -209,20 +174,21 @@ fn fill_slot(
 }
 
 // The diff of two pages behind the four numbers of a slot, and its length.
-fn lay_diff_behind(old: &[u32], new: &[u32], mask: u32, slot: &mut [u8]) -> u8
-    requires { ⌜ SlotFits (now old) (now new) mask (now slot) ⌝ }
+fn lay_diff_behind(old: &[u32], new: &[u32], slot: &mut [u8]) -> u8
+    requires { ⌜ SlotFits (now old) (now new) (now slot) ⌝ }
     ensures { λ r. ⌜ r ≡ length (written (now (old .entry)) (now (new .entry))) ⌝ }
     ensures { λ r. ⌜ now (slot .exit) ≡ sets (now (slot .entry)) slotHead (written (now (old .entry)) (now (new .entry))) ⌝ }
 {
-    lay_diff(old, new, mask, &mut slot[SLOT_HEAD..SLOT_WIDTH])
+    lay_diff(old, new, &mut slot[SLOT_HEAD..SLOT_WIDTH])
 }
 
 // The diff of two pages at the start of `out`, and its length: 131 bytes suffice for every diff.
-fn lay_diff(old: &[u32], new: &[u32], mask: u32, out: &mut [u8]) -> u8
-    requires { ⌜ DiffFits (now old) (now new) mask (now out) ⌝ }
+fn lay_diff(old: &[u32], new: &[u32], out: &mut [u8]) -> u8
+    requires { ⌜ DiffFits (now old) (now new) (now out) ⌝ }
     ensures { λ r. ⌜ r ≡ length (written (now (old .entry)) (now (new .entry))) ⌝ }
     ensures { λ r. ⌜ now (out .exit) ≡ sets (now (out .entry)) 0 (written (now (old .entry)) (now (new .entry))) ⌝ }
 {
+    let mask = diff_writer::changed_words(old, new);
     let n = diff_writer::write_changed(old, new, mask, out);
     (n % 256) as u8
 }

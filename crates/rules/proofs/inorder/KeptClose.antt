@@ -8,19 +8,19 @@ use mathlib.Core.Bool.{Bool, true, false, cond}
 use Rattle.lists.proofs.Tables.{any-at}
 use Rattle.rules.specs.State.{Limits, dirtyAt, Records, State, withClocks, withPages, withRecords}
 use Rattle.rules.specs.InOrder.{present}
-use Rattle.rules.specs.Close.{changed, anyChanged, ticked, recorded, cleaned, closed}
+use Rattle.rules.specs.Close.{anyDirty, ticked, recorded, cleaned, closed}
 use Rattle.rules.proofs.inorder.Facts.{InOrder}
 use Rattle.rules.proofs.inorder.KeptParts.{presentAmong, among-says, ownIn, PagesInOrder, Parts, parts-of, in-order-of}
 use Rattle.rules.proofs.inorder.KeptRounds.{own-ticked-same, own-ticked-other, ticked-in-order}
-use Rattle.rules.proofs.inorder.KeptNewRecords.{changed-is-dirty, Closing, recorded-below, recorded-unchanged}
+use Rattle.rules.proofs.inorder.KeptNewRecords.{Closing, recorded-below, records-stay}
 use Rattle.rules.proofs.inorder.KeptPages.{dirty-cleaned-same, dirty-cleaned-other, dirty-after-cleaning, cleaned-in-order, dirty-pages-cleaned, dirty-pages-part}
 
--- a processor with a changed page has an interval left
-pub changed-has-interval : (lim : Limits) (s : State) (p : ℕ) → Parts lim s → anyChanged s p ≡ true → ownIn (s .clocks) p < lim .intervals
-unfolding anyChanged
-changed-has-interval lim s p f e =
-    let a = any-at (s .counts .pages) (changed s p) e in
-    f .dirty-has-interval p (a .at) (changed-is-dirty s p (a .at) (a .passes))
+-- a processor with a dirty page has an interval left
+pub closing-has-interval : (lim : Limits) (s : State) (p : ℕ) → Parts lim s → anyDirty s p ≡ true → ownIn (s .clocks) p < lim .intervals
+unfolding anyDirty
+closing-has-interval lim s p f e =
+    let a = any-at (s .counts .pages) (dirtyAt (s .pages) p) e in
+    f .dirty-has-interval p (a .at) (a .passes)
 
 own-ticked-grows : (s : State) (p q : ℕ) → 1 ≤ p → ownIn (s .clocks) q ≤ ownIn (ticked s p) q
 own-ticked-grows s p q h = go (ℕ-discrete q p)
@@ -46,7 +46,7 @@ closing-ready lim s p f a =
 -- every part stays in order
 pub closed-parts : (lim : Limits) (s : State) (p : ℕ) → Parts lim s → presentAmong (s .counts) p ≡ true → Parts lim (closed s p)
 unfolding closed
-closed-parts lim s p f a = go (anyChanged s p) refl
+closed-parts lim s p f a = go (anyDirty s p) refl
   where
     b : (1 ≤ p) × (p ≤ s .counts .processors)
     b = among-says (s .counts) p a
@@ -54,23 +54,23 @@ closed-parts lim s p f a = go (anyChanged s p) refl
     pages-after : PagesInOrder lim (s .counts) (cleaned (s .pages) p)
     pages-after = cleaned-in-order lim (s .counts) (s .pages) p (f .pages) (b .0) (omega (arith, b .1, f .counts .processors-fit))
 
-    go : (t : Bool) → anyChanged s p ≡ t
+    go : (t : Bool) → anyDirty s p ≡ t
         → Parts lim (withRecords (withClocks (withPages s (cleaned (s .pages) p)) (cond t (ticked s p) (s .clocks))) (recorded s p (s .counts .pages)))
     go true e =
         let r = recorded-below lim s p (ownIn (ticked s p)) (s .counts .pages) (closing-ready lim s p f a) (omega arith) in
         record {
           counts = f .counts;
-          clocks = ticked-in-order lim s p (f .counts) (f .clocks) a (changed-has-interval lim s p f e);
+          clocks = ticked-in-order lim s p (f .counts) (f .clocks) a (closing-has-interval lim s p f e);
           pages = pages-after;
           records = r .in-order;
           marks = f .marks;
-          room = omega (arith, r .few, f .room, dirty-pages-cleaned (s .counts) (s .pages) p a);
+          room = omega (arith, r .standing-grown, f .room, dirty-pages-cleaned (s .counts) (s .pages) p a);
           dirty-has-interval = λ q g d.
               let c = dirty-after-cleaning (s .pages) p q g d in
               omega (arith, own-ticked-other s p q (c .1), f .dirty-has-interval q g (c .0));
         }
     go false e =
-        let is : recorded s p (s .counts .pages) ≡ s .records = recorded-unchanged s p (s .counts .pages) (unfold anyChanged in e) in
+        let is : recorded s p (s .counts .pages) ≡ s .records = records-stay s p (s .counts .pages) (unfold anyDirty in e) in
         let same : recorded s p (s .counts .pages) .standing ≡ s .records .standing = ap (λ (r : Records). r .standing) is in
         record {
           counts = f .counts;

@@ -1,10 +1,10 @@
--- The records stay in order when a processor that ends an interval records its changed pages, and there is room for them. Rests on
+-- The records stay in order when a processor that ends an interval records its dirty pages, and there is room for them. Rests on
 -- KeptRecords. Assumes nothing.
 use Prim.Native.Nat.{ℕ, zero, suc, _+_, _≤_, _<_}
 use native.Mathlib.Omega.{arith}
 use native.Mathlib.Decide.{ℕ-discrete}
 use mathlib.Core.Path.{_≡_, refl, sym, ap, _∙_}
-use mathlib.Core.Bool.{Bool, true, false, cond, _&&_, _||_, and-eq-true-iff, false≢true}
+use mathlib.Core.Bool.{Bool, true, false, cond, _&&_, _||_, false≢true}
 use mathlib.Core.List.{List, []}
 use lib.ListN.{length, getD}
 use lib.Dec.{eqb}
@@ -17,7 +17,7 @@ use Rattle.diff.proofs.Legal.{read-when-legal, legal-when-written}
 use Rattle.diff.proofs.Theorems.{length-difference, at-most-bytes}
 use Rattle.rules.specs.State.{Limits, copyOf, twinOf, dirtyAt, Record, Records, recordIn, appended, State, clock, own}
 use Rattle.rules.specs.InOrder.{sameNotice}
-use Rattle.rules.specs.Close.{differ, changed, newRecord, recorded}
+use Rattle.rules.specs.Close.{newRecord, recorded}
 use Rattle.rules.proofs.inorder.KeptParts.{presentAmong, among-says, ownIn, dirtyBelow, CountsInOrder, PagesInOrder, RecordsInOrder}
 use Rattle.rules.proofs.inorder.KeptRecords.{records-with-more-intervals, Appendable, new-slot-at, old-slot-at, record-in-new-slot, appended-in-order}
 
@@ -32,11 +32,6 @@ notice-differs r q h = go (eqb (r .processor) (q .processor)) (eqb (r .interval)
     go true true false x y z = refl
     go true true true x y z = absurd (h (eqb-true (r .processor) (q .processor) x) (eqb-true (r .interval) (q .interval) y) (eqb-true (r .page) (q .page) z))
 
--- a changed page is a dirty one
-pub changed-is-dirty : (s : State) (p g : ℕ) → changed s p g ≡ true → dirtyAt (s .pages) p g ≡ true
-unfolding changed
-changed-is-dirty s p g e = and-eq-true-iff (dirtyAt (s .pages) p g) (differ (twinOf (s .pages) p g) (copyOf (s .pages) p g)) .0 e .0
-
 -- what a processor needs before it ends an interval, where o gives the own entries afterwards
 pub record Closing (lim : Limits) (s : State) (p : ℕ) (o : ℕ → ℕ) : Type 0 where
   pub counts : CountsInOrder lim (s .counts)
@@ -50,7 +45,7 @@ pub record Closing (lim : Limits) (s : State) (p : ℕ) (o : ℕ → ℕ) : Type
 -- what holds after the pages below g were recorded
 pub record RecordedBelow (lim : Limits) (s : State) (p : ℕ) (o : ℕ → ℕ) (g : ℕ) : Type 0 where
   pub in-order : RecordsInOrder lim (s .counts) o (recorded s p g)
-  pub few : recorded s p g .standing ≤ s .records .standing + dirtyBelow (s .pages) p g
+  pub standing-grown : recorded s p g .standing ≡ s .records .standing + dirtyBelow (s .pages) p g
   pub below : (i : ℕ) → i < recorded s p g .standing → recordIn (getD (recorded s p g .slots) i []) .processor ≡ p
       → recordIn (getD (recorded s p g .slots) i []) .interval ≡ ownIn (s .clocks) p + 1 → recordIn (getD (recorded s p g .slots) i []) .page < g
 
@@ -59,7 +54,7 @@ pub diff-legal : (w : ℕ) (old new : List ℕ) → length old ≡ w → length 
 unfolding written
 diff-legal w old new h k = read-when-legal w (written old new) (legal-when-written w (difference old new) (length-difference old new (h ∙ sym k) ∙ h))
 
-new-record-appendable : (lim : Limits) (s : State) (p : ℕ) (o : ℕ → ℕ) (g : ℕ) → Closing lim s p o → g < s .counts .pages → changed s p g ≡ true → RecordedBelow lim s p o g
+new-record-appendable : (lim : Limits) (s : State) (p : ℕ) (o : ℕ → ℕ) (g : ℕ) → Closing lim s p o → g < s .counts .pages → dirtyAt (s .pages) p g ≡ true → RecordedBelow lim s p o g
     → Appendable lim (s .counts) o (recorded s p g) (newRecord s p g)
 unfolding newRecord own clock total
 new-record-appendable lim s p o g z h e r =
@@ -68,10 +63,10 @@ new-record-appendable lim s p o g z h e r =
     let on : g < lim .pages = omega (arith, z .counts .pages-fit) in
     let twin = z .pages .twin p g (b .0) fit on in
     let copy = z .pages .copy p g (b .0) fit on in
-    let one : _≡_ {A = ℕ} (cond (dirtyAt (s .pages) p g) 1 0) 1 = ap (λ (t : Bool). cond t 1 0) (changed-is-dirty s p g e) in
+    let one : _≡_ {A = ℕ} (cond (dirtyAt (s .pages) p g) 1 0) 1 = ap (λ (t : Bool). cond t 1 0) e in
     let most : dirtyBelow (s .pages) p (suc g) ≤ dirtyBelow (s .pages) p (s .counts .pages) = total-of-more (suc g) (s .counts .pages) (λ k. cond (dirtyAt (s .pages) p k) 1 0) h in
     record {
-      room = omega (arith, r .few, one, most, z .room);
+      room = omega (arith, r .standing-grown, one, most, z .room);
       processor = z .present;
       page = h;
       some-interval = omega arith;
@@ -86,7 +81,7 @@ unfolding recorded total
 recorded-none lim s p o z =
     record {
       in-order = records-with-more-intervals lim (s .counts) (ownIn (s .clocks)) o (s .records) (z .own-grows) (z .records);
-      few = omega arith;
+      standing-grown = omega arith;
       below = λ i l x y. absurd (earlier i l x y (z .records .sound i l .made-interval));
     }
   where
@@ -95,21 +90,21 @@ recorded-none lim s p o z =
         → recordIn (getD (s .records .slots) i []) .interval ≤ ownIn (s .clocks) (recordIn (getD (s .records .slots) i []) .processor) → ⊥
     earlier i l x y m = let e : ownIn (s .clocks) (recordIn (getD (s .records .slots) i []) .processor) ≡ ownIn (s .clocks) p = ap (ownIn (s .clocks)) x in omega (arith, e, y, m)
 
--- one more page: recorded, or left out where it did not change
+-- one more page: recorded, or left out where it is clean
 recorded-one : (lim : Limits) (s : State) (p : ℕ) (o : ℕ → ℕ) (g : ℕ) → Closing lim s p o → g < s .counts .pages → RecordedBelow lim s p o g → RecordedBelow lim s p o (suc g)
 unfolding recorded total newRecord
-recorded-one lim s p o g z h r = go (changed s p g) refl
+recorded-one lim s p o g z h r = go (dirtyAt (s .pages) p g) refl
   where
-    go : (b : Bool) → changed s p g ≡ b → RecordedBelow lim s p o (suc g)
+    go : (b : Bool) → dirtyAt (s .pages) p g ≡ b → RecordedBelow lim s p o (suc g)
     go true e =
         let a = new-record-appendable lim s p o g z h e r in
         let new = newRecord s p g in
         let after = recorded s p g in
         let is : recorded s p (suc g) ≡ appended after new = ap (λ (t : Bool). cond t (appended after new) after) e in
-        let one : _≡_ {A = ℕ} (cond (dirtyAt (s .pages) p g) 1 0) 1 = ap (λ (t : Bool). cond t 1 0) (changed-is-dirty s p g e) in
+        let one : _≡_ {A = ℕ} (cond (dirtyAt (s .pages) p g) 1 0) 1 = ap (λ (t : Bool). cond t 1 0) e in
         record {
           in-order = rw is (appended-in-order lim (s .counts) o after new (r .in-order) a);
-          few = rw is (omega (arith, r .few, one, standing-appended after new));
+          standing-grown = rw is (omega (arith, r .standing-grown, one, standing-appended after new));
           below = rw is (λ i l x y. appended-below i (omega (arith, l, standing-appended after new)) x y (ℕ-discrete i (after .standing)));
         }
       where
@@ -134,10 +129,11 @@ recorded-one lim s p o g z h r = go (changed s p g) refl
               r .below i (omega arith) (ap (λ (q : Record). q .processor) (sym same) ∙ x) (ap (λ (q : Record). q .interval) (sym same) ∙ y),
             )
     go false e =
+        let none : _≡_ {A = ℕ} (cond (dirtyAt (s .pages) p g) 1 0) 0 = ap (λ (t : Bool). cond t 1 0) e in
         let is : recorded s p (suc g) ≡ recorded s p g = ap (λ (t : Bool). cond t (appended (recorded s p g) (newRecord s p g)) (recorded s p g)) e in
         record {
           in-order = rw is (r .in-order);
-          few = rw is (omega (arith, r .few));
+          standing-grown = rw is (omega (arith, r .standing-grown, none));
           below = rw is (λ i l x y. omega (arith, r .below i l x y));
         }
 
@@ -146,14 +142,14 @@ pub recorded-below : (lim : Limits) (s : State) (p : ℕ) (o : ℕ → ℕ) (g :
 recorded-below lim s p o zero z h = recorded-none lim s p o z
 recorded-below lim s p o (suc g) z h = recorded-one lim s p o g z h (recorded-below lim s p o g z (omega arith))
 
--- where no page changed the records stay
-pub recorded-unchanged : (s : State) (p n : ℕ) → any n (changed s p) ≡ false → recorded s p n ≡ s .records
+-- where no page is dirty the records stay
+pub records-stay : (s : State) (p n : ℕ) → any n (dirtyAt (s .pages) p) ≡ false → recorded s p n ≡ s .records
 unfolding recorded any
-recorded-unchanged s p zero e = refl
-recorded-unchanged s p (suc g) e = go (any g (changed s p)) (changed s p g) refl refl e (recorded-unchanged s p g)
+records-stay s p zero e = refl
+records-stay s p (suc g) e = go (any g (dirtyAt (s .pages) p)) (dirtyAt (s .pages) p g) refl refl e (records-stay s p g)
   where
-    go : (a b : Bool) → any g (changed s p) ≡ a → changed s p g ≡ b → (a || b) ≡ false → (any g (changed s p) ≡ false → recorded s p g ≡ s .records)
-        → cond (changed s p g) (appended (recorded s p g) (newRecord s p g)) (recorded s p g) ≡ s .records
+    go : (a b : Bool) → any g (dirtyAt (s .pages) p) ≡ a → dirtyAt (s .pages) p g ≡ b → (a || b) ≡ false → (any g (dirtyAt (s .pages) p) ≡ false → recorded s p g ≡ s .records)
+        → cond (dirtyAt (s .pages) p g) (appended (recorded s p g) (newRecord s p g)) (recorded s p g) ≡ s .records
     go true b x y e r = let t : _≡_ {A = Bool} false true = sym e in absurd (false≢true t)
     go false true x y e r = let t : _≡_ {A = Bool} false true = sym e in absurd (false≢true t)
     go false false x y e r = ap (λ (t : Bool). cond t (appended (recorded s p g) (newRecord s p g)) (recorded s p g)) y ∙ r x

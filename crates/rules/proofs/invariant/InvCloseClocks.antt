@@ -16,16 +16,15 @@ use Rattle.diff.specs.Format.{Below, setting, written}
 use Rattle.diff.specs.inner.Settings.{settingAt}
 use Rattle.diff.proofs.Theorems.{exactly-the-differing-words}
 use Rattle.rules.specs.State.{Limits, Counts, Holder, Processor, Applied, Interval, Clocks, clockOf, withClock, copyOf, twinOf, dirtyAt, Record, State, clock, own, standing}
-use Rattle.rules.specs.Close.{differ, changed, anyChanged, raised, ticked, newRecord, closed}
+use Rattle.rules.specs.Close.{anyDirty, raised, ticked, newRecord, closed}
 use Rattle.rules.specs.Fetch.{sumAt}
 use Rattle.rules.proofs.state.Holders.{sameHolder, other-holder, clock-of-with-same, clock-of-with-other, Knows, knows-no-interval, entry-raised-own, entry-raised-other, sum-raised}
 use Rattle.rules.proofs.state.Slots.{newRecords}
 use Rattle.rules.proofs.inorder.Facts.{InOrder, whole-copy, whole-twin}
-use Rattle.rules.proofs.inorder.KeptNewRecords.{changed-is-dirty}
 use Rattle.rules.proofs.order.Ghosts.{Ghost}
 use Rattle.rules.proofs.word.WordOfRecords.{nth, isSet, isHit, wordAfter, HitAt}
 use Rattle.rules.proofs.word.SelectedRecords.{nth-first, nth-second}
-use Rattle.rules.proofs.word.NewRecords.{differ-not, new-hit, one-new-hit, new-records-leave, page-record, new-records-set}
+use Rattle.rules.proofs.word.NewRecords.{new-hit, one-new-hit, new-records-leave, page-record, new-records-set}
 use Rattle.rules.proofs.invariant.Invariant.{Covered, PageInv, Inv}
 use Rattle.rules.proofs.invariant.InvSame.{interval-known}
 use Rattle.rules.proofs.invariant.InvTicks.{Ticks}
@@ -57,16 +56,16 @@ module _ (s : State) (p : ℕ) where
   -- the clocks after closing are the old or the ticked ones
   by-clocks : (P : Clocks → Type 0) → P (s .clocks) → P (ticked s p) → P (closed s p .clocks)
   unfolding closed
-  by-clocks P a b = go (anyChanged s p)
+  by-clocks P a b = go (anyDirty s p)
     where
       go : (t : Bool) → P (cond t (ticked s p) (s .clocks))
       go true = b
       go false = a
 
-  -- they are the ticked ones where a page differs
-  closed-ticked : (g : ℕ) → g < s .counts .pages → changed s p g ≡ true → closed s p .clocks ≡ ticked s p
-  unfolding closed anyChanged
-  closed-ticked g h e = rw (any-holds (s .counts .pages) (changed s p) g h e)
+  -- they are the ticked ones where a page is dirty
+  closed-ticked : (g : ℕ) → g < s .counts .pages → dirtyAt (s .pages) p g ≡ true → closed s p .clocks ≡ ticked s p
+  unfolding closed anyDirty
+  closed-ticked g h e = rw (any-holds (s .counts .pages) (dirtyAt (s .pages) p) g h e)
 
   -- the record of an interval that was made keeps its sum
   old-interval : (r : Record) → r .interval ≤ own s (r .processor) → sumAt (ticked s p) r ≡ sumAt (s .clocks) r
@@ -81,10 +80,6 @@ module _ (s : State) (p : ℕ) where
   new-interval-sum : (g : ℕ) → sumAt (ticked s p) (newRecord s p g) ≡ sumOf up
   unfolding sumAt newRecord
   new-interval-sum g = ap sumOf ticked-interval
-
-  changed-parts : (g : ℕ) → (dirtyAt (s .pages) p g && differ (twinOf (s .pages) p g) (copyOf (s .pages) p g)) ≡ changed s p g
-  unfolding changed
-  changed-parts g = refl
 
 -- a word that a setting from a to b finds at a is b afterwards
 setting-word : (a b x : ℕ) → x ≡ a → Option·getD (setting a b) x ≡ b
@@ -123,20 +118,13 @@ module _ (lim : Limits) (g o : ℕ) (s : State) (γ : Ghost) (p : ℕ) (ord : In
   -- the new records leave the copy's word, once the twin's is there
   pub new-word : (x : ℕ) → (dirtyAt (s .pages) p g ≡ true → x ≡ getD (twinOf (s .pages) p g) o 0) → (dirtyAt (s .pages) p g ≡ false → x ≡ getD (copyOf (s .pages) p g) o 0)
       → wordAfter (lim .words) g o new x ≡ getD (copyOf (s .pages) p g) o 0
-  new-word x dirty clean = go (changed s p g) refl
+  new-word x dirty clean = go (dirtyAt (s .pages) p g) refl
     where
-      parts : (b : Bool) → (b && differ (twinOf (s .pages) p g) (copyOf (s .pages) p g)) ≡ false → dirtyAt (s .pages) p g ≡ b → x ≡ getD (copyOf (s .pages) p g) o 0
-      parts true e d = dirty d ∙ ap (λ (page : List ℕ). getD page o 0) (differ-not (twinOf (s .pages) p g) (copyOf (s .pages) p g) e)
-      parts false e d = clean d
-
-      go : (b : Bool) → changed s p g ≡ b → wordAfter (lim .words) g o new x ≡ getD (copyOf (s .pages) p g) o 0
+      go : (b : Bool) → dirtyAt (s .pages) p g ≡ b → wordAfter (lim .words) g o new x ≡ getD (copyOf (s .pages) p g) o 0
       go true e =
           new-records-set s p (lim .words) g o (s .counts .pages) x opened-page e ∙ ap (λ (v : Option ℕ). Option·getD v x) page-setting
-          ∙ setting-word (getD (twinOf (s .pages) p g) o 0) (getD (copyOf (s .pages) p g) o 0) x (dirty (changed-is-dirty s p g e))
-      go false e = new-records-leave s p (lim .words) g o (s .counts .pages) x e ∙ parts (dirtyAt (s .pages) p g) (not-changed e) refl
-        where
-          not-changed : changed s p g ≡ false → (dirtyAt (s .pages) p g && differ (twinOf (s .pages) p g) (copyOf (s .pages) p g)) ≡ false
-          not-changed e = changed-parts s p g ∙ e
+          ∙ setting-word (getD (twinOf (s .pages) p g) o 0) (getD (copyOf (s .pages) p g) o 0) x (dirty e)
+      go false e = new-records-leave s p (lim .words) g o (s .counts .pages) x e ∙ clean e
 
   -- ---- a new record that sets the word
 
@@ -150,15 +138,15 @@ module _ (lim : Limits) (g o : ℕ) (s : State) (γ : Ghost) (p : ℕ) (ord : In
   pub new-is : (i : ℕ) → HitAt (lim .words) g o (l ++ new) i → length l ≤ i → nth (l ++ new) i ≡ newRecord s p g
   new-is i hi ki = nth-second l new i ki ∙ new-hit s p (lim .words) g o (s .counts .pages) (i - length l) (behind i hi ki) .is
 
-  new-differs : (i : ℕ) → HitAt (lim .words) g o (l ++ new) i → length l ≤ i → changed s p g ≡ true
-  new-differs i hi ki = new-hit s p (lim .words) g o (s .counts .pages) (i - length l) (behind i hi ki) .differs
+  new-dirty : (i : ℕ) → HitAt (lim .words) g o (l ++ new) i → length l ≤ i → dirtyAt (s .pages) p g ≡ true
+  new-dirty i hi ki = new-hit s p (lim .words) g o (s .counts .pages) (i - length l) (behind i hi ki) .is-dirty
 
   pub new-by-writer : (i : ℕ) → HitAt (lim .words) g o (l ++ new) i → length l ≤ i → γ .writer ≡ p
   unfolding isHit
   new-by-writer i hi ki = go (ℕ-discrete (γ .writer) p)
     where
       dirty : dirtyAt (s .pages) p g ≡ true
-      dirty = changed-is-dirty s p g (new-differs i hi ki)
+      dirty = new-dirty i hi ki
 
       differs : getD (twinOf (s .pages) p g) o 0 ≡ getD (copyOf (s .pages) p g) o 0 → ⊥
       differs =
@@ -190,9 +178,9 @@ module _ (lim : Limits) (g o : ℕ) (s : State) (γ : Ghost) (p : ℕ) (ord : In
         new-writer = new-by-writer;
         new-processor = λ i hi ki. ap (λ (r : Record). r .processor) (new-is i hi ki);
         new-unknown = λ v within i hi ki cov. omega (arith, rw (new-is i hi ki) at cov, within p);
-        new-covered = λ i hi ki. rw (new-is i hi ki, closed-ticked s p g opened-page (new-differs i hi ki), ticked-own s p) (omega (arith, entry-raised-own (clock s p) p h));
+        new-covered = λ i hi ki. rw (new-is i hi ki, closed-ticked s p g opened-page (new-dirty i hi ki), ticked-own s p) (omega (arith, entry-raised-own (clock s p) p h));
         new-sum = λ i hi ki. omega (arith, new-sum-is i hi ki, sum-raised (clock s p) p h);
-        new-bounded = λ i hi ki. rw (closed-ticked s p g opened-page (new-differs i hi ki), ticked-own s p) (omega (arith, rw (closed-ticked s p g opened-page (new-differs i hi ki)) at (new-sum-is i hi ki)));
+        new-bounded = λ i hi ki. rw (closed-ticked s p g opened-page (new-dirty i hi ki), ticked-own s p) (omega (arith, rw (closed-ticked s p g opened-page (new-dirty i hi ki)) at (new-sum-is i hi ki)));
         one-new = λ i j hi hj ki less.
             one-new-hit s p (lim .words) g o (s .counts .pages) (i - length l) (j - length l) (behind i hi ki) (behind j hj (omega (arith, ki, less))) (omega (arith, ki, less));
       }
@@ -213,4 +201,4 @@ module _ (lim : Limits) (g o : ℕ) (s : State) (γ : Ghost) (p : ℕ) (ord : In
 
       new-sum-is : (i : ℕ) → HitAt (lim .words) g o (l ++ new) i → length l ≤ i → sumAt c′ (nth (l ++ new) i) ≡ sumOf (raised (clock s p) p)
       new-sum-is i hi ki =
-          ap (sumAt c′) (new-is i hi ki) ∙ ap (λ (c : Clocks). sumAt c (newRecord s p g)) (closed-ticked s p g opened-page (new-differs i hi ki)) ∙ new-interval-sum s p g
+          ap (sumAt c′) (new-is i hi ki) ∙ ap (λ (c : Clocks). sumAt c (newRecord s p g)) (closed-ticked s p g opened-page (new-dirty i hi ki)) ∙ new-interval-sum s p g

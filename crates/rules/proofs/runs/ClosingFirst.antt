@@ -3,7 +3,7 @@
 use Prim.Native.Nat.{ℕ, _+_, _%_, _<_}
 use native.Mathlib.Omega.{arith}
 use mathlib.Core.Path.{_≡_, refl, sym, ap, ap₂, _∙_}
-use mathlib.Core.Bool.{Bool, true, false, cond, _&&_, false≢true}
+use mathlib.Core.Bool.{Bool, true, false, cond, false≢true}
 use mathlib.Core.List.{List, [], _∷_}
 use lib.ListN.{getD, replicate}
 use lib.Dec.{lit<}
@@ -13,7 +13,7 @@ use Rattle.diff.specs.Format.{wordBytes, wordsBytes, written}
 use Rattle.diff.specs.Reading.{wordAt, wordsAt}
 use Rattle.diff.proofs.Words.{words-read, below-cons}
 use Rattle.rules.specs.State.{mainframe, Clocks, copyOf, twinOf, dirtyAt, Records, appended, State, withClocks, withPages, withRecords, own}
-use Rattle.rules.specs.Close.{differ, changed, anyChanged, ticked, newRecord, recorded, cleaned, closed}
+use Rattle.rules.specs.Close.{anyDirty, ticked, newRecord, recorded, cleaned, closed}
 use Rattle.rules.specs.Steps.{acquire, release, atBarrier, arrive}
 use Rattle.rules.specs.Refusals.{Step, Action, Read, Write, Acquire, Release, Arrive, Want, Unknown, actionOf, fits, refusalInOrder, effect, answerInOrder, nextInOrder}
 use Rattle.rules.specs.Runs.{answersInOrder}
@@ -24,18 +24,17 @@ use Rattle.rules.proofs.runs.Listing.{start}
 
 -- twin and copy differ in word k alone, which is now x
 pub record OneWord (twin copy : List ℕ) (k x : ℕ) : Type 0 where
-  pub differs : differ twin copy ≡ true
   pub diff : written twin copy ≡ 1 ∷ k ∷ 1 ∷ wordBytes x
 
 -- word 0 was a and is b, the others are 0
 pub first-word : (a b : ℕ) → (a ≡ b → ⊥) → OneWord (a ∷ replicate 31 0) (b ∷ replicate 31 0) 0 b
 unfolding start
-first-word a b h = record { differs = rw (ne-eqb a b h); diff = rw (ne-eqb a b h) }
+first-word a b h = record { diff = rw (ne-eqb a b h) }
 
 -- word 1 was 0 and is b, the others are 0
 pub second-word : (b : ℕ) → (b ≡ 0 → ⊥) → OneWord (replicate 32 0) (0 ∷ b ∷ replicate 30 0) 1 b
 unfolding start
-second-word b h = record { differs = rw (ne-eqb 0 b (λ e. h (sym e))); diff = rw (ne-eqb 0 b (λ e. h (sym e))) }
+second-word b h = record { diff = rw (ne-eqb 0 b (λ e. h (sym e))) }
 
 -- a stored value is read back from the four bytes of its word
 pub read-back : (v : ℕ) → v < 4294967296 → wordAt (wordBytes (valueField v)) 0 ≡ v
@@ -68,13 +67,13 @@ closedWith s p k x =
     withRecords s₁ (appended (s .records) (record { processor = p; interval = own s p + 1; page = 0; diff = 1 ∷ k ∷ 1 ∷ wordBytes x }))
 
 close-of-one-word : (s : State) (p k x : ℕ) (twin copy : List ℕ) → found s p ≡ onePage twin copy → OneWord twin copy k x → closed s p ≡ closedWith s p k x
-unfolding closed closedWith recorded newRecord anyChanged any found changed
+unfolding closed closedWith recorded newRecord anyDirty any found
 close-of-one-word s p k x twin copy f h =
     let one : s .counts .pages ≡ 1 = ap (λ (y : Found). y .pages) f in
-    let test : changed s p 0 ≡ true = ap (λ (y : Found). y .dirty && differ (y .twin) (y .copy)) f ∙ h .differs in
+    let test : dirtyAt (s .pages) p 0 ≡ true = ap (λ (y : Found). y .dirty) f in
     let bytes : written (twinOf (s .pages) p 0) (copyOf (s .pages) p 0) ≡ 1 ∷ k ∷ 1 ∷ wordBytes x = ap (λ (y : Found). written (y .twin) (y .copy)) f ∙ h .diff in
     ap₂ (λ (c : Clocks) (r : Records). withRecords (withClocks (withPages s (cleaned (s .pages) p)) c) r)
-    (ap (λ (n : ℕ). cond (any n (changed s p)) (ticked s p) (s .clocks)) one ∙ ap (λ (b : Bool). cond b (ticked s p) (s .clocks)) test)
+    (ap (λ (n : ℕ). cond (any n (dirtyAt (s .pages) p)) (ticked s p) (s .clocks)) one ∙ ap (λ (b : Bool). cond b (ticked s p) (s .clocks)) test)
     (ap (recorded s p) one
     ∙ ap₂ (λ (b : Bool) (d : List ℕ). cond b (appended (s .records) (record { processor = p; interval = own s p + 1; page = 0; diff = d })) (s .records)) test bytes)
 

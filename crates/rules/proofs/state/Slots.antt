@@ -11,8 +11,8 @@ use lib.Seq.{length-take-le, take-append-seam, getD-take}
 use Rattle.lists.specs.Tables.{put}
 use Rattle.lists.proofs.Tables.{length-put, take-put-next, get-map-within}
 use Rattle.lists.proofs.Selected.{Each, each-at, each-when}
-use Rattle.rules.specs.State.{Record, Records, slotBytes, recordIn, recordsOf, laidOver, appended, State}
-use Rattle.rules.specs.Close.{changed, newRecord, recorded}
+use Rattle.rules.specs.State.{dirtyAt, Record, Records, slotBytes, recordIn, recordsOf, laidOver, appended, State}
+use Rattle.rules.specs.Close.{newRecord, recorded}
 
 pub record-in-laid : (r : Record) (slot : List ℕ) → recordIn (laidOver (slotBytes r) slot) ≡ r
 unfolding recordIn laidOver slotBytes
@@ -38,12 +38,12 @@ slots-appended r new h = omega (arith, length-put [] (r .slots) (r .standing) (l
 -- the records that closing makes for the pages below n
 unfoldable pub newRecords : State → ℕ → ℕ → List Record
 newRecords s p zero = []
-newRecords s p (suc g) = cond (changed s p g) (newRecords s p g ++ newRecord s p g ∷ []) (newRecords s p g)
+newRecords s p (suc g) = cond (dirtyAt (s .pages) p g) (newRecords s p g ++ newRecord s p g ∷ []) (newRecords s p g)
 
 pub slots-recorded : (s : State) (p n : ℕ) → s .records .standing ≤ length (s .records .slots) → recorded s p n .standing ≤ length (recorded s p n .slots)
 unfolding recorded
 slots-recorded s p zero h = h
-slots-recorded s p (suc g) h = go (changed s p g) (slots-recorded s p g h)
+slots-recorded s p (suc g) h = go (dirtyAt (s .pages) p g) (slots-recorded s p g h)
   where
     go : (b : Bool) → recorded s p g .standing ≤ length (recorded s p g .slots)
         → cond b (appended (recorded s p g) (newRecord s p g)) (recorded s p g) .standing ≤ length (cond b (appended (recorded s p g) (newRecord s p g)) (recorded s p g) .slots)
@@ -53,7 +53,7 @@ slots-recorded s p (suc g) h = go (changed s p g) (slots-recorded s p g h)
 pub records-recorded : (s : State) (p n : ℕ) → s .records .standing ≤ length (s .records .slots) → recordsOf (recorded s p n) ≡ recordsOf (s .records) ++ newRecords s p n
 unfolding recorded newRecords
 records-recorded s p zero h = sym (append-nil (recordsOf (s .records)))
-records-recorded s p (suc g) h = go (changed s p g) (records-recorded s p g h) (slots-recorded s p g h)
+records-recorded s p (suc g) h = go (dirtyAt (s .pages) p g) (records-recorded s p g h) (slots-recorded s p g h)
   where
     go : (b : Bool) → recordsOf (recorded s p g) ≡ recordsOf (s .records) ++ newRecords s p g → recorded s p g .standing ≤ length (recorded s p g .slots)
         → recordsOf (cond b (appended (recorded s p g) (newRecord s p g)) (recorded s p g)) ≡ recordsOf (s .records) ++ cond b (newRecords s p g ++ newRecord s p g ∷ []) (newRecords s p g)

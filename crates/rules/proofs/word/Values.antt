@@ -13,9 +13,9 @@ use Rattle.lists.proofs.Selected.{Each, each-append, each-select, each-sort}
 use Rattle.diff.specs.Format.{Below}
 use Rattle.diff.specs.inner.Settings.{settingAt}
 use Rattle.diff.proofs.Theorems.{exactly-the-differing-words}
-use Rattle.rules.specs.State.{Limits, Clocks, Pages, copyOf, twinOf, Record, recordsOf, Marks, State, withClocks, withPages, withMarks, standing}
+use Rattle.rules.specs.State.{dirtyAt, Limits, Clocks, Pages, copyOf, twinOf, Record, recordsOf, Marks, State, withClocks, withPages, withMarks, standing}
 use Rattle.rules.specs.InOrder.{recordAt}
-use Rattle.rules.specs.Close.{changed, newRecord, cleaned, closed}
+use Rattle.rules.specs.Close.{newRecord, cleaned, closed}
 use Rattle.rules.specs.Fetch.{isPending, earlier, due, appliedAll, fetched}
 use Rattle.rules.specs.Steps.{pageOfWord, offsetOfWord, read, twinTaken, stored, write, acquire, release, atBarrier, allArrived, roundDone, emptied, collected, wantsCollection, arrive, want}
 use Rattle.rules.specs.Refusals.{Step, Action, Read, Write, Acquire, Release, Arrive, Want, Unknown, actionOf, effect}
@@ -156,7 +156,7 @@ module _ (lim : Limits) (Good : ℕ → ℕ → ℕ → Type 0) where
     new-records-good : (n : ℕ) → n ≤ s .counts .pages → Each RecordGood (newRecords s p n)
     unfolding newRecords
     new-records-good zero l = tt
-    new-records-good (suc g) l = go (changed s p g) (new-records-good g (omega arith))
+    new-records-good (suc g) l = go (dirtyAt (s .pages) p g) (new-records-good g (omega arith))
       where
         go : (b : Bool) → Each RecordGood (newRecords s p g) → Each RecordGood (cond b (newRecords s p g ++ newRecord s p g ∷ []) (newRecords s p g))
         go true r = each-append RecordGood (newRecords s p g) (newRecord s p g ∷ []) r (new-record-good g l, tt)

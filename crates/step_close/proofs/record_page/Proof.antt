@@ -6,4 +6,4 @@ use Rattle.step_close.proofs.record_page.Tie as tie
 pub record-page-spec : {M : Type 1} → statement M
 record-page-spec =
     tie.close
-    (tie.spec (λ c κs. search page-record-laws) (λ c. search page-record-laws) (λ c. search page-record-laws) (λ c κs. search page-record-laws) (λ c. search page-record-laws) (λ c. search page-record-laws) (λ c. search page-record-laws))
+    (tie.spec (λ c κs. search page-record-laws) (λ c κs. search page-record-laws) (λ c. search page-record-laws) (λ c. search page-record-laws) (λ c. search page-record-laws) (λ c. search page-record-laws) (λ c. search page-record-laws))

@@ -5,12 +5,12 @@ use Rattle.step_close.proofs.record_pages.Statement.{statement}
 use Rattle.step_close.proofs.record_pages.Tie as tie
 
 abbrev Inv-loop : tie.InvT-loop
-Inv-loop p clocks words records₀ marks₀ n any₀ g₀ records marks any g = RecordingPages clocks words records₀ marks₀ records marks (p .0) n g any
+Inv-loop p clocks words records₀ marks₀ n g₀ records marks g = RecordingPages clocks words records₀ marks₀ records marks (p .0) n g
 
 abbrev μ-loop : tie.MeasureT-loop
-μ-loop p clocks words records₀ marks₀ n any₀ g₀ records marks any g = n - g
+μ-loop p clocks words records₀ marks₀ n g₀ records marks g = n - g
 
 pub record-pages-spec : {M : Type 1} → statement M
 record-pages-spec =
     tie.close
-    (tie.spec Inv-loop μ-loop (λ c κs. search all-pages-laws) (λ c. search all-pages-laws) (λ c κs. search all-pages-laws) (λ c. search all-pages-laws) (λ c. search all-pages-laws) (λ c. search all-pages-laws) (λ c. search all-pages-laws) (λ c. search all-pages-laws) (λ c. search all-pages-laws) (λ c. search all-pages-laws) (λ c. search all-pages-laws) (λ c. search all-pages-laws))
+    (tie.spec Inv-loop μ-loop (λ c κs. search all-pages-laws) (λ c. search all-pages-laws) (λ c κs. search all-pages-laws) (λ c. search all-pages-laws) (λ c. search all-pages-laws) (λ c. search all-pages-laws) (λ c. search all-pages-laws) (λ c. search all-pages-laws) (λ c. search all-pages-laws))

@@ -9,7 +9,7 @@ use Rattle.lists.specs.Tables.{any}
 use Rattle.limits.specs.Limits.{pageWidth}
 use Rattle.diff.specs.Format.{written}
 use Rattle.rules.specs.State.{mainframe, dirtyAt, Record, appended, State, withClocks, withRecords}
-use Rattle.rules.specs.Close.{changed, anyChanged, newRecord, recorded, ticked}
+use Rattle.rules.specs.Close.{newRecord, recorded, ticked}
 use Rattle.layout.specs.Layout.{rowOf}
 use Rattle.layout.specs.Areas.{copyRow, twinRow, stateIn}
 
@@ -19,11 +19,11 @@ use Rattle.layout.specs.Areas.{copyRow, twinRow, stateIn}
 unfoldable pub oneMore : State → ℕ → ℕ → State
 oneMore s p g = withRecords s (appended (s .records) (newRecord s p g))
 
--- with it if the page changed
+-- with it if the page is dirty
 unfoldable pub pageRecorded : State → ℕ → ℕ → State
-pageRecorded s p g = withRecords s (cond (changed s p g) (appended (s .records) (newRecord s p g)) (s .records))
+pageRecorded s p g = withRecords s (cond (dirtyAt (s .pages) p g) (appended (s .records) (newRecord s p g)) (s .records))
 
--- "each page that differs gets one record"
+-- "each dirty page now gets a record at closing"
 unfoldable pub allRecorded : State → ℕ → State
 allRecorded s p = withRecords s (recorded s p (s .counts .pages))
 
@@ -38,14 +38,6 @@ unfoldable pub pageRecord : ℕ → ℕ → ℕ → List ℕ → Record
 pageRecord p i g w = recordMade p i g (rowOf pageWidth w (twinRow mainframe p g)) (rowOf pageWidth w (copyRow mainframe p g))
 
 -- ---- answers
-
--- b says whether page g of p changed, where w and m are the areas of the words and of the marks
-pub record PageChanged (w m : List ℕ) (p g : ℕ) (b : Bool) : Type 0 where
-  pub is : (c r : List ℕ) → b ≡ changed (stateIn mainframe c w r m) p g
-
--- b says whether any page of p changed
-pub record AnyChanged (s : State) (p : ℕ) (b : Bool) : Type 0 where
-  pub is : b ≡ anyChanged s p
 
 -- b says whether any page of p is dirty, where m is the area of the marks
 pub record AnyDirty (m : List ℕ) (p : ℕ) (b : Bool) : Type 0 where
