@@ -117,7 +117,7 @@ pub const FIRST_WATERMARK: usize = RANKED_PLACE + 1;
 
 pub const FIRST_BOUND: usize = FIRST_WATERMARK + COPY_LIMIT;
 
-pub const KIND_LIMIT: usize = 7;
+pub const KIND_LIMIT: usize = 10;
 
 pub const KIND_BOUNDS: usize = KIND_LIMIT + 1;
 

@@ -173,7 +173,7 @@ firstBound = firstWatermark + copyLimit
 
 -- from this kind on none is known: they share its place among the bounds
 abbrev pub kindLimit : ℕ
-kindLimit = 7
+kindLimit = 10
 
 -- the places for the kinds: 0, those that are known, and one for all above
 abbrev pub kindBounds : ℕ
