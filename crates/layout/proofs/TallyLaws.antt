@@ -61,6 +61,19 @@ shared-same v w e =
           (λ p t h k l. e (tallyPlace mainframe p t) (omega (arith, tally-at p t)) (tally-there p t k l)) i;
     }
 
+-- a run of words before the tallies leaves them
+pub shared-beside : (w v : List ℕ) (k : ℕ) → k + length v ≤ firstTally → sharedIn mainframe (sets w k v) ≡ sharedIn mainframe w
+shared-beside w v k h = shared-same (sets w k v) w (λ j a b. get-sets-behind v w k j 0 (omega arith))
+
+-- the rows of copies and twins lie before the tallies
+pub copy-row-before : (p g : ℕ) → 1 ≤ p → p ≤ processorLimit → g < pageLimit → pageWidth * copyRow mainframe p g + pageWidth ≤ firstTally
+unfolding copyRow mainframe
+copy-row-before p g h k l = omega arith
+
+pub twin-row-before : (p g : ℕ) → 1 ≤ p → p ≤ processorLimit → g < pageLimit → pageWidth * twinRow mainframe p g + pageWidth ≤ firstTally
+unfolding twinRow copyRow mainframe
+twin-row-before p g h k l = omega arith
+
 -- words that agree before the tallies hold the same pages
 pub pages-same : (v w m : List ℕ) → length v ≡ wordArea → length w ≡ wordArea → WordsAgree v w 0 firstTally → pagesIn mainframe v m ≡ pagesIn mainframe w m
 unfolding pagesIn mainframe
@@ -68,19 +81,13 @@ pages-same v w m lv lw e =
     λ i. record {
       copies =
           page-table-same processorLimit pageLimit (λ p g. rowOf pageWidth v (copyRow mainframe p g)) (λ p g. rowOf pageWidth w (copyRow mainframe p g))
-          (λ p g h k l. row-same (copyRow mainframe p g) (copy-below p g h k l)) i;
+          (λ p g h k l. row-same (copyRow mainframe p g) (copy-row-before p g h k l)) i;
       twins =
           page-table-same processorLimit pageLimit (λ p g. rowOf pageWidth v (twinRow mainframe p g)) (λ p g. rowOf pageWidth w (twinRow mainframe p g))
-          (λ p g h k l. row-same (twinRow mainframe p g) (twin-below p g h k l)) i;
+          (λ p g h k l. row-same (twinRow mainframe p g) (twin-row-before p g h k l)) i;
       dirty = pagesIn mainframe w m .dirty;
     }
   where
-    copy-below : (p g : ℕ) → 1 ≤ p → p ≤ processorLimit → g < pageLimit → pageWidth * copyRow mainframe p g + pageWidth ≤ firstTally
-    copy-below p g h k l = unfold copyRow mainframe in omega arith
-
-    twin-below : (p g : ℕ) → 1 ≤ p → p ≤ processorLimit → g < pageLimit → pageWidth * twinRow mainframe p g + pageWidth ≤ firstTally
-    twin-below p g h k l = unfold twinRow copyRow mainframe in omega arith
-
     row-same : (row : ℕ) → pageWidth * row + pageWidth ≤ firstTally → rowOf pageWidth v row ≡ rowOf pageWidth w row
     row-same row h =
         let long : length (rowOf pageWidth v row) ≡ pageWidth = length-row pageWidth v row (omega (arith, lv)) in
@@ -88,21 +95,7 @@ pages-same v w m lv lw e =
         (λ j b.
         get-row pageWidth v row j 0 (omega (arith, long)) ∙ e (pageWidth * row + j) (omega arith) (omega (arith, long)) ∙ sym (get-row pageWidth w row j 0 (omega (arith, long))))
 
--- ---- the state after words were stored
-
--- a run of words before the tallies changes the pages alone
-pub pages-written : (c w r m v : List ℕ) (k : ℕ) (after : Pages) → k + length v ≤ firstTally → pagesIn mainframe (sets w k v) m ≡ after
-    → stateIn mainframe c (sets w k v) r m ≡ withPages (stateIn mainframe c w r m) after
-unfolding stateIn
-pages-written c w r m v k after h e =
-    λ i. record {
-      counts = stateIn mainframe c w r m .counts;
-      clocks = stateIn mainframe c w r m .clocks;
-      pages = e i;
-      records = stateIn mainframe c w r m .records;
-      marks = stateIn mainframe c w r m .marks;
-      shared = shared-same (sets w k v) w (λ j a b. get-sets-behind v w k j 0 (omega arith)) i;
-    }
+-- ---- the state after a tally was stored
 
 -- words that agree before the tallies change the shared values alone
 pub shared-written : (c w w′ r m : List ℕ) (after : Shared) → length w ≡ wordArea → length w′ ≡ wordArea → WordsAgree w′ w 0 firstTally → sharedIn mainframe w′ ≡ after
