@@ -40,6 +40,10 @@ added-in-order lim n h p t v c f a l =
           (λ d e. absurd (false≢true (sym z ∙ ap (presentAmong n) d ∙ a))) (f .absent-adds q u k z);
     }
 
+-- nothing is left of the adds that are cleared
+pub no-adds-left : (t : List (List ℕ)) (q i : ℕ) → _≡_ {A = ℕ} (getD (getD (map (map (λ (add : ℕ). 0)) t) q []) i 0) 0
+no-adds-left t q i = ap (λ (row : List ℕ). getD row i 0) (get-map (map (λ (add : ℕ). 0)) [] t q) ∙ get-map (λ (add : ℕ). 0) 0 (getD t q []) i
+
 -- what is posted
 pub posted-in-order : (lim : Limits) (n : Counts) (h : Shared) (k : ℕ) → SharedInOrder lim n h → SharedInOrder lim n (posting h k)
 unfolding posting addsOf
@@ -49,6 +53,3 @@ posted-in-order lim n h k f =
       adds = rows-map-all lim (lim .tallies) (h .adds) (λ add. 0) (f .adds);
       absent-adds = λ q t l z. no-adds-left (h .adds) q t;
     }
-  where
-    no-adds-left : (t : List (List ℕ)) (q i : ℕ) → _≡_ {A = ℕ} (getD (getD (map (map (λ (add : ℕ). 0)) t) q []) i 0) 0
-    no-adds-left t q i = ap (λ (row : List ℕ). getD row i 0) (get-map (map (λ (add : ℕ). 0)) [] t q) ∙ get-map (λ (add : ℕ). 0) 0 (getD t q []) i

@@ -12,7 +12,7 @@ use Rattle.lists.proofs.Tables.{total-zero}
 use Rattle.lists.proofs.Conditions.{conjoined-at}
 use Rattle.clock.specs.Clocks.{zeros, entryOf}
 use Rattle.clock.proofs.Laws.{entryOf-zeros}
-use Rattle.rules.specs.State.{addsOf, Limits, Counts, Holder, Processor, Lock, Barrier, Applied, Interval, clockOf, copyOf, twinOf, dirtyAt, clock, own, holder, hasArrived}
+use Rattle.rules.specs.State.{postedOf, addsOf, Limits, Counts, Holder, Processor, Lock, Barrier, Applied, Interval, clockOf, copyOf, twinOf, dirtyAt, clock, own, holder, hasArrived}
 use Rattle.rules.specs.Lines.{waits, turnOf}
 use Rattle.rules.specs.InOrder.{slotSize, countsInRange, dirtyPages, inOrder}
 use Rattle.rules.specs.Opening.{zeroShared, Opening, openingRefusal, rows, zeroClocks, zeroPages, zeroMarks, opened}
@@ -132,6 +132,11 @@ opened-clean lim p g =
     ap (λ (n : ℕ). not (eqb n 0))
     (rows-all (λ (row : List ℕ). getD row g 0 ≡ 0) (lim .processors) (replicate {A = ℕ} (lim .pages) 0) p
     (replicated (λ (n : ℕ). n ≡ 0) (lim .pages) g 0 0 refl refl) refl)
+
+-- nothing is posted
+pub opened-none-posted : (lim : Limits) (t : ℕ) → postedOf (zeroShared lim) t ≡ 0
+unfolding postedOf zeroShared
+opened-none-posted lim t = replicated (λ (n : ℕ). n ≡ 0) (lim .tallies) t 0 0 refl refl
 
 -- nothing is added
 pub opened-no-adds : (lim : Limits) (p t : ℕ) → addsOf (zeroShared lim) p t ≡ 0

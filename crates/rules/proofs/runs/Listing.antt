@@ -17,7 +17,7 @@ use Rattle.rules.specs.Tallies.{tallyAdded, tallyTotal, totalAfter, post
 use Rattle.rules.specs.Refusals.{Step, actionOf, knownKind, objectBound, usesValue, fits, lateRefusal, refusalBy, refusalInOrder, effect, Answer, refusedAs, answerInOrder, nextInOrder}
 use Rattle.rules.specs.Runs.{answersInOrder, stateInOrder}
 
--- the six kinds of step: a processor, then the word or lock, then the value
+-- the kinds of step: a processor, then the word, lock or tally, then the value
 abbrev pub reads : ℕ → ℕ → Step
 reads p w = record { kind = 1; processor = p; object = w; value = 0 }
 
@@ -35,6 +35,12 @@ arrives p = record { kind = 5; processor = p; object = 0; value = 0 }
 
 abbrev pub wants : ℕ → Step
 wants p = record { kind = 6; processor = p; object = 0; value = 0 }
+
+abbrev pub adds : ℕ → ℕ → ℕ → Step
+adds p t v = record { kind = 8; processor = p; object = t; value = v }
+
+abbrev pub totals : ℕ → ℕ → Step
+totals p t = record { kind = 9; processor = p; object = t; value = 0 }
 
 -- the mainframe opened with so many processors, pages and locks; who unfolds it unfolds the rules that a run computes with
 unfoldable pub start : ℕ → ℕ → ℕ → State
