@@ -18,7 +18,7 @@ use Rattle.rules.specs.State.{mainframe, Processor, Lock, Applied, Interval, St
 use Rattle.rules.proofs.inorder.Facts.{Sized, InOrder}
 use Rattle.lists.specs.Tables.{tabulate}
 use Rattle.layout.specs.Layout.{rowOf, perProcessor, joinRows}
-use Rattle.layout.specs.Areas.{lockRow, appliedRow, intervalRow, clockRow, clockRows, copyRow, twinRow, wordRows, tallyPlace, wordPlaces, arrivedPlace, holderPlace, dirtyPlace, awaitedPlace, turnPlace, markPlaces, clocksIn, pagesIn, recordsIn, marksIn, sharedIn, stateIn, clockBytes, wordsOf, recordBytes, markBytes, sizesRight, areas, holding, standingCount}
+use Rattle.layout.specs.Areas.{lockRow, appliedRow, intervalRow, clockRow, clockRows, copyRow, twinRow, wordRows, tallyPlace, wordPlaces, arrivedPlace, holderPlace, dirtyPlace, awaitedPlace, turnPlace, markPlaces, clocksIn, pagesIn, recordsIn, marksIn, sharedIn, stateIn, clockBytes, areaWords, recordBytes, markBytes, sizesRight, areas, holding, standingCount}
 use Rattle.layout.specs.inner.Needed.{Lent, Holds}
 use Rattle.layout.specs.inner.Marks.{lockCount, pageCount, processorCount, wishMark}
 use Rattle.lists.proofs.Tabulated.{length-tabulate}
@@ -127,8 +127,8 @@ module _ (w m : List ℕ) where
         (λ t d. ap (λ (j : ℕ). getD w j 0) (omega (arith, tally-at (suc k) t))))
 
     -- the copies, twins and tallies laid out again are their area
-    words-of : wordsOf (pagesIn mainframe w m) (sharedIn mainframe w) ≡ w
-    unfolding wordsOf
+    words-of : areaWords (pagesIn mainframe w m) (sharedIn mainframe w) ≡ w
+    unfolding areaWords
     words-of =
         rw (joined-copies, joined-twins, joined-posted, joined-adds)
         (ap (λ (x : List ℕ). x ++ take tallyLimit (drop firstTally w) ++ take (tallyLimit * processorLimit) (drop (firstTally + tallyLimit) w)) (sym (take-add (pageWidth * copyLimit) (pageWidth * copyLimit) w))
@@ -234,7 +234,7 @@ few-records m few = omega arith
 -- the state that four areas hold, laid out again, is the areas
 pub encoded : (c w r m : List ℕ) → Lent c w r m → getD m standingPlace 0 < 256
     → (clockBytes (clocksIn mainframe c) ≡ c)
-    × (wordsOf (pagesIn mainframe w m) (sharedIn mainframe w) ≡ w)
+    × (areaWords (pagesIn mainframe w m) (sharedIn mainframe w) ≡ w)
     × (recordBytes (recordsIn mainframe r m) ≡ r)
     × (markBytes (stateIn mainframe c w r m) ≡ m)
 encoded c w r m lent byte =
@@ -335,7 +335,7 @@ right-lent c w r m e =
 pub held-again : (c w r m : List ℕ) → Lent c w r m → getD m standingPlace 0 < 256 → holding (stateIn mainframe c w r m) ≡ areas c w r m
 unfolding holding stateIn
 held-again c w r m h byte =
-    ap (λ (x : List ℕ). areas x (wordsOf (pagesIn mainframe w m) (sharedIn mainframe w)) (recordBytes (recordsIn mainframe r m)) (markBytes (stateIn mainframe c w r m))) (clock-bytes c (h .clocks))
+    ap (λ (x : List ℕ). areas x (areaWords (pagesIn mainframe w m) (sharedIn mainframe w)) (recordBytes (recordsIn mainframe r m)) (markBytes (stateIn mainframe c w r m))) (clock-bytes c (h .clocks))
     ∙ ap (λ (x : List ℕ). areas c x (recordBytes (recordsIn mainframe r m)) (markBytes (stateIn mainframe c w r m))) (words-of w m (h .words))
     ∙ ap (λ (x : List ℕ). areas c w x (markBytes (stateIn mainframe c w r m))) (record-bytes r m (h .records))
     ∙ ap (λ (x : List ℕ). areas c w r x) (mark-bytes m (h .marks) byte c w r)

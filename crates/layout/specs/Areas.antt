@@ -154,8 +154,8 @@ unfoldable pub clockBytes : Clocks → List ℕ
 clockBytes c = c .barrier ++ joinRows (c .processors) ++ joinRows (c .locks) ++ joinRows (joinRows (c .applied)) ++ joinRows (joinRows (c .intervals))
 
 -- the copies, then the twins, then the tallies
-unfoldable pub wordsOf : Pages → Shared → List ℕ
-wordsOf m h = joinRows (joinRows (m .copies)) ++ joinRows (joinRows (m .twins)) ++ h .posted ++ joinRows (h .adds)
+unfoldable pub areaWords : Pages → Shared → List ℕ
+areaWords m h = joinRows (joinRows (m .copies)) ++ joinRows (joinRows (m .twins)) ++ h .posted ++ joinRows (h .adds)
 
 -- the slots, one after the other
 unfoldable pub recordBytes : Records → List ℕ
@@ -196,7 +196,7 @@ heldBy a = stateIn mainframe (a .clocks) (a .words) (a .records) (a .marks)
 
 -- the areas that hold a state
 unfoldable pub holding : State → Areas
-holding s = areas (clockBytes (s .clocks)) (wordsOf (s .pages) (s .shared)) (recordBytes (s .records)) (markBytes s)
+holding s = areas (clockBytes (s .clocks)) (areaWords (s .pages) (s .shared)) (recordBytes (s .records)) (markBytes s)
 
 -- whether each of them has its fixed size
 unfoldable pub rightSizes : Areas → Bool

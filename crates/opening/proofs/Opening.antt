@@ -15,12 +15,12 @@ use Rattle.clock.specs.Clocks.{zeros}
 use Rattle.rules.specs.InOrder.{slotSize, countsInRange}
 use Rattle.rules.specs.Opening.{openingRefusal, rows, zeroClocks, zeroPages, zeroMarks, opened, zeroShared}
 use Rattle.rules.specs.State.{mainframe, Counts}
-use Rattle.layout.specs.Areas.{clockBytes, wordsOf, recordBytes, markBytes, sizesRight, Areas, areas, holding, rightSizes}
+use Rattle.layout.specs.Areas.{clockBytes, areaWords, recordBytes, markBytes, sizesRight, Areas, areas, holding, rightSizes}
 use Rattle.layout.specs.Layout.{joinRows}
 use Rattle.layout.specs.inner.Needed.{Lent, RowThere}
 use Rattle.layout.proofs.Encoding.{lent-right, right-lent}
 use Rattle.opening.specs.Promises.{openingOf, openRefusal, areasOpened}
-use Rattle.opening.specs.inner.Openings.{openingFits, freshCopy, freshWords, openedMarks, Openable, MarksOpenable, SizesAre, OpeningIs, HoldsOpened, ZerosTo}
+use Rattle.opening.specs.inner.Openings.{openingFits, freshCopy, freshWords, openedMarks, Openable, MarksOpenable, SizesAre, OpeningIs, HoldsOpened, WordsZeroTo}
 
 -- ---- the sizes
 
@@ -100,19 +100,19 @@ module _ (w₀ w copy : List ℕ) (k : ℕ) (h : CopiesLaid w₀ w copy k) where
       }
 
   -- all are
-  pub copies-all : partLimit ≤ k → ZerosTo w firstTally
+  pub copies-all : partLimit ≤ k → WordsZeroTo w firstTally
   copies-all l =
       let e : wordLimit * k ≡ firstTally = omega (arith, l, h .upto) in
       record { long = h .long; first = ap (λ (j : ℕ). take j w) (sym e) ∙ h .first ∙ ap (λ (j : ℕ). replicate j 0) e }
 
 -- the words up to i are 0
 pub record WordsLaid (w₀ w : List ℕ) (i : ℕ) : Type 0 where
-  pub zeros : ZerosTo w i
+  pub zeros : WordsZeroTo w i
   pub as-long : length w ≡ length w₀
   pub upto : i ≤ wordArea
 
 -- the tallies are not laid yet
-pub tallies-begin : (w : List ℕ) → ZerosTo w firstTally → WordsLaid w w firstTally
+pub tallies-begin : (w : List ℕ) → WordsZeroTo w firstTally → WordsLaid w w firstTally
 tallies-begin w h = record { zeros = h; as-long = refl; upto = omega arith }
 
 module _ (w₀ w : List ℕ) (i : ℕ) (h : WordsLaid w₀ w i) where
@@ -165,8 +165,8 @@ pub open-clocks : clockBytes (zeroClocks mainframe) ≡ replicate clockArea 0
 unfolding clockBytes zeroClocks mainframe rows zeros joinRows
 open-clocks = refl
 
-pub open-words : wordsOf (zeroPages mainframe) (zeroShared mainframe) ≡ replicate wordArea 0
-unfolding wordsOf zeroPages zeroShared mainframe rows joinRows
+pub open-words : areaWords (zeroPages mainframe) (zeroShared mainframe) ≡ replicate wordArea 0
+unfolding areaWords zeroPages zeroShared mainframe rows joinRows
 open-words = refl
 
 pub open-records : (k : Counts) → recordBytes (opened mainframe k .records) ≡ replicate recordArea 0
@@ -196,10 +196,10 @@ module _ (bs c w r m : List ℕ) (h : Openable bs c w r m) where
         is =
             ap (λ (x : List ℕ). areas x w′ r′ m′) (ec ∙ ap (λ (n : ℕ). replicate n 0) (h .lent .clocks) ∙ sym open-clocks)
             ∙ ap (λ (x : List ℕ). areas (clockBytes (zeroClocks mainframe)) x r′ m′) (ew ∙ sym open-words)
-            ∙ ap (λ (x : List ℕ). areas (clockBytes (zeroClocks mainframe)) (wordsOf (zeroPages mainframe) (zeroShared mainframe)) x m′)
+            ∙ ap (λ (x : List ℕ). areas (clockBytes (zeroClocks mainframe)) (areaWords (zeroPages mainframe) (zeroShared mainframe)) x m′)
             (er ∙ ap (λ (n : ℕ). replicate n 0) (h .lent .records) ∙ sym (open-records (openingOf bs .counts)))
             ∙ ap
-            (λ (x : List ℕ). areas (clockBytes (zeroClocks mainframe)) (wordsOf (zeroPages mainframe) (zeroShared mainframe)) (recordBytes (opened mainframe (openingOf bs .counts) .records)) x)
+            (λ (x : List ℕ). areas (clockBytes (zeroClocks mainframe)) (areaWords (zeroPages mainframe) (zeroShared mainframe)) (recordBytes (opened mainframe (openingOf bs .counts) .records)) x)
             (em ∙ sym (open-marks bs));
       }
 

@@ -9,7 +9,7 @@ ghost use Rattle.limits.specs.inner.Sizes.{firstTally, wordArea, wordLimit};
 ghost use Rattle.layout.specs.Areas.{areas};
 ghost use Rattle.layout.specs.inner.Needed.{RowThere};
 ghost use Rattle.opening.specs.Promises.{openRefusal, areasOpened};
-ghost use Rattle.opening.specs.inner.Openings.{freshCopy, freshWords, openedMarks, Openable, MarksOpenable, SizesAre, ZerosAre, CountsAre, OpeningIs, HoldsOpened, ZerosTo};
+ghost use Rattle.opening.specs.inner.Openings.{freshCopy, freshWords, openedMarks, Openable, MarksOpenable, SizesAre, ZerosAre, CountsAre, OpeningIs, HoldsOpened, WordsZeroTo};
 use layout::clear;
 use limits::CLOCK_AREA;
 use limits::FILE_RECORD_WIDTH;
@@ -157,7 +157,7 @@ fn lay_opened(
 // A fresh copy for each processor, and the same for its twin.
 fn lay_copies(words: &mut [u32])
     requires { ⌜ length (now words) ≡ wordArea ⌝ }
-    ensures { λ _. ⌜ ZerosTo (now (words .exit)) firstTally ⌝ }
+    ensures { λ _. ⌜ WordsZeroTo (now (words .exit)) firstTally ⌝ }
 {
     let copy = fresh_copy();
     let mut k: usize = 0;
@@ -169,7 +169,7 @@ fn lay_copies(words: &mut [u32])
 
 // Nothing is posted to a tally or added: every word behind the copies and twins is 0.
 fn lay_tallies(words: &mut [u32])
-    requires { ⌜ ZerosTo (now words) firstTally ⌝ }
+    requires { ⌜ WordsZeroTo (now words) firstTally ⌝ }
     ensures { λ _. ⌜ now (words .exit) ≡ freshWords ⌝ }
 {
     let mut i: usize = FIRST_TALLY;

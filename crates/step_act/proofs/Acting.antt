@@ -295,31 +295,31 @@ module _ (w : List ℕ) (k p o v : ℕ) (h : Tallying w k p o) where
   pub tally-has-place : TallyIn w p o
   tally-has-place = h .tally
 
+  is-add : (k ≡ 9 → ⊥) → k ≡ 8
+  is-add z = go (h .kinds)
+    where
+      go : (k ≡ 8) ⊎ (k ≡ 9) → k ≡ 8
+      go (inl e) = e
+      go (inr e) = absurd (z e)
+
   -- an add was done
-  pub add-tallied : (w′ : List ℕ) → k ≡ 8 → AddDone w w′ p o v → Tallied w w′ k p o v (Done 0 0)
+  pub add-tallied : (w′ : List ℕ) → (k ≡ 9 → ⊥) → AddDone w w′ p o v → Tallied w w′ k p o v (Done 0 0)
   unfolding effect stateIn
-  add-tallied w′ e a =
+  add-tallied w′ z a =
       record {
         words = a .words;
-        is = λ c r m. a .is c r m ∙ ap (λ (x : Effect). x .after) (sym (effect-by (stateIn mainframe c w r m) p (actionOf (stepOf k p o v)) (TallyAdd o v) (adds k p o v e)));
-        outcome = λ c r m. rw (adds k p o v e) (done-tells 0 0);
+        is = λ c r m. a .is c r m ∙ ap (λ (x : Effect). x .after) (sym (effect-by (stateIn mainframe c w r m) p (actionOf (stepOf k p o v)) (TallyAdd o v) (adds k p o v (is-add z))));
+        outcome = λ c r m. rw (adds k p o v (is-add z)) (done-tells 0 0);
       }
 
-  is-total : (k ≡ 8 → ⊥) → k ≡ 9
-  is-total z = go (h .kinds)
-    where
-      go : (k ≡ 8) ⊎ (k ≡ 9) → k ≡ 9
-      go (inl e) = absurd (z e)
-      go (inr e) = e
-
   -- a total was read
-  pub total-tallied : (x : ℕ) → (k ≡ 8 → ⊥) → x ≡ tallyTotal (sharedIn mainframe w) p o → Tallied w w k p o v (Done x 0)
+  pub total-tallied : (x : ℕ) → k ≡ 9 → x ≡ tallyTotal (sharedIn mainframe w) p o → Tallied w w k p o v (Done x 0)
   unfolding effect stateIn
-  total-tallied x z e =
+  total-tallied x nine e =
       record {
         words = h .tally .words;
-        is = λ c r m. ap (λ (y : Effect). y .after) (sym (effect-by (stateIn mainframe c w r m) p (actionOf (stepOf k p o v)) (TallyRead o) (totals k p o v (is-total z))));
-        outcome = λ c r m. rw (totals k p o v (is-total z), ← e) (done-tells x 0);
+        is = λ c r m. ap (λ (y : Effect). y .after) (sym (effect-by (stateIn mainframe c w r m) p (actionOf (stepOf k p o v)) (TallyRead o) (totals k p o v nine)));
+        outcome = λ c r m. rw (totals k p o v nine, ← e) (done-tells x 0);
       }
 
 -- ---- the kinds

@@ -115,13 +115,13 @@ fn tally(kind: u32, p: ProcessorId, object: usize, value: u32, words: &mut [u32]
     requires { ⌜ Tallying (now words) kind (p .0) object ⌝ }
     ensures { λ r. ⌜ Tallied (now (words .entry)) (now (words .exit)) kind (p .0) object value r ⌝ }
 {
-    if kind == 8 {
-        step_tally::add_to(words, p, object, value);
-        return Outcome::Done { value: 0, count: 0 };
+    if kind == 9 {
+        let total = step_tally::total_of(words, p, object);
+        return Outcome::Done {
+            value: total,
+            count: 0,
+        };
     }
-    let total = step_tally::total_of(words, p, object);
-    Outcome::Done {
-        value: total,
-        count: 0,
-    }
+    step_tally::add_to(words, p, object, value);
+    Outcome::Done { value: 0, count: 0 }
 }

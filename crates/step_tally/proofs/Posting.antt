@@ -157,15 +157,15 @@ pub record ClearedTo (w₀ w : List ℕ) (i : ℕ) : Type 0 where
   pub clear : (j : ℕ) → firstTally + tallyLimit ≤ j → j < i → getD w j 0 ≡ 0
   pub kept : (j : ℕ) → j < firstTally + tallyLimit → getD w j 0 ≡ getD w₀ j 0
 
-pub clearing-begins : (w : List ℕ) → length w ≡ wordArea → ClearedTo w w (firstTally + tallyLimit)
-clearing-begins w h = record { words = h; from = omega arith; upto = omega arith; clear = λ j a b. absurd (omega arith); kept = λ j a. refl }
+pub adds-clearing-begins : (w : List ℕ) → length w ≡ wordArea → ClearedTo w w (firstTally + tallyLimit)
+adds-clearing-begins w h = record { words = h; from = omega arith; upto = omega arith; clear = λ j a b. absurd (omega arith); kept = λ j a. refl }
 
 module _ (w₀ w : List ℕ) (i : ℕ) (now : ClearedTo w₀ w i) where
-  pub clearing-place : i < wordArea → i < length w
-  clearing-place more = omega (arith, now .words)
+  pub adds-clearing-place : i < wordArea → i < length w
+  adds-clearing-place more = omega (arith, now .words)
 
-  pub clearing-more : i < wordArea → ClearedTo w₀ (set w i 0) (i + 1)
-  clearing-more more =
+  pub adds-clearing-more : i < wordArea → ClearedTo w₀ (set w i 0) (i + 1)
+  adds-clearing-more more =
       record {
         words = length-set w i 0 ∙ now .words;
         from = omega (arith, now .from);
@@ -178,8 +178,8 @@ module _ (w₀ w : List ℕ) (i : ℕ) (now : ClearedTo w₀ w i) where
       at j a b (yes d) = rw d (getD-set-same w i 0 0 (omega (arith, now .words, more)))
       at j a b (no d) = getD-set-other w i j 0 0 d ∙ now .clear j a (omega (arith, b, d))
 
-  pub clearing-ends : wordArea ≤ i → AddsCleared w₀ w
-  clearing-ends end = record { words = now .words; clear = λ j a b. now .clear j a (omega (arith, b, end)); kept = now .kept }
+  pub adds-clearing-ends : wordArea ≤ i → AddsCleared w₀ w
+  adds-clearing-ends end = record { words = now .words; clear = λ j a b. now .clear j a (omega (arith, b, end)); kept = now .kept }
 
 -- ---- both
 
@@ -201,4 +201,4 @@ module _ (w : List ℕ) (n : ℕ) (ready : RoundReady w n) (w₁ : List ℕ) (to
             }));
       }
 
-pub ruleset posting-laws = (first-on-tally, posted-place, sum-place, summing-begins, next-on-tally, next-place, summing-more, summing-ends, total-stored, posting-begins, posting-ready, posting-more, posting-ends, clearing-begins, clearing-place, clearing-more, clearing-ends, posted-long, round-posted, needs)
+pub ruleset posting-laws = (first-on-tally, posted-place, sum-place, summing-begins, next-on-tally, next-place, summing-more, summing-ends, total-stored, posting-begins, posting-ready, posting-more, posting-ends, adds-clearing-begins, adds-clearing-place, adds-clearing-more, adds-clearing-ends, posted-long, round-posted, needs)

@@ -46,7 +46,7 @@ pub record MarksOpenable (bytes m : List ℕ) : Type 0 where
 -- ---- what they answer and leave
 
 -- the area of the words, of which the first n are 0
-pub record ZerosTo (w : List ℕ) (n : ℕ) : Type 0 where
+pub record WordsZeroTo (w : List ℕ) (n : ℕ) : Type 0 where
   pub long : length w ≡ wordArea
   pub first : take n w ≡ replicate n 0
 
