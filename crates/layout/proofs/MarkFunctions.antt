@@ -132,13 +132,6 @@ module _ (m : List ℕ) (p : ℕ) (there : MarksOf m p) where
   unfolding dirtyPlace mainframe
   last-dirty-there from e = omega (arith, there .marks, there .from, there .to)
 
-  -- all are cleared
-  pub dirty-part : (from : ℕ) (part : List ℕ) → part ≡ replicate (length (take (from + pageLimit - from) (drop from m))) 0 → from ≡ dirtyPlace mainframe p 0
-      → take from m ++ (part ++ drop (from + pageLimit - from) (drop from m)) ≡ sets m (dirtyPlace mainframe p 0) (replicate pageLimit 0)
-  dirty-part from part e at =
-      let k : from + pageLimit - from ≡ pageLimit = omega arith in
-      rw (← at, k) (part-cleared m part from pageLimit (last-dirty-there from at) (rw k at e))
-
 -- ---- the diff of a slot
 
 module _ (r : List ℕ) (slot len : ℕ) (h : DiffIn r slot) (e : (len ≡ slotLength r slot) × (len < 256)) where
@@ -152,4 +145,4 @@ module _ (r : List ℕ) (slot len : ℕ) (h : DiffIn r slot) (e : (len ≡ slotL
       let k : slotWidth * slot + slotHead + len - (slotWidth * slot + slotHead) ≡ slotLength r slot = omega (arith, e .0) in
       ap (λ (n : ℕ). take n (drop (slotWidth * slot + slotHead) r)) k
 
-pub ruleset mark-laws = (lock-row-is, standing-is, standing-small, standing-put, arrived-is, arrived-set, arrived-part, holder-is, holder-put, waiting-is, awaited-is, turn-is, awaited-put, turn-put, dirty-place-is, dirty-on-page, dirty-is, dirty-set, first-on-page, last-dirty-there, dirty-part, diff-end-there, diff-part, needs)
+pub ruleset mark-laws = (lock-row-is, standing-is, standing-small, standing-put, arrived-is, arrived-set, arrived-part, holder-is, holder-put, waiting-is, awaited-is, turn-is, awaited-put, turn-put, dirty-place-is, dirty-on-page, dirty-is, dirty-set, first-on-page, last-dirty-there, diff-end-there, diff-part, needs)

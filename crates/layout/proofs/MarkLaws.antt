@@ -13,13 +13,12 @@ use Rattle.lists.specs.Tables.{put, putCell, tabulate}
 use Rattle.limits.specs.Limits.{lockLimit, pageLimit, processorLimit}
 use Rattle.limits.specs.Places.{firstArrived, standingPlace, standingHigh, wantedPlace}
 use Rattle.limits.specs.inner.Sizes.{clockWidth, firstAwaited, firstDirty, firstHolder, firstTurn, markArea}
-use Rattle.rules.specs.Close.{cleaned}
 use Rattle.rules.specs.State.{mainframe, Pages, withArrived, withWanted, withPages, withRecords, withMarks, withHolder, withLines}
 use Rattle.layout.specs.Areas.{arrivedPlace, holderPlace, dirtyPlace, awaitedPlace, turnPlace, standingCount, clocksIn, recordsIn, marksIn, stateIn}
 use Rattle.layout.specs.inner.Marks.{pageCount, processorCount, wishMark, withStanding}
 use Rattle.layout.proofs.Stores.{get-sets-same, get-set, eqb-iff}
 use Rattle.lists.proofs.Tabulated.{get-tabulate, tabulate-same, put-tabulate, map-tabulate}
-use Rattle.layout.proofs.PageLaws.{dirty-written, dirty-cleared}
+use Rattle.layout.proofs.PageLaws.{dirty-written}
 use Rattle.layout.proofs.MarksKept.{counts-kept, wanted-kept, arrived-kept, holders-kept, awaited-kept, turns-kept, marks-kept, pages-kept, marks-alone, pages-alone, agree-below, agree-above, agree-before, agree-behind}
 
 -- ---- reading
@@ -254,14 +253,3 @@ module _ (c w r m : List ℕ) (there : length m ≡ markArea) where
   pub arrived-cleared : stateIn mainframe c w r (sets m firstArrived (replicate processorLimit 0))
       ≡ (let s = stateIn mainframe c w r m in withMarks s (withArrived (s .marks) (map (λ mark. 0) (s .marks .arrived))))
   arrived-cleared = marks-cleared (replicate processorLimit 0) (length-replicate {A = ℕ} processorLimit 0) (λ j b. getD-replicate {A = ℕ} processorLimit j 0 0 b)
-
-  -- every dirty mark of a processor
-  pub dirty-marks-cleared : (p : ℕ) → 1 ≤ p → p ≤ processorLimit
-      → stateIn mainframe c w r (sets m (dirtyPlace mainframe p 0) (replicate pageLimit 0))
-      ≡ (let s = stateIn mainframe c w r m in withPages s (cleaned (s .pages) p))
-  unfolding stateIn dirtyPlace mainframe
-  dirty-marks-cleared p h k =
-      let at : ℕ = dirtyPlace mainframe p 0 in
-      let v : List ℕ = replicate pageLimit 0 in
-      pages-alone (sets m at v) m c w r (agree-before m v at 0 firstDirty (omega arith)) (agree-behind m v at firstAwaited markArea (omega (arith, length-replicate {A = ℕ} pageLimit 0)))
-      ∙ ap (λ (a : Pages). withPages (stateIn mainframe c w r m) a) (dirty-cleared w m p there h k)

@@ -2,25 +2,21 @@
 -- stored anew is that one replaced. Assumes nothing.
 use Prim.Native.Nat.{ℕ, _+_, _*_, _≤_, _<_}
 use native.Mathlib.Omega.{arith}
-use native.Mathlib.Decide.{decLt, ℕ-discrete}
 use mathlib.Core.Path.{_≡_, sym, ap, _∙_}
 use mathlib.Core.Bool.{Bool, cond, _&&_}
-use mathlib.Core.List.{List, [], map}
-use lib.ListN.{length, getD, set, replicate, length-replicate, getD-replicate}
+use mathlib.Core.List.{List, []}
+use lib.ListN.{length, getD, set}
 use lib.Seq.{sets}
 use lib.Dec.{eqb}
-use borrow.Author.Tests.{eq-eqb, ne-eqb}
-use Rattle.lists.specs.Tables.{put, cell, putCell, tabulate}
+use Rattle.lists.specs.Tables.{cell, putCell}
 use Rattle.limits.specs.Limits.{pageLimit, pageWidth, processorLimit}
 use Rattle.limits.specs.inner.Sizes.{markArea, wordArea}
-use Rattle.rules.specs.Close.{cleaned}
 use Rattle.rules.specs.Fetch.{withCopy}
 use Rattle.rules.specs.State.{mainframe, copyOf, twinOf}
-use Rattle.layout.specs.Layout.{rowOf, perProcessor}
+use Rattle.layout.specs.Layout.{rowOf}
 use Rattle.layout.specs.Areas.{copyRow, twinRow, dirtyPlace, pagesIn}
-use Rattle.layout.proofs.Stores.{get-sets-before, get-sets-behind, get-sets-same, get-set, eqb-pair}
-use Rattle.lists.proofs.Tabulated.{tabulate-same, map-tabulate}
-use Rattle.layout.proofs.RowLaws.{row-of-sets-other, row-of-sets, get-per-processor, per-processor-same, put-per-processor, get-page, page-table-same, put-page}
+use Rattle.layout.proofs.Stores.{get-set, eqb-pair}
+use Rattle.layout.proofs.RowLaws.{row-of-sets-other, row-of-sets, get-page, page-table-same, put-page}
 
 -- ---- the rows and places lie within the areas
 
@@ -116,53 +112,3 @@ dirty-written w m p g x there h k b =
           (eqb-pair (dirtyPlace mainframe q j) (dirtyPlace mainframe p g) q p j g (λ s. (omega arith, omega arith)) (λ s r. rw (s, r))))
           ∙ sym (put-page 0 processorLimit pageLimit (λ q j. getD m (dirtyPlace mainframe q j) 0) p g x h k b)) i;
     }
-
-module _ (m v : List ℕ) (p : ℕ) (there : length m ≡ markArea) (e : length v ≡ pageLimit) (zero-there : (j : ℕ) → j < pageLimit → getD v j 0 ≡ 0) (h : 1 ≤ p) (k : p ≤ processorLimit) where
-  own-mark : (g : ℕ) → g < pageLimit → getD (sets m (dirtyPlace mainframe p 0) v) (dirtyPlace mainframe p g) 0 ≡ 0
-  unfolding dirtyPlace mainframe
-  own-mark g b =
-      let s : dirtyPlace mainframe p g ≡ dirtyPlace mainframe p 0 + g = omega arith in
-      ap (λ (j : ℕ). getD (sets m (dirtyPlace mainframe p 0) v) j 0) s
-      ∙ get-sets-same v m (dirtyPlace mainframe p 0) g 0 (omega arith) (omega arith) ∙ zero-there g b
-
-  other-mark : (q g : ℕ) → (q ≡ p → ⊥) → g < pageLimit → 1 ≤ q
-      → getD (sets m (dirtyPlace mainframe p 0) v) (dirtyPlace mainframe q g) 0 ≡ getD m (dirtyPlace mainframe q g) 0
-  unfolding dirtyPlace mainframe
-  other-mark q g d b y = go (decLt q p)
-    where
-      go : Dec (q < p) → getD (sets m (dirtyPlace mainframe p 0) v) (dirtyPlace mainframe q g) 0 ≡ getD m (dirtyPlace mainframe q g) 0
-      go (yes z) = get-sets-before v m (dirtyPlace mainframe p 0) (dirtyPlace mainframe q g) 0 (omega arith)
-      go (no z) = get-sets-behind v m (dirtyPlace mainframe p 0) (dirtyPlace mainframe q g) 0 (omega arith)
-
-  row-cleared : (w : List ℕ) → pagesIn mainframe w (sets m (dirtyPlace mainframe p 0) v) ≡ cleaned (pagesIn mainframe w m) p
-  unfolding pagesIn mainframe cleaned
-  row-cleared w =
-      λ i. record {
-        copies = pagesIn mainframe w m .copies;
-        twins = pagesIn mainframe w m .twins;
-        dirty =
-            (per-processor-same processorLimit (row (sets m (dirtyPlace mainframe p 0) v)) (λ q. cond (eqb q p) (map (λ mark. 0) (row m p)) (row m q))
-            (λ q x y. each q x (ℕ-discrete q p))
-            ∙ sym (put-per-processor processorLimit (row m) p (map (λ mark. 0) (row m p)) h k)
-            ∙ ap (λ (r : List ℕ). put [] (perProcessor processorLimit (row m)) p (map (λ mark. 0) r)) (sym (get-per-processor processorLimit (row m) p [] h k))) i;
-      }
-    where
-      row : List ℕ → ℕ → List ℕ
-      row n q = tabulate pageLimit (λ g. getD n (dirtyPlace mainframe q g) 0)
-
-      each : (q : ℕ) → 1 ≤ q → Dec (q ≡ p) → row (sets m (dirtyPlace mainframe p 0) v) q ≡ cond (eqb q p) (map (λ mark. 0) (row m p)) (row m q)
-      each q x (yes s) =
-          rw (eq-eqb q p s)
-          (rw s
-          (tabulate-same pageLimit (λ g. getD (sets m (dirtyPlace mainframe p 0) v) (dirtyPlace mainframe p g) 0) (λ g. 0) own-mark
-          ∙ sym (map-tabulate (λ mark. 0) pageLimit (λ g. getD m (dirtyPlace mainframe p g) 0))))
-      each q x (no s) =
-          rw (ne-eqb q p s)
-          (tabulate-same pageLimit (λ g. getD (sets m (dirtyPlace mainframe p 0) v) (dirtyPlace mainframe q g) 0) (λ g. getD m (dirtyPlace mainframe q g) 0)
-          (λ g b. other-mark q g s b x))
-
--- the marks of a processor's pages all cleared: its pages are clean
-pub dirty-cleared : (w m : List ℕ) (p : ℕ) → length m ≡ markArea → 1 ≤ p → p ≤ processorLimit
-    → pagesIn mainframe w (sets m (dirtyPlace mainframe p 0) (replicate pageLimit 0)) ≡ cleaned (pagesIn mainframe w m) p
-dirty-cleared w m p there h k =
-    row-cleared m (replicate pageLimit 0) p there (length-replicate {A = ℕ} pageLimit 0) (λ j b. getD-replicate {A = ℕ} pageLimit j 0 0 b) h k w

@@ -7,7 +7,7 @@ ghost use Prim.Native.Nat.{_<_, _≤_};
 ghost use lib.ListN.{length, set, replicate};
 ghost use lib.Seq.{sets};
 ghost use lib.Dec.{eqb};
-ghost use Rattle.limits.specs.Limits.{lockLimit, pageLimit, processorLimit, recordLimit};
+ghost use Rattle.limits.specs.Limits.{lockLimit, processorLimit, recordLimit};
 ghost use Rattle.limits.specs.Places.{firstArrived, wantedPlace};
 ghost use Rattle.limits.specs.inner.Sizes.{markArea};
 ghost use Rattle.rules.specs.State.{mainframe};
@@ -186,6 +186,15 @@ pub fn mark_dirty(marks: &mut [u8], p: ProcessorId, g: PageId)
     marks[place] = 1;
 }
 
+// A processor's copy of a page is marked as clean.
+pub fn mark_clean(marks: &mut [u8], p: ProcessorId, g: PageId)
+    requires { ⌜ PageMark (now marks) (p .0) (g .0) ⌝ }
+    ensures { λ _. ⌜ now (marks .exit) ≡ set (now (marks .entry)) (dirtyPlace mainframe (p .0) (g .0)) 0 ⌝ }
+{
+    let place = dirty_place(p, g);
+    marks[place] = 0;
+}
+
 // The place of the mark that says whether a processor's copy of a page is dirty.
 pub fn dirty_place(p: ProcessorId, g: PageId) -> usize
     requires { ⌜ OnPage (p .0) (g .0) ⌝ }
@@ -193,14 +202,4 @@ pub fn dirty_place(p: ProcessorId, g: PageId) -> usize
     ensures { λ r. ⌜ r < markArea ⌝ }
 {
     FIRST_DIRTY + PAGE_LIMIT * (p.0 - 1) + g.0
-}
-
-// Every page of a processor becomes clean.
-pub fn clean_pages(marks: &mut [u8], p: ProcessorId)
-    requires { ⌜ MarksOf (now marks) (p .0) ⌝ }
-    ensures { λ _. ⌜ now (marks .exit) ≡ sets (now (marks .entry)) (dirtyPlace mainframe (p .0) 0) (replicate pageLimit 0) ⌝ }
-{
-    let from = dirty_place(p, PageId(0));
-    let to = from + PAGE_LIMIT;
-    clear(&mut marks[from..to]);
 }

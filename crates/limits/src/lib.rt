@@ -31,7 +31,9 @@ pub const RUN_LIMIT: usize = (PAGE_WIDTH + 1) / 2;
 
 pub const DIFF_LIMIT: usize = 3 + 4 * PAGE_WIDTH;
 
-// A slot: processor, interval, page, the diff's length, the diff.
+// A slot: the write notice (processor, interval, page), the diff's length, the diff.
+pub const NOTICE_WIDTH: usize = 3;
+
 pub const SLOT_HEAD: usize = 4;
 
 pub const SLOT_WIDTH: usize = SLOT_HEAD + DIFF_LIMIT;

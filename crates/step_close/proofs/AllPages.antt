@@ -1,126 +1,119 @@
--- The records of all pages of a processor, page by page upwards. One law for each way of the code, and `all-pages-laws`. Assumes nothing.
+-- All pages of a processor closed, page by page upwards. One law for each way of the code, and `all-pages-laws`. Assumes nothing.
 use Prim.Native.Nat.{ℕ, zero, suc, _+_, _≤_, _<_}
 use native.Mathlib.Numerals.{add-one}
 use native.Mathlib.Omega.{arith}
-use native.Mathlib.Decide.{ℕ-discrete}
 use mathlib.Core.Path.{_≡_, refl, sym, ap, _∙_}
 use mathlib.Core.Bool.{Bool, true, false, cond}
 use mathlib.Core.List.{List}
 use lib.ListN.{length}
-use borrow.Author.Tests.{le-leb}
 use borrow.Author.Needs.{needs}
-use Rattle.limits.specs.Limits.{intervalLimit, pageLimit, processorLimit, recordLimit}
-use Rattle.rules.specs.Close.{newRecord, recorded}
-use Rattle.rules.specs.InOrder.{present}
-use Rattle.rules.specs.State.{mainframe, dirtyAt, appended, State, withRecords, clock, own}
-use Rattle.rules.proofs.inorder.Facts.{InOrder}
-use Rattle.rules.proofs.Space.{closing-finds-room}
+use Rattle.lists.specs.Tables.{total}
+use Rattle.lists.proofs.Tables.{cell-put-place, total-of-more}
+use Rattle.limits.specs.Limits.{intervalLimit, recordLimit}
+use Rattle.rules.specs.State.{mainframe, dirtyAt, appended, State, clock, own}
 use Rattle.layout.specs.Areas.{recordsIn, stateIn, standingCount}
 use Rattle.layout.specs.inner.Needed.{Holds}
 use Rattle.layout.specs.inner.Marks.{pageCount}
-use Rattle.step_close.specs.inner.Parts.{pageRecorded, allRecorded}
-use Rattle.step_close.specs.inner.Needed.{ActsDirty, Recordable}
+use Rattle.step_close.specs.inner.Parts.{pageCleaned, changeMade, pageClosed, pagesClosed, allClosed}
+use Rattle.step_close.specs.inner.Needed.{Closable, PageClosable}
 
--- ---- every closing finds room
+-- ---- what stands after the pages below n
 
 module _ (s : State) (p : ℕ) where
-  standing-one : (g : ℕ) → dirtyAt (s .pages) p g ≡ true → recorded s p (suc g) .standing ≡ recorded s p g .standing + 1
-  unfolding recorded appended
-  standing-one g e = rw e
-
-  standing-next : (g : ℕ) → recorded s p g .standing ≤ recorded s p (suc g) .standing
-  unfolding recorded appended
-  standing-next g = go (dirtyAt (s .pages) p g)
+  -- a page is as dirty as before until its turn
+  pub dirty-until : (n g : ℕ) → n ≤ g → dirtyAt (pagesClosed s p n .pages) p g ≡ dirtyAt (s .pages) p g
+  unfolding pagesClosed pageClosed
+  dirty-until zero g h = refl
+  dirty-until (suc n) g h = go (dirtyAt (pagesClosed s p n .pages) p n) (dirty-until n g (omega arith))
     where
-      go : (b : Bool) → recorded s p g .standing ≤ cond b (appended (recorded s p g) (newRecord s p g)) (recorded s p g) .standing
-      go true = omega arith
-      go false = omega arith
+      go : (b : Bool) → dirtyAt (pagesClosed s p n .pages) p g ≡ dirtyAt (s .pages) p g
+          → dirtyAt (cond b (changeMade (pagesClosed s p n) p n) (pagesClosed s p n) .pages) p g ≡ dirtyAt (s .pages) p g
+      go true e = unfold changeMade pageCleaned dirtyAt in rw (cell-put-place 0 (pagesClosed s p n .pages .dirty) p n g 0 (λ same. omega (arith, same))) e
+      go false e = e
 
-  standing-grows : (n g : ℕ) → g ≤ n → recorded s p g .standing ≤ recorded s p n .standing
-  standing-grows zero g h = let e : g ≡ 0 = omega arith in rw e (omega arith)
-  standing-grows (suc n) g h = go (ℕ-discrete g (suc n)) (standing-grows n g)
+  -- one record more for each dirty page
+  standing-closed : (n : ℕ) → pagesClosed s p n .records .standing ≡ s .records .standing + total n (λ g. cond (dirtyAt (s .pages) p g) 1 0)
+  unfolding pagesClosed pageClosed total
+  standing-closed zero = omega arith
+  standing-closed (suc n) = rw (dirty-until n n (omega arith)) (go (dirtyAt (s .pages) p n) (standing-closed n))
     where
-      go : Dec (g ≡ suc n) → (g ≤ n → recorded s p g .standing ≤ recorded s p n .standing) → recorded s p g .standing ≤ recorded s p (suc n) .standing
-      go (yes e) k = rw e (omega arith)
-      go (no e) k = omega (arith, k (omega arith), standing-next n)
-
-  slot-left : InOrder mainframe s → 1 ≤ p → p ≤ s .counts .processors → (g : ℕ) → g < s .counts .pages → dirtyAt (s .pages) p g ≡ true → recorded s p g .standing < recordLimit
-  unfolding present mainframe
-  slot-left f from to g h e =
-      let here : present s p ≡ true = rw (le-leb 1 p from, le-leb p (s .counts .processors) to) in
-      omega (arith, closing-finds-room mainframe s p f here .records-fit, standing-one g e, standing-grows (s .counts .pages) (suc g) h)
+      go : (b : Bool) → pagesClosed s p n .records .standing ≡ s .records .standing + total n (λ g. cond (dirtyAt (s .pages) p g) 1 0)
+          → cond b (changeMade (pagesClosed s p n) p n) (pagesClosed s p n) .records .standing
+          ≡ s .records .standing + (total n (λ g. cond (dirtyAt (s .pages) p g) 1 0) + cond b 1 0)
+      go true e = unfold changeMade appended in omega (arith, e)
+      go false e = omega (arith, e)
 
 -- ---- after the pages below g
 
--- the areas hold the state with the records of the pages below g
-pub record RecordingPages (c w r₀ m₀ r m : List ℕ) (p n g : ℕ) : Type 0 where
-  pub closable : ActsDirty c w r₀ m₀ p
+-- the areas hold the state with the pages below g closed
+pub record ClosingPages (c w r₀ m₀ r m : List ℕ) (p n g : ℕ) : Type 0 where
+  pub ready : Closable c w r₀ m₀ p
   pub pages : n ≡ pageCount m₀
   pub upto : g ≤ n
-  pub holds : Holds c w r m (withRecords (stateIn mainframe c w r₀ m₀) (recorded (stateIn mainframe c w r₀ m₀) p g))
+  pub holds : Holds c w r m (pagesClosed (stateIn mainframe c w r₀ m₀) p g)
 
 -- the number of pages is there
-pub page-count-place : (c w r m : List ℕ) (p : ℕ) → ActsDirty c w r m p → 1 < length m
-page-count-place c w r m p h = omega (arith, h .acts .lent .marks)
+pub page-count-place : (c w r m : List ℕ) (p : ℕ) → Closable c w r m p → 1 < length m
+page-count-place c w r m p h = omega (arith, h .lent .marks)
 
 -- before the first page
-pub recording-begins : (c w r m : List ℕ) (p n : ℕ) → ActsDirty c w r m p → n ≡ pageCount m → RecordingPages c w r m r m p n 0
-unfolding recorded
-recording-begins c w r m p n h e = record { closable = h; pages = e; upto = omega arith; holds = record { lent = h .acts .lent; is = refl } }
+pub closing-begins : (c w r m : List ℕ) (p n : ℕ) → Closable c w r m p → n ≡ pageCount m → ClosingPages c w r m r m p n 0
+unfolding pagesClosed
+closing-begins c w r m p n h e = record { ready = h; pages = e; upto = omega arith; holds = record { lent = h .lent; is = refl } }
 
-module _ (c w r₀ m₀ r m : List ℕ) (p n g : ℕ) (now : RecordingPages c w r₀ m₀ r m p n g) where
-  same-dirty : dirtyAt (stateIn mainframe c w r m .pages) p g ≡ dirtyAt (stateIn mainframe c w r₀ m₀ .pages) p g
-  same-dirty = ap (λ (s : State). dirtyAt (s .pages) p g) (now .holds .is)
-
-  standing-now : standingCount m ≡ recorded (stateIn mainframe c w r₀ m₀) p g .standing
+module _ (c w r₀ m₀ r m : List ℕ) (p n g : ℕ) (now : ClosingPages c w r₀ m₀ r m p n g) where
+  standing-now : standingCount m ≡ pagesClosed (stateIn mainframe c w r₀ m₀) p g .records .standing
   unfolding stateIn recordsIn
   standing-now = ap (λ (s : State). s .records .standing) (now .holds .is)
 
-  -- the next page can be recorded
-  pub recording-page : g < n → Recordable c w r m p g
-  recording-page more =
+  standing-first : stateIn mainframe c w r₀ m₀ .records .standing ≡ standingCount m₀
+  unfolding stateIn recordsIn
+  standing-first = refl
+
+  dirty-now : dirtyAt (stateIn mainframe c w r m .pages) p g ≡ dirtyAt (stateIn mainframe c w r₀ m₀ .pages) p g
+  dirty-now = ap (λ (s : State). dirtyAt (s .pages) p g) (now .holds .is) ∙ dirty-until (stateIn mainframe c w r₀ m₀) p g g (omega arith)
+
+  -- the next page can be closed
+  pub closing-page : g < n → PageClosable c w r m p g
+  closing-page more =
       record {
         lent = now .holds .lent;
-        from = now .closable .acts .from;
-        to = omega (arith, now .closable .acts .to, few-processors (now .closable .acts .in-order));
-        page = omega (arith, now .pages, few-pages (now .closable .acts .in-order));
-        own-fits = own-now (now .closable .acts .in-order);
-        room = λ e.
-            let left = slot-left (stateIn mainframe c w r₀ m₀) p (now .closable .acts .in-order) (now .closable .acts .from) (now .closable .acts .to) g
-            (present-page more) (sym same-dirty ∙ e) in
-            omega (arith, standing-now, left);
+        from = now .ready .from;
+        to = now .ready .to;
+        page = omega (arith, now .pages, now .ready .pages);
+        own-fits = own-now (now .ready .own-fits);
+        room = λ e. left (sym dirty-now ∙ e);
       }
     where
-      few-processors : InOrder mainframe (stateIn mainframe c w r₀ m₀) → stateIn mainframe c w r₀ m₀ .counts .processors ≤ processorLimit
-      few-processors f = unfold mainframe in f .processors-fit
+      own-now : own (stateIn mainframe c w r₀ m₀) p ≤ intervalLimit → own (stateIn mainframe c w r m) p ≤ intervalLimit
+      own-now h = unfold own clock stateIn in h
 
-      few-pages : InOrder mainframe (stateIn mainframe c w r₀ m₀) → pageCount m₀ ≤ pageLimit
-      few-pages f = unfold mainframe stateIn in f .pages-fit
-
-      own-now : InOrder mainframe (stateIn mainframe c w r₀ m₀) → own (stateIn mainframe c w r m) p ≤ intervalLimit
-      own-now f = unfold mainframe own clock stateIn in f .own-fits p
-
-      present-page : g < n → g < stateIn mainframe c w r₀ m₀ .counts .pages
-      present-page h = unfold stateIn in omega (arith, now .pages, h)
+      left : dirtyAt (stateIn mainframe c w r₀ m₀ .pages) p g ≡ true → standingCount m < recordLimit
+      left e =
+          let count : ℕ → ℕ = λ k. cond (dirtyAt (stateIn mainframe c w r₀ m₀ .pages) p k) 1 0 in
+          let one : _≡_ {A = ℕ} (cond (dirtyAt (stateIn mainframe c w r₀ m₀ .pages) p g) 1 0) 1 = ap (λ (b : Bool). cond b 1 0) e in
+          let more-of : total (suc g) count ≡ total g count + count g = unfold total in refl in
+          let most : total (suc g) count ≤ total (pageCount m₀) count = total-of-more (suc g) (pageCount m₀) count (omega (arith, more, now .pages)) in
+          omega (arith, standing-now, standing-closed (stateIn mainframe c w r₀ m₀) p g, standing-first, one, more-of, most, now .ready .room)
 
   -- one more page
-  pub recorded-page : g < n → (r′ m′ : List ℕ) → Holds c w r′ m′ (pageRecorded (stateIn mainframe c w r m) p g) → RecordingPages c w r₀ m₀ r′ m′ p n (g + 1)
-  unfolding pageRecorded newRecord own clock recorded
-  recorded-page more r′ m′ after =
+  pub closed-page : g < n → (r′ m′ : List ℕ) → Holds c w r′ m′ (pageClosed (stateIn mainframe c w r m) p g) → ClosingPages c w r₀ m₀ r′ m′ p n (g + 1)
+  unfolding pagesClosed
+  closed-page more r′ m′ after =
       record {
-        closable = now .closable;
+        ready = now .ready;
         pages = now .pages;
         upto = omega arith;
-        holds = record { lent = after .lent; is = after .is ∙ ap (λ (s : State). pageRecorded s p g) (now .holds .is) ∙ rw (add-one g) };
+        holds = record { lent = after .lent; is = after .is ∙ ap (λ (s : State). pageClosed s p g) (now .holds .is) ∙ rw (add-one g) };
       }
 
   last-page : n ≤ g → g ≡ stateIn mainframe c w r₀ m₀ .counts .pages
   unfolding stateIn
   last-page done = omega (arith, now .upto, now .pages)
 
-  -- all pages are recorded
-  pub pages-recorded : n ≤ g → Holds c w r m (allRecorded (stateIn mainframe c w r₀ m₀) p)
-  unfolding allRecorded
-  pages-recorded done = record { lent = now .holds .lent; is = now .holds .is ∙ rw (last-page done) }
+  -- all pages are closed
+  pub pages-closed : n ≤ g → Holds c w r m (allClosed (stateIn mainframe c w r₀ m₀) p)
+  unfolding allClosed
+  pages-closed done = record { lent = now .holds .lent; is = now .holds .is ∙ rw (last-page done) }
 
-pub ruleset all-pages-laws = (page-count-place, recording-begins, recording-page, recorded-page, pages-recorded, needs)
+pub ruleset all-pages-laws = (page-count-place, closing-begins, closing-page, closed-page, pages-closed, needs)

@@ -1,81 +1,80 @@
--- The pages become clean, and the whole of closing. One law for each way of the code, and `close-laws`. Assumes nothing.
-use Prim.Native.Nat.{ℕ, _-_, _≤_, _<_}
+-- The whole of closing: the interval begins, then all pages are closed. One law for each way of the code, and `close-laws`. Assumes nothing.
+use Prim.Native.Nat.{ℕ, _+_, _≤_}
 use native.Mathlib.Omega.{arith}
 use mathlib.Core.Path.{_≡_, ap, _∙_}
-use mathlib.Core.Bool.{true}
+use mathlib.Core.Bool.{true, cond}
 use mathlib.Core.List.{List}
-use lib.ListN.{length, replicate}
-use lib.Seq.{sets, length-sets}
 use borrow.Author.Tests.{le-leb}
 use borrow.Author.Needs.{needs}
-use Rattle.limits.specs.Limits.{intervalLimit, pageLimit, processorLimit}
-use Rattle.limits.specs.inner.Sizes.{markArea}
-use Rattle.rules.specs.Close.{ticked, cleaned, closed}
+use Rattle.lists.specs.Tables.{total}
+use Rattle.limits.specs.Limits.{intervalLimit, pageLimit, processorLimit, recordLimit}
+use Rattle.rules.specs.Close.{closed}
 use Rattle.rules.specs.InOrder.{present}
-use Rattle.rules.specs.State.{mainframe, State, withClocks, withPages, clock, own}
+use Rattle.rules.specs.State.{mainframe, dirtyAt, State, clock, own}
 use Rattle.rules.proofs.inorder.Facts.{InOrder}
+use Rattle.rules.proofs.inorder.KeptParts.{parts-of}
+use Rattle.rules.proofs.inorder.KeptRounds.{own-ticked-same}
+use Rattle.rules.proofs.inorder.KeptClose.{closing-ready}
 use Rattle.rules.proofs.Space.{closing-finds-room}
-use Rattle.layout.specs.Areas.{dirtyPlace, stateIn}
-use Rattle.layout.specs.inner.Needed.{MarksOf, Holds}
-use Rattle.layout.proofs.MarkLaws.{dirty-marks-cleared}
-use Rattle.step_close.specs.inner.Parts.{allRecorded, Ticked}
-use Rattle.step_close.specs.inner.Needed.{ActsDirty, Tickable}
-
--- ---- all of closing
+use Rattle.layout.specs.Areas.{recordsIn, stateIn, standingCount}
+use Rattle.layout.specs.inner.Marks.{pageCount}
+use Rattle.layout.specs.inner.Needed.{Holds}
+use Rattle.step_close.specs.inner.Parts.{allClosed, Ticked}
+use Rattle.step_close.specs.inner.Needed.{ActsDirty, Closable, Tickable}
+use Rattle.step_close.proofs.InSequence.{closed-in-sequence}
 
 module _ (c w r m : List ℕ) (p : ℕ) (ready : ActsDirty c w r m p) where
-  few-processors : InOrder mainframe (stateIn mainframe c w r m) → stateIn mainframe c w r m .counts .processors ≤ processorLimit
-  unfolding mainframe
-  few-processors f = f .processors-fit
+  abbrev before : State
+  before = stateIn mainframe c w r m
 
   on-machine : p ≤ processorLimit
-  on-machine = omega (arith, ready .acts .to, few-processors (ready .acts .in-order))
+  unfolding mainframe
+  on-machine = omega (arith, ready .acts .to, ready .acts .in-order .processors-fit)
 
-  own-left : own (stateIn mainframe c w r m) p < intervalLimit
-  unfolding present mainframe
-  own-left =
-      let here : present (stateIn mainframe c w r m) p ≡ true = rw (le-leb 1 p (ready .acts .from), le-leb p (stateIn mainframe c w r m .counts .processors) (ready .acts .to)) in
-      omega (arith, closing-finds-room mainframe (stateIn mainframe c w r m) p (ready .acts .in-order) here .interval-fits (ready .dirty))
+  here : present before p ≡ true
+  unfolding present
+  here = rw (le-leb 1 p (ready .acts .from), le-leb p (before .counts .processors) (ready .acts .to))
+
+  own-left : own before p + 1 ≤ intervalLimit
+  unfolding mainframe
+  own-left = closing-finds-room mainframe before p (ready .acts .in-order) here .interval-fits (ready .dirty)
 
   -- a processor with a dirty page has an interval left
   pub close-ticks : Tickable c p
   unfolding own clock stateIn
-  close-ticks = record { clocks = ready .acts .lent .clocks; from = ready .acts .from; to = on-machine; left = λ w₁ r₁ m₁. own-left }
+  close-ticks = record { clocks = ready .acts .lent .clocks; from = ready .acts .from; to = on-machine; left = λ w₁ r₁ m₁. omega (arith, own-left) }
 
-  module _ (r′ m′ : List ℕ) (recorded-all : Holds c w r′ m′ (allRecorded (stateIn mainframe c w r m) p)) where
-    -- its marks are there after the records
-    pub close-marks : MarksOf m′ p
-    close-marks = record { marks = recorded-all .lent .marks; from = ready .acts .from; to = on-machine }
+  module _ (c′ : List ℕ) (t : Ticked c c′ p) where
+    -- and room for the records of its dirty pages
+    pub close-ready : Closable c′ w r m p
+    close-ready =
+        record {
+          lent = record { clocks = t .as-long ∙ ready .acts .lent .clocks; words = ready .acts .lent .words; records = ready .acts .lent .records; marks = ready .acts .lent .marks };
+          from = ready .acts .from;
+          to = on-machine;
+          pages = few-pages (ready .acts .in-order);
+          own-fits = omega (arith, own-begun, own-left);
+          room = room-kept (closing-ready mainframe before p (parts-of mainframe before (ready .acts .in-order)) (unfold present in here) .room);
+        }
+      where
+        few-pages : InOrder mainframe before → pageCount m ≤ pageLimit
+        few-pages f = unfold mainframe stateIn in f .pages-fit
 
-    module _ (m″ : List ℕ) (cleared : m″ ≡ sets m′ (dirtyPlace mainframe p 0) (replicate pageLimit 0)) where
-      marks-long : length m″ ≡ markArea
-      marks-long = ap length cleared ∙ length-sets m′ (dirtyPlace mainframe p 0) (replicate pageLimit 0) ∙ recorded-all .lent .marks
+        own-begun : own (stateIn mainframe c′ w r m) p ≡ own before p + 1
+        own-begun = ap (λ (s : State). own s p) (t .is w r m) ∙ (unfold own clock in own-ticked-same before p (ready .acts .from))
 
-      -- the state before the clock ticks
-      abbrev clean : State → State
-      clean s = withPages s (cleaned (s .pages) p)
+        room-kept : before .records .standing + total (before .counts .pages) (λ g. cond (dirtyAt (before .pages) p g) 1 0) ≤ mainframe .records
+            → standingCount m + total (pageCount m) (λ g. cond (dirtyAt (stateIn mainframe c′ w r m .pages) p g) 1 0) ≤ recordLimit
+        room-kept h = unfold mainframe stateIn recordsIn in h
 
-      state-clean : stateIn mainframe c w r′ m″ ≡ clean (allRecorded (stateIn mainframe c w r m) p)
-      state-clean =
-          ap (λ (l : List ℕ). stateIn mainframe c w r′ l) cleared
-          ∙ dirty-marks-cleared c w r′ m′ (recorded-all .lent .marks) p (ready .acts .from) on-machine
-          ∙ ap (λ (s : State). clean s) (recorded-all .is)
+    -- all pages closed then, the areas hold the closed state
+    pub close-done : (r′ m′ : List ℕ) → Holds c′ w r′ m′ (allClosed (stateIn mainframe c′ w r m) p) → Holds c′ w r′ m′ (closed before p)
+    close-done r′ m′ after =
+        record {
+          lent = after .lent;
+          is =
+              after .is ∙ ap (λ (s : State). allClosed s p) (t .is w r m)
+              ∙ closed-in-sequence mainframe before p (ready .acts .in-order) (ready .acts .from) (ready .acts .to) (ready .dirty);
+        }
 
-      -- records, clean pages and the clock of the interval are the closed state
-      pub closed-dirty : (c′ : List ℕ) → Ticked c c′ p → Holds c′ w r′ m″ (closed (stateIn mainframe c w r m) p)
-      unfolding closed allRecorded ticked clock own
-      closed-dirty c′ t =
-          record {
-            lent =
-                record {
-                  clocks = t .as-long ∙ ready .acts .lent .clocks;
-                  words = ready .acts .lent .words;
-                  records = recorded-all .lent .records;
-                  marks = marks-long;
-                };
-            is =
-                t .is w r′ m″ ∙ ap (λ (s : State). withClocks s (ticked s p)) state-clean
-                ∙ rw (ready .dirty);
-          }
-
-pub ruleset close-laws = (close-ticks, close-marks, closed-dirty, needs)
+pub ruleset close-laws = (close-ticks, close-ready, close-done, needs)

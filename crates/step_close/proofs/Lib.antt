@@ -1,8 +1,9 @@
 pub mod PageWords
 pub mod SlotBytes
 pub mod PageRecords
-pub mod Recording
+pub mod OnePage
 pub mod AllPages
 pub mod Ticks
-pub mod Closing
 pub mod NothingDirty
+pub mod InSequence
+pub mod Closing

@@ -9,7 +9,7 @@ use mathlib.Core.List.{List, [], _∷_, map}
 use lib.ListN.{length, getD}
 use lib.Seq.{set-getD}
 use lib.Dec.{eqb, ltb}
-use borrow.Author.Tests.{eqb-true, ltb-true, not-false}
+use borrow.Author.Tests.{eqb-true, ltb-true, le-ltb, not-false}
 use borrow.Author.Needs.{needs}
 use Rattle.lists.specs.Tables.{any}
 use Rattle.lists.proofs.Tables.{any-at, any-holds, put-within}
@@ -119,6 +119,15 @@ module _ (s : State) (p : ℕ) where
         λ i. withRecords (withClocks (withPages s (pages-kept i)) (cond (unchanged i) (ticked s p) (s .clocks))) (unrecorded i)
 
 -- ---- the state with one
+
+-- from the first absent page on the marks of a present processor are 0
+pub clean-from : (lim : Limits) (s : State) (p : ℕ) → InOrder lim s → 1 ≤ p → p ≤ s .counts .processors → (i : ℕ) → s .counts .pages ≤ i → getD (getD (s .pages .dirty) p []) i 0 ≡ 0
+unfolding dirtyAt
+clean-from lim s p order from to i h = eqb-true (getD (getD (s .pages .dirty) p []) i 0) 0 (not-false _ (order .absent-clean p i (unfold presentHolder in rw (le-ltb i (s .counts .pages) h) (no-and (present s p)))))
+  where
+    no-and : (b : Bool) → (b && false) ≡ false
+    no-and true = refl
+    no-and false = refl
 
 -- a dirty page is a present one
 some-dirty : (lim : Limits) (s : State) (p : ℕ) → InOrder lim s → any (lim .pages) (dirtyAt (s .pages) p) ≡ true → anyDirty s p ≡ true

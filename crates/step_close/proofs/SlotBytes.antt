@@ -1,21 +1,18 @@
--- A record's bytes in its slot: the four numbers and the diff behind them. One law for each way of the code, and `slot-laws`.
--- Assumes nothing.
-use Prim.Native.Nat.{ℕ, suc, _+_, _-_, _%_, _≤_, _<_}
+-- A record's bytes in its slot: the write notice, the diff and its length before it. One law for each way of the code, and `slot-laws`. Assumes nothing.
+use Prim.Native.Nat.{ℕ, suc, _+_, _-_, _*_, _%_, _≤_, _<_}
 use native.Mathlib.Omega.{arith}
 use mathlib.Core.Path.{_≡_, refl, sym, ap, _∙_}
 use mathlib.Core.List.{List, [], _∷_, _++_, append-assoc}
-use lib.ListN.{length, take, drop, set, take-append-drop, length-drop, length-set}
+use lib.ListN.{length, take, drop, set, take-append-drop, length-drop}
 use lib.Seq.{length-take-le, drop-append-le, set-comm, drop-drop, sets, length-sets, sets-eq}
 use borrow.Author.Needs.{needs}
-use Rattle.limits.specs.Limits.{slotHead}
-use Rattle.limits.specs.inner.Sizes.{diffLimit, slotWidth}
+use Rattle.limits.specs.inner.Sizes.{slotWidth}
 use Rattle.diff.specs.Format.{difference, written}
 use Rattle.diff.proofs.Theorems.{at-most-131-bytes}
 use Rattle.diff_writer.specs.inner.Masks.{maskOf}
 use Rattle.diff_writer.specs.inner.Needed.{PagesWhole, RoomForDiff}
-use Rattle.rules.specs.State.{slotBytes}
-use Rattle.step_close.specs.inner.Parts.{recordMade}
-use Rattle.step_close.specs.inner.Needed.{RecordFits, SlotFits, DiffFits}
+use Rattle.step_close.specs.inner.Parts.{noticeBytes, countedBytes}
+use Rattle.step_close.specs.inner.Needed.{NoticeSlotThere, CountedFits, DiffFits}
 
 -- a list stored into a part of another, and the part put back
 pub part-stored : (xs ys vs : List ℕ) (a k : ℕ) → a + k ≤ length xs → length vs ≤ k → ys ≡ sets (take k (drop a xs)) 0 vs
@@ -53,25 +50,7 @@ module _ (old new out : List ℕ) (fits : DiffFits old new out) where
   pub diff-length : (n : ℕ) → n ≡ length (written old new) → n % 256 ≡ length (written old new)
   diff-length n e = omega (arith, e, at-most-131-bytes old new (fits .old-whole) (fits .new-whole))
 
--- ---- the part behind the four numbers
-
-module _ (old new slot : List ℕ) (fits : SlotFits old new slot) where
-  -- every diff has room behind the numbers
-  pub room-behind : DiffFits old new (take (slotWidth - slotHead) (drop slotHead slot))
-  room-behind =
-      record {
-        old-whole = fits .old-whole;
-        new-whole = fits .new-whole;
-        room = omega (arith, length-take-le diffLimit (drop slotHead slot) (omega (arith, length-drop slotHead slot, fits .room)));
-      }
-
-  -- the part put back has the diff behind the numbers
-  pub diff-behind : (part : List ℕ) → part ≡ sets (take (slotWidth - slotHead) (drop slotHead slot)) 0 (written old new)
-      → take slotHead slot ++ (part ++ drop (slotWidth - slotHead) (drop slotHead slot)) ≡ sets slot slotHead (written old new)
-  diff-behind part e =
-      part-stored slot part (written old new) slotHead diffLimit (omega (arith, fits .room)) (at-most-131-bytes old new (fits .old-whole) (fits .new-whole)) e
-
--- ---- the numbers in front of it
+-- ---- behind its length
 
 -- a store before others
 set-before : (vs l : List ℕ) (i j a : ℕ) → j < i → set (sets l i vs) j a ≡ sets (set l j a) i vs
@@ -79,40 +58,47 @@ set-before [] l i j a h = refl
 set-before (v ∷ vs) l i j a h =
     set-before vs (set l i v) (suc i) j a (omega arith) ∙ ap (λ (k : List ℕ). sets k (suc i) vs) (set-comm l i j v a (λ e. omega (arith, e, h)))
 
-module _ (p i g : ℕ) (old new slot : List ℕ) (fits : RecordFits p i g old new slot) where
-  -- what the diff needs
-  pub slot-fits : SlotFits old new slot
-  slot-fits = record { old-whole = fits .old-whole; new-whole = fits .new-whole; room = fits .room }
+module _ (old new out : List ℕ) (fits : CountedFits old new out) where
+  -- behind the place of the length there is room for every diff
+  pub room-behind : (k : ℕ) → k ≡ length out → DiffFits old new (take (k - 1) (drop 1 out))
+  room-behind k e =
+      record {
+        old-whole = fits .old-whole;
+        new-whole = fits .new-whole;
+        room = omega (arith, length-take-le (k - 1) (drop 1 out) (omega (arith, length-drop 1 out, e)), fits .room, e);
+      }
 
-  -- a place of the slot, after the diff was laid
-  pub slot-place : (out : List ℕ) (k : ℕ) → out ≡ sets slot slotHead (written old new) → k < slotWidth → k < length out
-  slot-place out k e h = let l : length out ≡ length slot = ap length e ∙ length-sets slot slotHead (written old new) in omega (arith, l, fits .room)
+  -- the part put back has the diff behind the place of the length
+  pub diff-behind : (part : List ℕ) (k : ℕ) → k ≡ length out → part ≡ sets (take (k - 1) (drop 1 out)) 0 (written old new)
+      → take 1 out ++ (part ++ drop (k - 1) (drop 1 out)) ≡ sets out 1 (written old new)
+  diff-behind part k l e =
+      part-stored out part (written old new) 1 (k - 1) (omega (arith, l, fits .room)) (omega (arith, l, fits .room, at-most-131-bytes old new (fits .old-whole) (fits .new-whole))) e
 
-  -- the same after one number
-  pub slot-place-1 : (out : List ℕ) (k a : ℕ) → out ≡ sets slot slotHead (written old new) → k < slotWidth → k < length (set out 0 a)
-  slot-place-1 out k a e h = omega (arith, slot-place out k e h, length-set out 0 a)
+  -- the place of the length is there
+  pub length-place : (out′ : List ℕ) → out′ ≡ sets out 1 (written old new) → 0 < length out′
+  length-place out′ e = omega (arith, ap length e ∙ length-sets out 1 (written old new), fits .room)
 
-  -- the same after two numbers
-  pub slot-place-2 : (out : List ℕ) (k a b : ℕ) → out ≡ sets slot slotHead (written old new) → k < slotWidth → k < length (set (set out 0 a) 1 b)
-  slot-place-2 out k a b e h = omega (arith, slot-place out k e h, length-set (set out 0 a) 1 b, length-set out 0 a)
+  -- length and diff together
+  pub counted-laid : (n : ℕ) (out′ : List ℕ) → n ≡ length (written old new) → out′ ≡ sets out 1 (written old new) → set out′ 0 n ≡ sets out 0 (countedBytes old new)
+  unfolding countedBytes
+  counted-laid n out′ l e = rw (e, l) (set-before (written old new) out 1 0 (length (written old new)) (omega arith))
 
-  -- the same after three
-  pub slot-place-3 : (out : List ℕ) (k a b d : ℕ) → out ≡ sets slot slotHead (written old new) → k < slotWidth → k < length (set (set (set out 0 a) 1 b) 2 d)
-  slot-place-3 out k a b d e h = omega (arith, slot-place-2 out k a b e h, length-set (set (set out 0 a) 1 b) 2 d)
+-- ---- the write notice
 
-  -- numbers and diff together are the bytes of the record
-  pub slot-filled : (n : ℕ) (out : List ℕ) → n ≡ length (written old new) → out ≡ sets slot slotHead (written old new)
-      → set (set (set (set out 0 (p % 256)) 1 (i % 256)) 2 (g % 256)) 3 n ≡ sets slot 0 (slotBytes (recordMade p i g old new))
-  unfolding slotBytes recordMade
-  slot-filled n out l e =
-      let d : List ℕ = written old new in
+module _ (r : List ℕ) (p i g slot : ℕ) (fits : NoticeSlotThere r p i g slot) where
+  -- its places are there
+  pub notice-place : (k : ℕ) → k < slotWidth → slotWidth * slot + k < length r
+  notice-place k h = omega (arith, fits .records, fits .place)
+
+  pub notice-laid : set (set (set r (slotWidth * slot) (p % 256)) (slotWidth * slot + 1) (i % 256)) (slotWidth * slot + 2) (g % 256)
+      ≡ sets r (slotWidth * slot) (noticeBytes p i g)
+  unfolding noticeBytes
+  notice-laid =
       let processor : p % 256 ≡ p = omega (arith, fits .processor) in
       let interval : i % 256 ≡ i = omega (arith, fits .interval) in
       let page : g % 256 ≡ g = omega (arith, fits .page) in
-      rw (e, processor, interval, page, l)
-      (ap (λ (x : List ℕ). set (set (set x 1 i) 2 g) 3 (length d)) (set-before d slot slotHead 0 p (omega arith))
-      ∙ ap (λ (x : List ℕ). set (set x 2 g) 3 (length d)) (set-before d (set slot 0 p) slotHead 1 i (omega arith))
-      ∙ ap (λ (x : List ℕ). set x 3 (length d)) (set-before d (set (set slot 0 p) 1 i) slotHead 2 g (omega arith))
-      ∙ set-before d (set (set (set slot 0 p) 1 i) 2 g) slotHead 3 (length d) (omega arith))
+      let second : slotWidth * slot + 1 ≡ suc (slotWidth * slot) = omega arith in
+      let third : slotWidth * slot + 2 ≡ suc (suc (slotWidth * slot)) = omega arith in
+      rw (processor, interval, page, second, third)
 
-pub ruleset slot-laws = (diff-pages, diff-room, diff-length, room-behind, diff-behind, slot-fits, slot-place, slot-place-1, slot-place-2, slot-place-3, slot-filled, needs)
+pub ruleset slot-laws = (diff-pages, diff-room, diff-length, room-behind, diff-behind, length-place, counted-laid, notice-place, notice-laid, needs)

@@ -2,20 +2,20 @@
 // The contracts say so of the state that the lent areas hold, in the words of the rules (specs/Close.antt of the crate rules).
 ghost use mathlib.Core.Path.{_≡_};
 ghost use mathlib.Core.Bool.{not, _||_};
-ghost use Prim.Native.Nat.{_*_, _<_};
+ghost use Prim.Native.Nat.{_+_, _*_, _<_};
 ghost use lib.ListN.{length};
 ghost use lib.Seq.{sets};
 ghost use lib.Dec.{eqb};
-ghost use Rattle.limits.specs.Limits.{pageWidth, slotHead};
-ghost use Rattle.limits.specs.inner.Sizes.{slotWidth};
+ghost use Rattle.limits.specs.Limits.{pageWidth};
+ghost use Rattle.limits.specs.inner.Sizes.{noticeWidth, slotWidth};
 ghost use Rattle.diff.specs.Format.{written};
-ghost use Rattle.rules.specs.State.{mainframe, slotBytes};
+ghost use Rattle.rules.specs.State.{mainframe};
 ghost use Rattle.rules.specs.Close.{raised, closed};
 ghost use Rattle.layout.specs.Layout.{rowOf};
 ghost use Rattle.layout.specs.Areas.{stateIn};
 ghost use Rattle.layout.specs.inner.Needed.{Acts, RowThere, MarksOf, Holds};
-ghost use Rattle.step_close.specs.inner.Parts.{recordMade, pageRecord, oneMore, pageRecorded, allRecorded, AnyDirty, Ticked};
-ghost use Rattle.step_close.specs.inner.Needed.{ActsDirty, Recordable, PageAppendable, PageSlotThere, RecordFits, SlotFits, DiffFits, Raisable, Tickable};
+ghost use Rattle.step_close.specs.inner.Parts.{noticeBytes, countedBytes, diffBytes, changeMade, pageClosed, allClosed, AnyDirty, Ticked};
+ghost use Rattle.step_close.specs.inner.Needed.{ActsDirty, Closable, PageClosable, ChangeReady, NoticeSlotThere, PageSlotThere, CountedFits, DiffFits, Raisable, Tickable};
 use clock::Clock;
 use clock::IntervalId;
 use clock::PageId;
@@ -23,9 +23,9 @@ use clock::ProcessorId;
 use layout::clock_at;
 use layout::copy_row;
 use layout::interval_row;
-use layout::marks::clean_pages;
 use layout::marks::dirty_place;
 use layout::marks::is_dirty;
+use layout::marks::mark_clean;
 use layout::marks::page_count;
 use layout::marks::put_standing_count;
 use layout::marks::standing_count;
@@ -33,9 +33,9 @@ use layout::own_entry;
 use layout::put_clock;
 use layout::twin_row;
 use layout::wide;
+use limits::NOTICE_WIDTH;
 use limits::PAGE_LIMIT;
 use limits::PAGE_WIDTH;
-use limits::SLOT_HEAD;
 use limits::SLOT_WIDTH;
 
 // Closes the interval of a processor: for each dirty page one record, if there is one the clock of the interval, and clean pages.
@@ -71,7 +71,9 @@ fn also(before: bool, mark: u8) -> bool
     if mark == 0 { before } else { true }
 }
 
-// Closes the interval of a processor that has a dirty page.
+// Closes the interval of a processor that has a dirty page. The sequence is that of the thesis (document 000, "Pages and Data", the text to figure
+// 2.9): the interval comes first, then for each dirty page its write notice, its diff, and the end of its twin. What comes before it, the page
+// made writable and its twin taken at the first store, is step_access::take_twin.
 fn close_dirty(
     p: ProcessorId,
     clocks: &mut [u8],
@@ -82,26 +84,27 @@ fn close_dirty(
     requires { ⌜ ActsDirty (now clocks) (now words) (now records) (now marks) (p .0) ⌝ }
     ensures { λ _. ⌜ Holds (now (clocks .exit)) (now (words .entry)) (now (records .exit)) (now (marks .exit)) (closed (stateIn mainframe (now (clocks .entry)) (now (words .entry)) (now (records .entry)) (now (marks .entry))) (p .0)) ⌝ }
 {
-    record_pages(p, clocks, words, records, marks);
-    clean_pages(marks, p);
+    // The interval is made at the release (here: at each closing).
     tick(p, clocks);
+    // Page by page, upwards: write notice, diff, twin and mark.
+    close_pages(p, clocks, words, records, marks);
 }
 
-// The records of all dirty pages, upwards.
-fn record_pages(p: ProcessorId, clocks: &[u8], words: &[u32], records: &mut [u8], marks: &mut [u8])
-    requires { ⌜ ActsDirty (now clocks) (now words) (now records) (now marks) (p .0) ⌝ }
-    ensures { λ _. ⌜ Holds (now (clocks .entry)) (now (words .entry)) (now (records .exit)) (now (marks .exit)) (allRecorded (stateIn mainframe (now (clocks .entry)) (now (words .entry)) (now (records .entry)) (now (marks .entry))) (p .0)) ⌝ }
+// Closes all pages of a processor whose interval has begun, upwards.
+fn close_pages(p: ProcessorId, clocks: &[u8], words: &[u32], records: &mut [u8], marks: &mut [u8])
+    requires { ⌜ Closable (now clocks) (now words) (now records) (now marks) (p .0) ⌝ }
+    ensures { λ _. ⌜ Holds (now (clocks .entry)) (now (words .entry)) (now (records .exit)) (now (marks .exit)) (allClosed (stateIn mainframe (now (clocks .entry)) (now (words .entry)) (now (records .entry)) (now (marks .entry))) (p .0)) ⌝ }
 {
     let n = page_count(marks);
     let mut g: usize = 0;
     while g < n {
-        record_page(p, PageId(g), clocks, words, records, marks);
+        close_page(p, PageId(g), clocks, words, records, marks);
         g = g + 1;
     }
 }
 
-// The record of a page, if it is dirty: a page that was written is noted, though no word of it may differ.
-fn record_page(
+// Closes a page: a dirty one becomes a record, a clean one is left. A page that was written is noted, though no word of it may differ.
+fn close_page(
     p: ProcessorId,
     g: PageId,
     clocks: &[u8],
@@ -109,16 +112,16 @@ fn record_page(
     records: &mut [u8],
     marks: &mut [u8],
 )
-    requires { ⌜ Recordable (now clocks) (now words) (now records) (now marks) (p .0) (g .0) ⌝ }
-    ensures { λ _. ⌜ Holds (now (clocks .entry)) (now (words .entry)) (now (records .exit)) (now (marks .exit)) (pageRecorded (stateIn mainframe (now (clocks .entry)) (now (words .entry)) (now (records .entry)) (now (marks .entry))) (p .0) (g .0)) ⌝ }
+    requires { ⌜ PageClosable (now clocks) (now words) (now records) (now marks) (p .0) (g .0) ⌝ }
+    ensures { λ _. ⌜ Holds (now (clocks .entry)) (now (words .entry)) (now (records .exit)) (now (marks .exit)) (pageClosed (stateIn mainframe (now (clocks .entry)) (now (words .entry)) (now (records .entry)) (now (marks .entry))) (p .0) (g .0)) ⌝ }
 {
     if is_dirty(marks, p, g) {
-        append(p, g, clocks, words, records, marks);
+        make_change(p, g, clocks, words, records, marks);
     }
 }
 
-// One record more: that of a dirty page, in the first slot that is free.
-fn append(
+// Makes the record of a dirty page (document 02: makes a change), in the first slot that is free, step by step as the thesis has it.
+fn make_change(
     p: ProcessorId,
     g: PageId,
     clocks: &[u8],
@@ -126,63 +129,63 @@ fn append(
     records: &mut [u8],
     marks: &mut [u8],
 )
-    requires { ⌜ PageAppendable (now clocks) (now words) (now records) (now marks) (p .0) (g .0) ⌝ }
-    ensures { λ _. ⌜ Holds (now (clocks .entry)) (now (words .entry)) (now (records .exit)) (now (marks .exit)) (oneMore (stateIn mainframe (now (clocks .entry)) (now (words .entry)) (now (records .entry)) (now (marks .entry))) (p .0) (g .0)) ⌝ }
+    requires { ⌜ ChangeReady (now clocks) (now words) (now records) (now marks) (p .0) (g .0) ⌝ }
+    ensures { λ _. ⌜ Holds (now (clocks .entry)) (now (words .entry)) (now (records .exit)) (now (marks .exit)) (changeMade (stateIn mainframe (now (clocks .entry)) (now (words .entry)) (now (records .entry)) (now (marks .entry))) (p .0) (g .0)) ⌝ }
 {
-    let interval = IntervalId(wide(own_entry(clocks, p)) + 1);
-    let count = standing_count(marks);
-    lay_record(p, interval, g, words, records, count);
-    put_standing_count(marks, count + 1);
+    let interval = IntervalId(wide(own_entry(clocks, p)));
+    let slot = standing_count(marks);
+    // The interval has begun and gets a write notice for the page, the sign that the page was modified.
+    lay_notice(p, interval, g, records, slot);
+    put_standing_count(marks, slot + 1);
+    // Then the page's diff is made: the copy is compared with the twin, word by word.
+    create_diff(p, g, words, records, slot);
+    // With the diff made, the twin is given up and the page is clean again (READ_ONLY there). The mark says whether the twin's row counts, so
+    // clearing it does both.
+    mark_clean(marks, p, g);
 }
 
-// The record of a page in a slot: what the processor's copy differs in from its twin.
-fn lay_record(
-    p: ProcessorId,
-    interval: IntervalId,
-    g: PageId,
-    words: &[u32],
-    records: &mut [u8],
-    slot: usize,
-)
-    requires { ⌜ PageSlotThere (now words) (now records) (p .0) (interval .0) (g .0) slot ⌝ }
-    ensures { λ _. ⌜ now (records .exit) ≡ sets (now (records .entry)) (slotWidth * slot) (slotBytes (pageRecord (p .0) (interval .0) (g .0) (now (words .entry)))) ⌝ }
+// The write notice of a page in a slot: which processor wrote which page in which interval.
+fn lay_notice(p: ProcessorId, interval: IntervalId, g: PageId, records: &mut [u8], slot: usize)
+    requires { ⌜ NoticeSlotThere (now records) (p .0) (interval .0) (g .0) slot ⌝ }
+    ensures { λ _. ⌜ now (records .exit) ≡ sets (now (records .entry)) (slotWidth * slot) (noticeBytes (p .0) (interval .0) (g .0)) ⌝ }
 {
-    let old = page(words, twin_row(p, g));
-    let new = page(words, copy_row(p, g));
     let from = SLOT_WIDTH * slot;
-    let to = from + SLOT_WIDTH;
-    fill_slot(p, interval, g, old, new, &mut records[from..to]);
+    records[from] = (p.0 % 256) as u8;
+    records[from + 1] = (interval.0 % 256) as u8;
+    records[from + 2] = (g.0 % 256) as u8;
 }
 
-// The bytes of a record in its slot; those behind it keep what they hold.
-fn fill_slot(
-    p: ProcessorId,
-    interval: IntervalId,
-    g: PageId,
-    old: &[u32],
-    new: &[u32],
-    slot: &mut [u8],
-)
-    requires { ⌜ RecordFits (p .0) (interval .0) (g .0) (now old) (now new) (now slot) ⌝ }
-    ensures { λ _. ⌜ now (slot .exit) ≡ sets (now (slot .entry)) 0 (slotBytes (recordMade (p .0) (interval .0) (g .0) (now (old .entry)) (now (new .entry)))) ⌝ }
+// The diff of a page against its twin in a slot, behind its length; the bytes behind it keep what they hold.
+fn create_diff(p: ProcessorId, g: PageId, words: &[u32], records: &mut [u8], slot: usize)
+    requires { ⌜ PageSlotThere (now words) (now records) (p .0) (g .0) slot ⌝ }
+    ensures { λ _. ⌜ now (records .exit) ≡ sets (now (records .entry)) (slotWidth * slot + noticeWidth) (diffBytes (p .0) (g .0) (now (words .entry))) ⌝ }
 {
-    let n = lay_diff_behind(old, new, slot);
-    slot[0] = (p.0 % 256) as u8;
-    slot[1] = (interval.0 % 256) as u8;
-    slot[2] = (g.0 % 256) as u8;
-    slot[3] = n;
+    let twin = page(words, twin_row(p, g));
+    let copy = page(words, copy_row(p, g));
+    let from = SLOT_WIDTH * slot + NOTICE_WIDTH;
+    let to = SLOT_WIDTH * slot + SLOT_WIDTH;
+    lay_counted(twin, copy, &mut records[from..to]);
 }
 
-// The diff of two pages behind the four numbers of a slot, and its length.
-fn lay_diff_behind(old: &[u32], new: &[u32], slot: &mut [u8]) -> u8
-    requires { ⌜ SlotFits (now old) (now new) (now slot) ⌝ }
+// The diff of two pages behind its length, in the part of a slot behind the write notice.
+fn lay_counted(old: &[u32], new: &[u32], out: &mut [u8])
+    requires { ⌜ CountedFits (now old) (now new) (now out) ⌝ }
+    ensures { λ _. ⌜ now (out .exit) ≡ sets (now (out .entry)) 0 (countedBytes (now (old .entry)) (now (new .entry))) ⌝ }
+{
+    let n = lay_behind(old, new, out);
+    out[0] = n;
+}
+
+// The diff of two pages behind the place of its length, and its length.
+fn lay_behind(old: &[u32], new: &[u32], out: &mut [u8]) -> u8
+    requires { ⌜ CountedFits (now old) (now new) (now out) ⌝ }
     ensures { λ r. ⌜ r ≡ length (written (now (old .entry)) (now (new .entry))) ⌝ }
-    ensures { λ r. ⌜ now (slot .exit) ≡ sets (now (slot .entry)) slotHead (written (now (old .entry)) (now (new .entry))) ⌝ }
+    ensures { λ r. ⌜ now (out .exit) ≡ sets (now (out .entry)) 1 (written (now (old .entry)) (now (new .entry))) ⌝ }
 {
-    lay_diff(old, new, &mut slot[SLOT_HEAD..SLOT_WIDTH])
+    lay_diff(old, new, &mut out[1..])
 }
 
-// The diff of two pages at the start of `out`, and its length: 131 bytes suffice for every diff.
+// The diff of two pages at the start of `out`, and its length: 131 bytes suffice for every diff. The comparison goes word by word.
 fn lay_diff(old: &[u32], new: &[u32], out: &mut [u8]) -> u8
     requires { ⌜ DiffFits (now old) (now new) (now out) ⌝ }
     ensures { λ r. ⌜ r ≡ length (written (now (old .entry)) (now (new .entry))) ⌝ }

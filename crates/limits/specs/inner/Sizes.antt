@@ -37,6 +37,10 @@ runLimit = (pageWidth + 1) / 2
 abbrev pub diffLimit : ℕ
 diffLimit = 3 + 4 * pageWidth
 
+-- the numbers of a write notice in its slot: processor, interval and page
+abbrev pub noticeWidth : ℕ
+noticeWidth = 3
+
 -- a slot: its numbers and the longest diff
 abbrev pub slotWidth : ℕ
 slotWidth = slotHead + diffLimit

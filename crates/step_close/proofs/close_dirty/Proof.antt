@@ -6,4 +6,4 @@ use Rattle.step_close.proofs.close_dirty.Tie as tie
 pub close-dirty-spec : {M : Type 1} → statement M
 close-dirty-spec =
     tie.close
-    (tie.spec (λ c κs. search close-laws) (λ c κs. search close-laws) (λ c κs. search close-laws) (λ c. search close-laws) (λ c. search close-laws) (λ c. search close-laws) (λ c. search close-laws))
+    (tie.spec (λ c κs. search close-laws) (λ c κs. search close-laws) (λ c. search close-laws) (λ c. search close-laws) (λ c. search close-laws) (λ c. search close-laws))

@@ -1,41 +1,58 @@
 -- What the parts of closing an interval do, each in the words of the rules and of the whole state, whatever the areas hold that the part
 -- does not touch. Assumes nothing.
-use Prim.Native.Nat.{ℕ}
+use Prim.Native.Nat.{ℕ, zero, suc}
 use mathlib.Core.Path.{_≡_}
 use mathlib.Core.Bool.{Bool, cond}
-use mathlib.Core.List.{List}
+use mathlib.Core.List.{List, [], _∷_}
 use lib.ListN.{length}
-use Rattle.lists.specs.Tables.{any}
+use Rattle.lists.specs.Tables.{putCell, any}
 use Rattle.limits.specs.Limits.{pageWidth}
 use Rattle.diff.specs.Format.{written}
-use Rattle.rules.specs.State.{mainframe, dirtyAt, Record, appended, State, withClocks, withRecords}
-use Rattle.rules.specs.Close.{newRecord, recorded, ticked}
+use Rattle.rules.specs.State.{mainframe, Pages, copyOf, twinOf, dirtyAt, Record, appended, State, withClocks, withPages, withRecords, own}
+use Rattle.rules.specs.Close.{ticked}
 use Rattle.layout.specs.Layout.{rowOf}
 use Rattle.layout.specs.Areas.{copyRow, twinRow, stateIn}
 
--- ---- the state after a part
+-- ---- the state after a part, where the interval has begun
 
--- a state with the record of page g of p
-unfoldable pub oneMore : State → ℕ → ℕ → State
-oneMore s p g = withRecords s (appended (s .records) (newRecord s p g))
+-- the record of a dirty page of p in the interval that p's own entry counts last
+unfoldable pub changeOf : State → ℕ → ℕ → Record
+changeOf s p g = record { processor = p; interval = own s p; page = g; diff = written (twinOf (s .pages) p g) (copyOf (s .pages) p g) }
+
+-- page g of p clean
+unfoldable pub pageCleaned : Pages → ℕ → ℕ → Pages
+pageCleaned m p g = record { copies = m .copies; twins = m .twins; dirty = putCell 0 (m .dirty) p g 0 }
+
+-- a state with that record, and the page clean
+unfoldable pub changeMade : State → ℕ → ℕ → State
+changeMade s p g = withPages (withRecords s (appended (s .records) (changeOf s p g))) (pageCleaned (s .pages) p g)
 
 -- with it if the page is dirty
-unfoldable pub pageRecorded : State → ℕ → ℕ → State
-pageRecorded s p g = withRecords s (cond (dirtyAt (s .pages) p g) (appended (s .records) (newRecord s p g)) (s .records))
+unfoldable pub pageClosed : State → ℕ → ℕ → State
+pageClosed s p g = cond (dirtyAt (s .pages) p g) (changeMade s p g) s
 
--- "each dirty page now gets a record at closing"
-unfoldable pub allRecorded : State → ℕ → State
-allRecorded s p = withRecords s (recorded s p (s .counts .pages))
+-- the pages below n closed, upwards
+unfoldable pub pagesClosed : State → ℕ → ℕ → State
+pagesClosed s p zero = s
+pagesClosed s p (suc g) = pageClosed (pagesClosed s p g) p g
 
--- ---- the record of a page
+-- all pages
+unfoldable pub allClosed : State → ℕ → State
+allClosed s p = pagesClosed s p (s .counts .pages)
 
--- of processor p, interval i and page g, where the page `old` became the page `new`
-unfoldable pub recordMade : ℕ → ℕ → ℕ → List ℕ → List ℕ → Record
-recordMade p i g old new = record { processor = p; interval = i; page = g; diff = written old new }
+-- ---- bytes of a slot
+
+-- the write notice: processor, interval and page
+unfoldable pub noticeBytes : ℕ → ℕ → ℕ → List ℕ
+noticeBytes p i g = p ∷ i ∷ g ∷ []
+
+-- the diff of two pages behind its length
+unfoldable pub countedBytes : List ℕ → List ℕ → List ℕ
+countedBytes old new = length (written old new) ∷ written old new
 
 -- the same for the twin and the copy in the area of the words
-unfoldable pub pageRecord : ℕ → ℕ → ℕ → List ℕ → Record
-pageRecord p i g w = recordMade p i g (rowOf pageWidth w (twinRow mainframe p g)) (rowOf pageWidth w (copyRow mainframe p g))
+unfoldable pub diffBytes : ℕ → ℕ → List ℕ → List ℕ
+diffBytes p g w = countedBytes (rowOf pageWidth w (twinRow mainframe p g)) (rowOf pageWidth w (copyRow mainframe p g))
 
 -- ---- answers
 
