@@ -130,7 +130,7 @@ module _ (c₀ w₀ r m : List ℕ) (p n : ℕ) (c w x : List ℕ) (count g : �
           few-pages = t .few-pages;
           upto = omega (arith, b);
           holds = rw (add-one g) (k .brought .holds ∙ ap (λ (s : State). fetched mainframe s p g) (t .holds));
-          counted = rw (add-one g) (ap₂ _+_ (t .counted) (k .brought .counted ∙ ap (λ (s : State). fetchCount s p g) (t .holds)));
+          counted = rw (add-one g) (ap₂ _+_ (t .counted) (k .brought .counted ∙ ap (λ (s : State). fetchCount mainframe s p g) (t .holds)));
           few = omega (arith, t .few, few-more);
         }
 
