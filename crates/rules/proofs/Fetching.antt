@@ -14,8 +14,8 @@ use Rattle.lists.specs.Tables.{select, sortBy}
 use Rattle.lists.proofs.Selected.{each-always, select-none, count-sort, length-sort, Sorted, Sorts, sorted-sort}
 use Rattle.clock.specs.Clocks.{covered, entryOf}
 use Rattle.rules.specs.State.{Limits, Processor, Applied, Clocks, clockOf, withClock, Record, State, clock, standing}
-use Rattle.rules.specs.Fetch.{isPending, sumAt, earlier, due, fetched, fetchCount, applying}
-use Rattle.rules.proofs.state.Skipping.{skippedOf, applied-and-skipped}
+use Rattle.rules.specs.Fetch.{isPending, sumAt, earlier, due, fetched, fetchCount, fetchSkipped, applying}
+use Rattle.rules.proofs.state.Skipping.{applied-and-skipped}
 use Rattle.rules.proofs.inorder.Everywhere.{covered-entries}
 use Rattle.rules.proofs.word.FetchedWord.{fetched-current, fetched-applied-elsewhere}
 
@@ -111,8 +111,8 @@ due-sorted s p g = sorted-sort (earlier (s .clocks)) (earlier-sorts (s .clocks))
 
 -- the count and the skipped records together are the pending records
 pub fetch-counts-pending : (lim : Limits) (s : State) (p g : ℕ)
-    → fetchCount lim s p g + length (skippedOf (lim .words) (due s p g)) ≡ length (select (isPending (s .clocks) p g) (standing s))
-unfolding fetchCount applying due
+    → fetchCount lim s p g + fetchSkipped lim s p g ≡ length (select (isPending (s .clocks) p g) (standing s))
+unfolding fetchCount fetchSkipped applying due
 fetch-counts-pending lim s p g =
     applied-and-skipped (lim .words) (due s p g) ∙ length-sort (earlier (s .clocks)) (select (isPending (s .clocks) p g) (standing s))
 

@@ -59,6 +59,11 @@ unfoldable pub unreplaced : ℕ → List Record → List Record
 unreplaced w [] = []
 unreplaced w (r ∷ rs) = cond (replaced w r rs) (unreplaced w rs) (r ∷ unreplaced w rs)
 
+-- those that are
+unfoldable pub skipped : ℕ → List Record → List Record
+skipped w [] = []
+skipped w (r ∷ rs) = cond (replaced w r rs) (r ∷ skipped w rs) (skipped w rs)
+
 -- ---- the fetch
 
 -- one copy replaced
@@ -78,3 +83,7 @@ fetched lim s p g =
 -- "The count is the records applied"
 unfoldable pub fetchCount : Limits → State → ℕ → ℕ → ℕ
 fetchCount lim s p g = length (applying lim s p g)
+
+-- and how many were skipped
+unfoldable pub fetchSkipped : Limits → State → ℕ → ℕ → ℕ
+fetchSkipped lim s p g = length (skipped (lim .words) (due s p g))

@@ -14,7 +14,7 @@ use Rattle.diff.specs.Reading.{settings, applied}
 use Rattle.diff.specs.inner.Settings.{settingAt}
 use Rattle.diff.proofs.Theorems.{applied-word}
 use Rattle.rules.specs.State.{Record}
-use Rattle.rules.specs.Fetch.{appliedAll, isSet, anySets, replaced, unreplaced}
+use Rattle.rules.specs.Fetch.{appliedAll, isSet, anySets, replaced, unreplaced, skipped}
 use Rattle.rules.proofs.state.CopyWords.{length-applied, length-applied-all}
 
 module _ (w : ℕ) where
@@ -121,18 +121,13 @@ module _ (w : ℕ) where
 
   -- ---- how many
 
-  -- those that are skipped
-  unfoldable pub skippedOf : List Record → List Record
-  skippedOf [] = []
-  skippedOf (r ∷ rs) = cond (replaced w r rs) (r ∷ skippedOf rs) (skippedOf rs)
-
   -- applied and skipped together are all, each once
-  pub applied-and-skipped : (rs : List Record) → length (unreplaced w rs) + length (skippedOf rs) ≡ length rs
-  unfolding unreplaced skippedOf
+  pub applied-and-skipped : (rs : List Record) → length (unreplaced w rs) + length (skipped w rs) ≡ length rs
+  unfolding unreplaced skipped
   applied-and-skipped [] = refl
   applied-and-skipped (r ∷ rs) = go (replaced w r rs) (applied-and-skipped rs)
     where
-      go : (b : Bool) → length (unreplaced w rs) + length (skippedOf rs) ≡ length rs
-          → length (cond b (unreplaced w rs) (r ∷ unreplaced w rs)) + length (cond b (r ∷ skippedOf rs) (skippedOf rs)) ≡ suc (length rs)
+      go : (b : Bool) → length (unreplaced w rs) + length (skipped w rs) ≡ length rs
+          → length (cond b (unreplaced w rs) (r ∷ unreplaced w rs)) + length (cond b (r ∷ skipped w rs) (skipped w rs)) ≡ suc (length rs)
       go true e = omega (arith, e)
       go false e = omega (arith, e)
