@@ -34,11 +34,11 @@ unfolding maskOf
 mask-set [] d = omega (arith, one-mul (1 + maskOf d))
 mask-set (v ∷ l) d =
     let more : 2 ^ suc (length l) * (1 + maskOf d) ≡ 2 * (2 ^ length l * (1 + maskOf d)) =
-        ap (λ (x : ℕ). x * (1 + maskOf d)) (pow-suc 2 (length l) ∙ mul-comm (2 ^ length l) 2) ∙ mul-assoc 2 (2 ^ length l) (1 + maskOf d) in
+    ap (λ (x : ℕ). x * (1 + maskOf d)) (pow-suc 2 (length l) ∙ mul-comm (2 ^ length l) 2) ∙ mul-assoc 2 (2 ^ length l) (1 + maskOf d) in
     omega (arith, mask-set l d, more)
 
 -- a list of settings has as many digits as words
-mask-below : (d : List (Option ℕ)) → maskOf d < 2 ^ length d
+pub mask-below : (d : List (Option ℕ)) → maskOf d < 2 ^ length d
 unfolding maskOf
 mask-below [] = omega arith
 mask-below (none ∷ d) = omega (arith, mask-below d, pow-suc 2 (length d))
@@ -63,12 +63,12 @@ run-moved : (from offset len n m k : ℕ) → from ≤ offset → n + 1 ≡ 2 ^ 
 run-moved from offset len n m k h e rest =
     let to : from + (offset - from) ≡ offset = omega arith in
     let moved : 2 ^ from * (2 ^ (offset - from) * n) ≡ 2 ^ offset * n =
-        sym (mul-assoc (2 ^ from) (2 ^ (offset - from)) n) ∙ ap (λ (x : ℕ). x * n) (sym (pow-add 2 from (offset - from)) ∙ ap (λ (x : ℕ). 2 ^ x) to) in
+    sym (mul-assoc (2 ^ from) (2 ^ (offset - from)) n) ∙ ap (λ (x : ℕ). x * n) (sym (pow-add 2 from (offset - from)) ∙ ap (λ (x : ℕ). 2 ^ x) to) in
     let ones : 2 ^ offset * (n + 1) ≡ 2 ^ (offset + len) * (1 + m) =
-        ap (λ (x : ℕ). 2 ^ offset * x) e ∙ sym (mul-assoc (2 ^ offset) (2 ^ len) (1 + m)) ∙ ap (λ (x : ℕ). x * (1 + m)) (sym (pow-add 2 offset len)) in
+    ap (λ (x : ℕ). 2 ^ offset * x) e ∙ sym (mul-assoc (2 ^ offset) (2 ^ len) (1 + m)) ∙ ap (λ (x : ℕ). x * (1 + m)) (sym (pow-add 2 offset len)) in
     let left : 2 ^ offset * (n + 1) ≡ 2 ^ offset * n + 2 ^ offset = mul-add (2 ^ offset) n 1 ∙ ap (λ (x : ℕ). 2 ^ offset * n + x) (mul-one (2 ^ offset)) in
     let right : 2 ^ (offset + len) * (1 + m) ≡ 2 ^ (offset + len) + 2 ^ (offset + len) * m =
-        mul-add (2 ^ (offset + len)) 1 m ∙ ap (λ (x : ℕ). x + 2 ^ (offset + len) * m) (mul-one (2 ^ (offset + len))) in
+    mul-add (2 ^ (offset + len)) 1 m ∙ ap (λ (x : ℕ). x + 2 ^ (offset + len) * m) (mul-one (2 ^ (offset + len))) in
     let longer : offset ≤ offset + len = omega arith in
     omega (arith, moved, ones, left, right, rest, pow-mono longer)
 
@@ -82,7 +82,7 @@ mask-of-runs w from (r ∷ rs) words h enough =
     let fits : r .len ≤ length words = omega (arith, enough) in
     let rest = mask-of-runs w (r .offset + r .len) rs (drop (r .len) words) (orderly-earlier w (r .offset + r .len) rs (p .rest)) (simp length-drop (omega (arith, enough))) in
     let set : maskOf (map some (take (r .len) words) ++ behind) + 1 ≡ 2 ^ (r .len) * (1 + maskOf behind) =
-        mask-set (take (r .len) words) behind ∙ ap (λ (x : ℕ). 2 ^ x * (1 + maskOf behind)) (length-take-le (r .len) words fits) in
+    mask-set (take (r .len) words) behind ∙ ap (λ (x : ℕ). 2 ^ x * (1 + maskOf behind)) (length-take-le (r .len) words fits) in
     ap (λ (d : List (Option ℕ)). 2 ^ from * maskOf d) (append-assoc (replicate (r .offset - from) none) (map some (take (r .len) words)) behind)
     ∙ ap (λ (x : ℕ). 2 ^ from * x) (mask-unset (r .offset - from) (map some (take (r .len) words) ++ behind))
     ∙ run-moved from (r .offset) (r .len) (maskOf (map some (take (r .len) words) ++ behind)) (maskOf behind) (runsMask rs) (p .above) set rest
@@ -90,7 +90,7 @@ mask-of-runs w from (r ∷ rs) words h enough =
 -- ---- all runs
 
 -- after some runs: the blocks of the `left` runs whose pairs stand from the place `at` on are to be added
-pub record Masking (bytes : List ℕ) (n at left mask : ℕ) : Type 0 where
+pub record MaskingRuns (bytes : List ℕ) (n at left mask : ℕ) : Type 0 where
   pub from : ℕ
   pub in-order : orderly pageWidth from (runsAt bytes at left) ≡ true
   pub pairs-whole : 1 + 2 * n ≤ length bytes
@@ -103,12 +103,12 @@ mask-fits : (bytes : List ℕ) → readRefusal pageWidth bytes ≡ 0 → maskOf 
 unfolding settings
 mask-fits bytes ok =
     let whole = length-settings pageWidth 0 (runsIn bytes) (wordsAt bytes (wordsPlace bytes) (wordCount (runsIn bytes)))
-        (omega arith) (legal-when-read pageWidth bytes ok .in-order) (length-words bytes (wordsPlace bytes) (wordCount (runsIn bytes))) in
+    (omega arith) (legal-when-read pageWidth bytes ok .in-order) (length-words bytes (wordsPlace bytes) (wordCount (runsIn bytes))) in
     let e : length (settings pageWidth bytes) ≡ 32 = omega (arith, whole) in
     rw e at (mask-below (settings pageWidth bytes))
 
 module _ (bytes : List ℕ) (n : ℕ) where
-  pub masking-begins : readRefusal pageWidth bytes ≡ 0 → n ≡ getD bytes 0 0 → Masking bytes n 1 n 0
+  pub masking-begins : readRefusal pageWidth bytes ≡ 0 → n ≡ getD bytes 0 0 → MaskingRuns bytes n 1 n 0
   unfolding runCount runsIn wordsPlace settings
   masking-begins ok e =
       let p = legal-when-read pageWidth bytes ok in
@@ -139,22 +139,22 @@ module _ (bytes : List ℕ) (n at left mask : ℕ) where
     pub behind : orderly pageWidth (offset + len + 1) (runsAt bytes (at + 2) (left - 1)) ≡ true
     pub block : runsMask (runsAt bytes at left) ≡ (2 ^ (offset + len) - 2 ^ offset) + runsMask (runsAt bytes (at + 2) (left - 1))
 
-  next : Masking bytes n at left mask → 0 < left → Next
+  next : MaskingRuns bytes n at left mask → 0 < left → Next
   unfolding runsMask
   next p more =
       let first = runs-left bytes at left more in
       let q = orderly-parts pageWidth (p .from) _ (runsAt bytes (at + 2) (left - 1)) (rw first at (p .in-order)) in
       record { on-page = q .within; behind = q .rest; block = rw first }
 
-  pub masking-pair : Masking bytes n at left mask → 0 < left → PairOnPage bytes at
+  pub masking-pair : MaskingRuns bytes n at left mask → 0 < left → PairOnPage bytes at
   masking-pair p more = record { pair-whole = omega (arith, p .place, p .pairs-whole); on-page = next p more .on-page }
 
   -- the block added
-  masking-sum : (r : ℕ) → Masking bytes n at left mask → 0 < left → r ≡ 2 ^ (offset + len) - 2 ^ offset
+  masking-sum : (r : ℕ) → MaskingRuns bytes n at left mask → 0 < left → r ≡ 2 ^ (offset + len) - 2 ^ offset
       → mask + r + runsMask (runsAt bytes (at + 2) (left - 1)) ≡ maskOf (settings pageWidth bytes)
   masking-sum r p more e = omega (arith, p .same, next p more .block, e)
 
-  pub masking-more : (r : ℕ) → Masking bytes n at left mask → 0 < left → r ≡ 2 ^ (offset + len) - 2 ^ offset → Masking bytes n (at + 2) (left - 1) (mask + r)
+  pub masking-more : (r : ℕ) → MaskingRuns bytes n at left mask → 0 < left → r ≡ 2 ^ (offset + len) - 2 ^ offset → MaskingRuns bytes n (at + 2) (left - 1) (mask + r)
   masking-more r p more e =
       let q = next p more in
       record {
@@ -166,17 +166,17 @@ module _ (bytes : List ℕ) (n at left mask : ℕ) where
         small = p .small;
       }
 
-  pub masking-fits : (r : ℕ) → Masking bytes n at left mask → 0 < left → r ≡ 2 ^ (offset + len) - 2 ^ offset → mask + r < 2 ^ 64
+  pub masking-fits : (r : ℕ) → MaskingRuns bytes n at left mask → 0 < left → r ≡ 2 ^ (offset + len) - 2 ^ offset → mask + r < 2 ^ 64
   masking-fits r p more e = omega (arith, masking-sum r p more e, p .small)
 
-  pub masking-ends : Masking bytes n at left mask → left ≤ 0 → mask ≡ maskOf (settings pageWidth bytes)
+  pub masking-ends : MaskingRuns bytes n at left mask → left ≤ 0 → mask ≡ maskOf (settings pageWidth bytes)
   unfolding runsMask runsAt
   masking-ends p done =
       let e : left ≡ 0 = omega (arith, done) in
       let last : mask + 0 ≡ maskOf (settings pageWidth bytes) = rw e at (p .same) in
       omega (arith, last)
 
-  pub masked-fits : Masking bytes n at left mask → mask < 4294967296
+  pub masked-fits : MaskingRuns bytes n at left mask → mask < 4294967296
   masked-fits p = omega (arith, p .same, p .small)
 
 -- ---- the block of a run

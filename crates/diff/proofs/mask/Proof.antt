@@ -1,10 +1,10 @@
 -- `mask` meets its contract. Assumes nothing.
-use Rattle.diff.proofs.Masking.{Masking, mask-laws}
+use Rattle.diff.proofs.Masking.{MaskingRuns, mask-laws}
 use Rattle.diff.proofs.mask.Statement.{statement}
 use Rattle.diff.proofs.mask.Tie as tie
 
 abbrev Inv-loop : tie.InvT-loop
-Inv-loop bytes n at₀ left₀ mask₀ at left mask = Masking bytes n at left mask
+Inv-loop bytes n at₀ left₀ mask₀ at left mask = MaskingRuns bytes n at left mask
 
 abbrev μ-loop : tie.MeasureT-loop
 μ-loop bytes n at₀ left₀ mask₀ at left mask = left
