@@ -26,7 +26,7 @@ extern "C" {
 
 /* The lengths of the slices, in elements. */
 #define LUGHTSAVI_CLOCKS 4744   /* uint8_t: vector clocks */
-#define LUGHTSAVI_WORDS 4096    /* uint32_t: each processor's copies of the pages, then the twins */
+#define LUGHTSAVI_WORDS 4240    /* uint32_t: each processor's copies of the pages, then the twins, then the tallies */
 #define LUGHTSAVI_RECORDS 17280 /* uint8_t: the change records */
 #define LUGHTSAVI_MARKS 110     /* uint8_t: counts, holders, arrived and dirty marks, the lines of waiters */
 #define LUGHTSAVI_OPENING 8     /* uint8_t: 0, processors, pages, locks, 0, 0, 0, 0 */
@@ -38,7 +38,8 @@ extern "C" {
 #define LUGHTSAVI_REFUSED 256
 
 /*
- * The kinds of step. The object is a word (read, write) or a lock (acquire, release), else 0; only a write has a value, else 0.
+ * The kinds of step. The object is a word (read, write), a lock (acquire, release) or a tally (0 to 15), else 0; only a write and an add to a
+ * tally have a value, else 0.
  * An acquire of a lock that another processor holds is accepted: the processor waits, and has no other step accepted until a release gives it
  * the lock.
  */
@@ -48,7 +49,9 @@ enum lughtsavi_kind {
     LUGHTSAVI_ACQUIRE = 3,
     LUGHTSAVI_RELEASE = 4,
     LUGHTSAVI_ARRIVE = 5,
-    LUGHTSAVI_WANT_COLLECTION = 6
+    LUGHTSAVI_WANT_COLLECTION = 6,
+    LUGHTSAVI_TALLY_ADD = 8,
+    LUGHTSAVI_TALLY_READ = 9
 };
 
 /* The refusals, by the numbers of documents 01 and 02. Where several apply, the first that a call meets is given; 17 stands behind 6. */
@@ -58,9 +61,9 @@ enum lughtsavi_refusal {
                                        for a step also: an answer that has not three words */
     LUGHTSAVI_BAD_OPENING = 2,      /* not eight bytes, first byte not 0, a count out of range (processors 1 to 8, pages 1 to 8,
                                        locks 1 to 16), or bytes 4 to 7 not all 0 */
-    LUGHTSAVI_UNKNOWN_KIND = 3,     /* kind not 1 to 6 */
+    LUGHTSAVI_UNKNOWN_KIND = 3,     /* kind not 1 to 6, 8 or 9 */
     LUGHTSAVI_NO_PROCESSOR = 4,     /* processor absent */
-    LUGHTSAVI_NO_OBJECT = 5,        /* word or lock absent, or an unused field not 0 */
+    LUGHTSAVI_NO_OBJECT = 5,        /* word, lock or tally absent, or an unused field not 0 */
     LUGHTSAVI_HAS_ARRIVED = 6,      /* the processor has arrived, and the round is not complete */
     LUGHTSAVI_LOCK_HELD = 7,        /* acquire: this processor is the holder */
     LUGHTSAVI_NOT_HOLDER = 8,       /* release: this processor is not the holder */
@@ -97,9 +100,9 @@ bool lughtsavi_in_order(
     const uint8_t *marks, size_t marks_len);
 
 /*
- * One step of a processor. Processors are numbered from 1; words and locks from 0.
- * Answers 0 where the step was done: `answer` is 0, value, count, and the areas hold the state after the step. Only a read has a value
- * other than 0; the count is the change records that the step applied to copies.
+ * One step of a processor. Processors are numbered from 1; words, locks and tallies from 0.
+ * Answers 0 where the step was done: `answer` is 0, value, count, and the areas hold the state after the step. Only a read, of a word or of
+ * a tally, has a value other than 0; the count is the change records that the step applied to copies.
  * Refuses by 1, then 3 to 6, 17, 7 to 10: it returns the refusal, `answer` is refusal, 0, 0, and the areas are left untouched.
  * Where `answer` has not three words it returns 1, and `answer` too is left untouched.
  */

@@ -1,6 +1,7 @@
 //! A named step file with the lines it should print, written by hand.
 
 use crate::model::{Answer, Step, ACQUIRE, ARRIVE, READ, RELEASE, WANT, WRITE};
+use crate::model::{TALLY_ADD, TALLY_READ};
 use crate::stepfile::Line;
 
 pub struct Case {
@@ -42,6 +43,16 @@ pub fn arrive(card: u8) -> Step {
 
 pub fn want(card: u8) -> Step {
     step(WANT, card, 0, 0)
+}
+
+/// Adds to a tally.
+pub fn add(card: u8, tally: u16, value: u32) -> Step {
+    step(TALLY_ADD, card, tally, value)
+}
+
+/// Reads a tally.
+pub fn look(card: u8, tally: u16) -> Step {
+    step(TALLY_READ, card, tally, 0)
 }
 
 pub fn any(kind: u8, card: u8, object: u16, value: u32) -> Step {

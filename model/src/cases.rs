@@ -1,11 +1,13 @@
 //! The files of tests/files; those of cards that wait are in `wait_cases.rs`,
-//! those of stores that alter nothing in `equal_cases.rs`. Each expected line
-//! is written by hand from documents 01 and 02; `model make-files` refuses to
-//! write a file whose lines the model does not print.
+//! those of stores that alter nothing in `equal_cases.rs`, those of tallies in
+//! `tally_cases.rs`. Each expected line is written by hand from documents 01
+//! and 02; `model make-files` refuses to write a file whose lines the model
+//! does not print.
 
 use crate::case::{acquire, any, arrive, read, release, want, write, Case};
 use crate::equal_cases::equal_cases;
 use crate::model::Step;
+use crate::tally_cases::tally_cases;
 use crate::wait_cases::wait_cases;
 
 pub fn all_cases() -> Vec<Case> {
@@ -17,6 +19,7 @@ pub fn all_cases() -> Vec<Case> {
     cases.extend(further_cases());
     cases.extend(wait_cases());
     cases.extend(equal_cases());
+    cases.extend(tally_cases());
     cases
 }
 
@@ -255,10 +258,12 @@ fn refusal_cases() -> Vec<Case> {
 }
 
 fn refusal_3() -> Case {
-    let mut c = Case::open("refusal-3", [2, 1, 1], "Refusal 3: kind not 1 to 6.");
-    for kind in [0, 7, 8, 255] {
-        c.refused(any(kind, 1, 0, 0), 3);
-    }
+    let shows = "Refusal 3: kinds 0, 7 and 255; kind 8 between them adds 0 to tally 0.";
+    let mut c = Case::open("refusal-3", [2, 1, 1], shows);
+    c.refused(any(0, 1, 0, 0), 3);
+    c.refused(any(7, 1, 0, 0), 3);
+    c.ok(&[any(8, 1, 0, 0)]);
+    c.refused(any(255, 1, 0, 0), 3);
     c.ok(&[read(1, 0)]);
     c
 }

@@ -19,6 +19,10 @@ pub struct PageId(pub u16);
 #[derive(Clone, Copy, PartialEq, Eq, PartialOrd, Ord, Debug)]
 pub struct LockId(pub u16);
 
+/// "16 tallies of 32 bits, numbered from 0"
+#[derive(Clone, Copy, PartialEq, Eq, PartialOrd, Ord, Debug)]
+pub struct TallyId(pub u16);
+
 /// "A clock has eight entries, one a card: how many of that card's intervals
 /// are known." An entry that is not in the map is 0.
 #[derive(Clone, Default, PartialEq, Eq, Debug)]

@@ -194,6 +194,7 @@ fn the_generated_files_cover_the_rules() {
     assert!(seen.read_counts > 0 && seen.read_values > 0 && seen.collections > 0);
     assert!(seen.waits > seen.grants && seen.grants > 0);
     assert!(seen.lines_of_two > 0 && seen.lines_of_three > 0);
+    assert!(seen.adds > 0 && seen.looks > seen.look_values && seen.look_values > 0);
 }
 
 #[test]

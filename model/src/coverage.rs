@@ -3,7 +3,7 @@
 
 use crate::fault::FAULTS;
 use crate::generate::PROFILES;
-use crate::model::{Step, ACQUIRE, ARRIVE, READ, RELEASE, WRITE};
+use crate::model::{Step, ACQUIRE, ARRIVE, READ, RELEASE, TALLY_ADD, TALLY_READ, WRITE};
 use crate::options::Options;
 use crate::plan::{plan, Source};
 use crate::stepfile::{record_at, run, Line, REFUSALS};
@@ -37,6 +37,11 @@ pub struct Seen {
     pub lines_of_three: usize,
     /// Releases that hand the lock to a waiter.
     pub grants: usize,
+    /// Accepted adds to tallies, reads of them, and those of the reads that
+    /// are not 0.
+    pub adds: usize,
+    pub looks: usize,
+    pub look_values: usize,
     /// Files with other lines under each fault.
     pub faults: [usize; FAULTS.len()],
 }
@@ -89,6 +94,11 @@ impl Seen {
             ACQUIRE => self.add_acquire(in_turn.entry(step.object).or_default()),
             RELEASE => self.add_release(in_turn.entry(step.object).or_default()),
             ARRIVE => self.collections += counted,
+            TALLY_ADD => self.adds += 1,
+            TALLY_READ => {
+                self.looks += 1;
+                self.look_values += usize::from(answer.value != 0);
+            }
             _ => {}
         }
     }
@@ -189,6 +199,9 @@ fn rows() -> Vec<Row> {
         row("  in a line of 2 then", |s| s.lines_of_two),
         row("  in a line of 3 or more", |s| s.lines_of_three),
         row("releases to a waiter", |s| s.grants),
+        row("adds to tallies accepted", |s| s.adds),
+        row("reads of tallies accepted", |s| s.looks),
+        row("  value not 0", |s| s.look_values),
     ]);
     for (at, (fault, _)) in FAULTS.iter().enumerate() {
         let name = format!("files where {fault} shows");

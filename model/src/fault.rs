@@ -1,5 +1,6 @@
 //! The names of the switches of `model run --fault NAME`: document 01's
-//! "Faults that pass on a two-card bench", and one against request L2.
+//! "Faults that pass on a two-card bench", one against request L2 of document
+//! 02 and five against request L4.
 
 #[derive(Clone, Copy, PartialEq, Eq, Debug)]
 pub enum Fault {
@@ -21,9 +22,19 @@ pub enum Fault {
     /// Against L2, "each dirty page now gets a record": a page without a
     /// word that differs gets none, and makes no interval.
     SkipEqual,
+    /// Against L4: totals are posted only where collection is wanted.
+    PostWanted,
+    /// Against L4: a card's adds are kept after posting.
+    AddsKept,
+    /// Against L4: the last card's adds are not posted.
+    PostShort,
+    /// Against L4: card 1's adds are posted in the place of each card's.
+    PostFirst,
+    /// Against L4, "Totals wrap": they stop at 4,294,967,295.
+    Saturate,
 }
 
-pub const FAULTS: [(&str, Fault); 7] = [
+pub const FAULTS: [(&str, Fault); 12] = [
     ("lock-own", Fault::LockOwn),
     ("by-card", Fault::ByCard),
     ("join", Fault::Join),
@@ -31,6 +42,11 @@ pub const FAULTS: [(&str, Fault); 7] = [
     ("whole-page", Fault::WholePage),
     ("learn-first", Fault::LearnFirst),
     ("skip-equal", Fault::SkipEqual),
+    ("post-wanted", Fault::PostWanted),
+    ("adds-kept", Fault::AddsKept),
+    ("post-short", Fault::PostShort),
+    ("post-first", Fault::PostFirst),
+    ("saturate", Fault::Saturate),
 ];
 
 pub fn by_name(name: &str) -> Option<Fault> {

@@ -44,8 +44,8 @@ const README_HEAD: &str = "# Step files and their lines
 
 NAME.steps is a step file, NAME.lines what the run program prints for it.
 Written by `model make-files`; each line was set down by hand from documents 01
-and 02 (model/src/cases.rs, wait_cases.rs, equal_cases.rs) and agrees with the
-second model.
+and 02 (model/src/cases.rs, wait_cases.rs, equal_cases.rs, tally_cases.rs) and
+agrees with the second model.
 
 ";
 
@@ -110,7 +110,7 @@ pub fn check_files(dir: &Path) -> Result<String, String> {
 }
 
 /// What a fault does to a file: nothing, other lines, or lines that break
-/// demand 3 as well.
+/// demand 3, or what is due of tallies, as well.
 pub fn effect(file: &[u8], right: &[Line], fault: Fault) -> &'static str {
     let faulty = run(file, Some(fault));
     let broken = judge(file, &faulty).is_ok_and(|verdict| !verdict.broken.is_empty());
@@ -146,7 +146,7 @@ pub fn fault_table(dir: &Path) -> Result<String, String> {
 const FAULT_KEY: &str = "
 .      the lines are the right ones
 lines  the lines differ
-judge  the lines differ and break demand 3
+judge  the lines differ and break demand 3 or what is due of tallies
 
 ";
 

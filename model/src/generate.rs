@@ -6,10 +6,13 @@ use crate::blend::{blend, quiet};
 use crate::model::{Answer, ACQUIRE, ARRIVE, READ, RELEASE, WANT, WRITE};
 use crate::rng::Rng;
 use crate::script::Script;
+use crate::triggers::{tally_turn, triggers};
 
-/// The profiles; each is described at its function.
-pub const PROFILES: [&str; 9] = [
-    "mixed", "locks", "rounds", "soak", "racy", "damaged", "chains", "blend", "quiet",
+/// The profiles; each is described at its function. Tallies are used in racy,
+/// damaged, blend and triggers. The others are those of the benchmark, whose
+/// files stay the same from one rule to the next.
+pub const PROFILES: [&str; 10] = [
+    "mixed", "locks", "rounds", "soak", "racy", "damaged", "chains", "blend", "quiet", "triggers",
 ];
 
 /// A file of an opening and `steps` step records (damaged ones may differ).
@@ -25,6 +28,7 @@ pub fn generate(profile: &str, seed: u64, steps: usize) -> Option<Vec<u8>> {
         "chains" => Some(chains(rng, steps)),
         "blend" => Some(blend(rng, steps)),
         "quiet" => Some(quiet(rng, steps)),
+        "triggers" => Some(triggers(rng, steps)),
         _ => None,
     }
 }
@@ -99,7 +103,8 @@ pub fn out_of_turn(s: &mut Script) {
     }
 }
 
-/// A step with at least one field that should not be.
+/// A step with at least one field that should not be, or kind 8, which then
+/// adds 0 to tally 0.
 pub fn nonsense(s: &mut Script, card: u8) {
     let high_word = s.pages * 32 + s.rng.below(40) as u16;
     let high_lock = s.locks + s.rng.below(4) as u16;
@@ -277,7 +282,7 @@ fn soak_turn(s: &mut Script) {
     read_or_write(s, card, word, 60);
 }
 
-/// racy: few words, many cards, little order.
+/// racy: few words, many cards, little order, and tallies, which order nothing.
 fn racy(mut rng: Rng, steps: usize) -> Vec<u8> {
     let counts = [rng.within(2, 8), rng.within(1, 2), rng.within(1, 4)];
     let mut s = Script::new(rng, counts, steps);
@@ -294,8 +299,9 @@ fn racy_turn(s: &mut Script, words: &[u16]) {
     match s.rng.below(100) {
         0..=29 => s.read(card, word),
         30..=64 => s.write(card, word),
-        65..=79 => return s.ask(card),
-        80..=94 => s.release_some(card),
+        65..=76 => return s.ask(card),
+        77..=88 => s.release_some(card),
+        89..=94 => return tally_turn(s),
         95..=96 => return out_of_turn(s),
         97..=98 => s.arrive(card),
         _ => s.want(),
@@ -305,7 +311,9 @@ fn racy_turn(s: &mut Script, words: &[u16]) {
 /// damaged: a file of another profile with one kind of damage. What is not a
 /// cut or a bad opening lies in the last fifth: a damaged plan soon hangs.
 fn damaged(mut rng: Rng, seed: u64, steps: usize) -> Vec<u8> {
-    let sound = rng.pick(&["mixed", "locks", "rounds", "soak", "racy", "chains"]);
+    let sound = rng.pick(&[
+        "mixed", "locks", "rounds", "soak", "racy", "chains", "triggers",
+    ]);
     let mut file = generate(sound, seed, steps).unwrap_or_default();
     let last_fifth = 8 * (1 + steps * 4 / 5);
     match rng.below(8) {
@@ -372,7 +380,7 @@ fn mix_in_noise(rng: &mut Rng, records: &mut [u8]) {
 fn spoil_fields(rng: &mut Rng, records: &mut [u8]) {
     for record in records.chunks_mut(8) {
         match rng.below(60) {
-            0 => record[0] = rng.pick(&[0, 6, 7, 255]),
+            0 => record[0] = rng.pick(&[0, 6, 7, 8, 9, 10, 255]),
             1 => record[1] = rng.pick(&[0, 8, 9, 255]),
             2 => record[2] = rng.pick(&[15, 16, 31, 32, 255]),
             3 => record[3] = rng.pick(&[0, 1, 255]),
@@ -386,7 +394,7 @@ fn spoil_fields(rng: &mut Rng, records: &mut [u8]) {
 fn only_noise(rng: &mut Rng, records: &mut [u8]) {
     for record in records.chunks_mut(8) {
         record.fill(0);
-        record[0] = rng.below(8) as u8;
+        record[0] = rng.below(11) as u8;
         record[1] = rng.below(9) as u8;
         record[2] = rng.below(20) as u8;
         record[4] = rng.below(2) as u8;

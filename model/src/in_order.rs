@@ -1,10 +1,11 @@
-//! "A state is in order when": document 01's list, and what request L1 of
-//! document 02 adds of lines, asked of the model's state as a check on the
-//! model itself. What the model's types exclude (sizes, absent cards and
-//! pages) is not asked.
+//! "A state is in order when": document 01's list, and what requests L1 and L4
+//! of document 02 add of lines and tallies, asked of the model's state as a
+//! check on the model itself. What the model's types exclude (sizes, absent
+//! cards and pages) is not asked.
 
 use crate::clock::{IntervalId, ProcId, VectorClock};
-use crate::model::{Lock, Model, Processor, Record, MOST_INTERVALS, MOST_RECORDS};
+use crate::model::{Lock, Model, Processor, Record, Tally};
+use crate::model::{MOST_INTERVALS, MOST_RECORDS, TALLIES};
 
 /// The first clause that does not hold, if any.
 pub fn broken_clause(model: &Model) -> Option<&'static str> {
@@ -25,6 +26,7 @@ pub fn broken_clause(model: &Model) -> Option<&'static str> {
         (lines_held(model), "no line at a free lock"),
         (waiters_not_arrived(model), "no waiter that has arrived"),
         (waiters_not_holders(model), "no waiter that holds the lock"),
+        (tallies_fit(model), "16 tallies, adds of present cards"),
     ];
     let broken = clauses.iter().find(|(holds, _)| !holds);
     broken.map(|(_, clause)| *clause)
@@ -149,4 +151,10 @@ fn waiters_not_arrived(model: &Model) -> bool {
 fn waiters_not_holders(model: &Model) -> bool {
     let fine = |lock: &Lock| lock.line.iter().all(|card| lock.holder != Some(*card));
     model.locks.values().all(fine)
+}
+
+/// Each of the 16 tallies has adds of the present cards and of no other.
+fn tallies_fit(model: &Model) -> bool {
+    let fits = |tally: &Tally| tally.since.keys().eq(model.processors.keys());
+    model.tallies.len() == usize::from(TALLIES) && model.tallies.values().all(fits)
 }

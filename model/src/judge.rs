@@ -6,13 +6,16 @@
 //! may come from the model or from any other program. Document 02's request
 //! L1 adds the order of a release before what the waiter that it serves does
 //! next; which waiter that is, is counted off from the accepted steps too.
+//! Tallies are no words: they order nothing, and what a read of one must answer
+//! is in `tally_judge.rs`.
 //!
 //! Two judges of the same claim: `by_relation` builds the order as the
 //! document defines it (bit sets, short lists only), `by_clocks` counts steps
 //! with vectors of its own (any length). Short lists go through both.
 
-use crate::model::{Step, ACQUIRE, ARRIVE, READ, RELEASE, WRITE};
+use crate::model::{Step, ACQUIRE, ARRIVE, READ, RELEASE, TALLY_READ, WRITE};
 use crate::stepfile::{record_at, Line};
+use crate::tally_judge::{due_by_places, Totals};
 use std::collections::{BTreeMap, BTreeSet};
 
 /// Lists up to this many accepted steps are judged both ways.
@@ -21,11 +24,11 @@ const SHORT: usize = 2500;
 /// An accepted step: "A step is accepted exactly when its refusal is 0; a
 /// refused one has no place in the order."
 #[derive(Clone, Copy)]
-struct Accepted {
-    number: usize,
-    step: Step,
+pub struct Accepted {
+    pub number: usize,
+    pub step: Step,
     /// The value answered.
-    answered: u32,
+    pub answered: u32,
 }
 
 /// What was found.
@@ -37,32 +40,47 @@ pub struct Verdict {
     pub strong: usize,
     /// Of those, the reads with at least one earlier write.
     pub strong_written: usize,
+    /// Reads of tallies; each has one value that is due.
+    pub tally_reads: usize,
     pub broken: Vec<Broken>,
 }
 
-/// A read that breaks demand 3.
+/// A read that breaks demand 3, or a read of a tally with another value than
+/// the one that is due.
 #[derive(Clone, Debug, PartialEq, Eq)]
 pub struct Broken {
     pub number: usize,
-    pub word: u16,
+    /// The word or the tally.
+    pub object: u16,
     pub answered: u32,
-    /// The value due by the strong half; nothing if the weak half is broken.
-    pub due: Option<u32>,
+    pub rule: Rule,
+}
+
+/// The rule that a read breaks, with the value that is due by it.
+#[derive(Clone, Debug, PartialEq, Eq)]
+pub enum Rule {
+    Strong(u32),
+    Weak,
+    Tally(u32),
 }
 
 impl Broken {
     pub fn text(&self) -> String {
-        let rule = match self.due {
-            Some(due) => format!("strong half: {due} is due"),
-            None => "weak half: neither 0 nor a value written before".to_string(),
+        let (what, rule) = match self.rule {
+            Rule::Strong(due) => ("word", format!("strong half: {due} is due")),
+            Rule::Weak => {
+                let rule = "weak half: neither 0 nor a value written before";
+                ("word", rule.to_string())
+            }
+            Rule::Tally(due) => ("tally", format!("{due} is due")),
         };
         let Broken {
             number,
-            word,
+            object,
             answered,
             ..
         } = self;
-        format!("record {number}: read of word {word} answered {answered}; {rule}")
+        format!("record {number}: read of {what} {object} answered {answered}; {rule}")
     }
 }
 
@@ -83,14 +101,27 @@ impl Verdict {
         self.strong += usize::from(finding.premise);
         self.strong_written += usize::from(finding.premise && finding.last.is_some());
         let strong_broken = finding.premise && due != read.answered;
-        if strong_broken || !finding.weak {
-            self.broken.push(Broken {
-                number: read.number,
-                word: read.step.object,
-                answered: read.answered,
-                due: strong_broken.then_some(due),
-            });
+        if strong_broken {
+            self.add_broken(read, Rule::Strong(due));
+        } else if !finding.weak {
+            self.add_broken(read, Rule::Weak);
         }
+    }
+
+    fn take_tally(&mut self, read: &Accepted, due: u32) {
+        self.tally_reads += 1;
+        if read.answered != due {
+            self.add_broken(read, Rule::Tally(due));
+        }
+    }
+
+    fn add_broken(&mut self, read: &Accepted, rule: Rule) {
+        self.broken.push(Broken {
+            number: read.number,
+            object: read.step.object,
+            answered: read.answered,
+            rule,
+        });
     }
 }
 
@@ -277,13 +308,16 @@ fn happens_before(cards: usize, list: &[Accepted]) -> Vec<Set> {
 
 fn by_relation(cards: usize, list: &[Accepted]) -> Verdict {
     let before = happens_before(cards, list);
+    let ends = round_ends(cards, list);
     let mut verdict = Verdict {
         accepted: list.len(),
         ..Verdict::default()
     };
-    for (place, read) in list.iter().enumerate() {
-        if read.step.kind == READ {
-            verdict.take(read, finding_by_relation(list, &before, place));
+    for (place, taken) in list.iter().enumerate() {
+        match taken.step.kind {
+            READ => verdict.take(taken, finding_by_relation(list, &before, place)),
+            TALLY_READ => verdict.take_tally(taken, due_by_places(list, &ends, place)),
+            _ => {}
         }
     }
     verdict
@@ -430,6 +464,7 @@ impl Clocks {
 fn by_clocks(cards: usize, list: &[Accepted]) -> Verdict {
     let mut clocks = Clocks::default();
     let mut words: BTreeMap<u16, WordHistory> = BTreeMap::new();
+    let mut totals = Totals::default();
     let mut verdict = Verdict {
         accepted: list.len(),
         ..Verdict::default()
@@ -440,9 +475,11 @@ fn by_clocks(cards: usize, list: &[Accepted]) -> Verdict {
         match taken.step.kind {
             READ => verdict.take(taken, word.or_default().read(taken, &known)),
             WRITE => word.or_default().write(&taken.step, &known),
+            TALLY_READ => verdict.take_tally(taken, totals.due(&taken.step)),
             _ => {}
         }
         clocks.leave(&taken.step, &known, cards);
+        totals.take(&taken.step, cards);
     }
     verdict
 }

@@ -29,8 +29,13 @@ mod rng;
 mod script;
 mod stepfile;
 mod sweep;
+mod tally_cases;
+mod tally_judge;
+#[cfg(test)]
+mod tally_tests;
 #[cfg(test)]
 mod tests;
+mod triggers;
 mod wait_cases;
 #[cfg(test)]
 mod wait_tests;
@@ -43,8 +48,8 @@ use std::path::Path;
 use std::process::ExitCode;
 
 const USAGE: &str = "model run < FILE                      the lines of a step file
-model judge < FILE                    demand 3 on the model's own lines
-model judge FILE LINES                demand 3 on the lines given
+model judge < FILE                    demand 3, and tallies, on the model's own lines
+model judge FILE LINES                the same on the lines given
 model gen PROFILE SEED STEPS > FILE   a step file
 model gen --list                      the profiles
 model make-files DIR                  the named files with their lines
@@ -155,11 +160,12 @@ fn judge_given(file: &str, lines: &str) -> Result<String, String> {
 fn report(file: &[u8], lines: &[stepfile::Line]) -> Result<String, String> {
     let found = judge::judge(file, lines)?;
     let mut text = format!(
-        "{} accepted steps, {} reads, {} under the strong half ({} written before), {} broken\n",
+        "{} accepted steps, {} reads, {} under the strong half ({} written before), {} of tallies, {} broken\n",
         found.accepted,
         found.reads,
         found.strong,
         found.strong_written,
+        found.tally_reads,
         found.broken.len()
     );
     for broken in &found.broken {

@@ -1,12 +1,12 @@
-//! The rules of document 01 with requests L1 and L2 of document 02: opening,
-//! the six kinds of step, their refusals, the lines of cards that wait for
-//! locks, and a record for each dirty page at closing.
+//! The rules of document 01 with requests L1, L2 and L4 of document 02:
+//! opening, the eight kinds of step, their refusals, the lines of cards that
+//! wait for locks, a record for each dirty page at closing, and tallies.
 //!
 //! Written from the documents alone, as plainly as they state them. Quoted
-//! text is theirs; "L1" or "L2" stands before that of document 02. A card is a
-//! processor here; nothing is encoded.
+//! text is theirs; "L1", "L2" or "L4" stands before that of document 02. A
+//! card is a processor here; nothing is encoded.
 
-use crate::clock::{IntervalId, LockId, PageId, ProcId, VectorClock};
+use crate::clock::{IntervalId, LockId, PageId, ProcId, TallyId, VectorClock};
 use crate::diff::{Diff, PAGE_WORDS};
 use crate::fault::Fault;
 use std::collections::{BTreeMap, VecDeque};
@@ -17,11 +17,19 @@ pub const ACQUIRE: u8 = 3;
 pub const RELEASE: u8 = 4;
 pub const ARRIVE: u8 = 5;
 pub const WANT: u8 = 6;
+/// L4: "Kind 8 adds the value to the tally named by the object; kind 9 reads
+/// it."
+pub const TALLY_ADD: u8 = 8;
+pub const TALLY_READ: u8 = 9;
 
 /// "an interval number 1 to 63"
 pub const MOST_INTERVALS: u32 = 63;
 /// "At most 128 stand."
 pub const MOST_RECORDS: usize = 128;
+/// L4: "there are 16 tallies", whatever the opening says.
+pub const TALLIES: u16 = 16;
+/// L4: "Totals wrap at 4,294,967,296."
+pub const WRAP: u64 = 4_294_967_296;
 
 /// A step with any fields: "kind, card, object, value".
 #[derive(Clone, Copy, Debug, PartialEq, Eq)]
@@ -105,6 +113,14 @@ pub struct Barrier {
     pub wanted: bool,
 }
 
+/// L4: "the total posted at the last completed round", and for each card its
+/// "own adds since".
+#[derive(Clone)]
+pub struct Tally {
+    pub posted: u32,
+    pub since: BTreeMap<ProcId, u32>,
+}
+
 /// The mainframe.
 #[derive(Clone)]
 pub struct Model {
@@ -114,6 +130,7 @@ pub struct Model {
     pub intervals: BTreeMap<(ProcId, IntervalId), VectorClock>,
     pub locks: BTreeMap<LockId, Lock>,
     pub barrier: Barrier,
+    pub tallies: BTreeMap<TallyId, Tally>,
     fault: Option<Fault>,
 }
 
@@ -147,6 +164,13 @@ fn fresh_lock() -> Lock {
     }
 }
 
+fn fresh_tally(cards: impl Iterator<Item = ProcId>) -> Tally {
+    Tally {
+        posted: 0,
+        since: cards.map(|card| (card, 0)).collect(),
+    }
+}
+
 // Opening.
 impl Model {
     /// "The opening record holds 0, cards, pages, locks, four zeros."
@@ -165,16 +189,18 @@ impl Model {
     fn fresh(cards: u8, pages: u8, locks: u8, fault: Option<Fault>) -> Model {
         let cards = (1..=cards).map(ProcId);
         let locks = (0..u16::from(locks)).map(LockId);
+        let tallies = (0..TALLIES).map(TallyId);
         Model {
             processors: cards.clone().map(|p| (p, fresh_processor(pages))).collect(),
             records: Vec::new(),
             intervals: BTreeMap::new(),
             locks: locks.map(|l| (l, fresh_lock())).collect(),
             barrier: Barrier {
-                arrived: cards.map(|p| (p, false)).collect(),
+                arrived: cards.clone().map(|p| (p, false)).collect(),
                 clock: VectorClock::zeros(),
                 wanted: false,
             },
+            tallies: tallies.map(|t| (t, fresh_tally(cards.clone()))).collect(),
             fault,
         }
     }
@@ -255,8 +281,8 @@ impl Model {
 // then."
 impl Model {
     fn refusal(&self, step: &Step) -> Option<u32> {
-        // "3: kind not 1 to 6"
-        if !(READ..=WANT).contains(&step.kind) {
+        // "3: kind not 1 to 6"; L4: "kinds 8 and 9 leave the reach of 3"
+        if !matches!(step.kind, READ..=WANT | TALLY_ADD | TALLY_READ) {
             return Some(3);
         }
         // "4: card absent"
@@ -264,7 +290,8 @@ impl Model {
         if !self.processors.contains_key(&card) {
             return Some(4);
         }
-        // "5: word or lock absent, or an unused field not 0"
+        // "5: word or lock absent, or an unused field not 0"; L4: "an absent
+        // tally is 5"
         if !self.fields_fit(step) {
             return Some(5);
         }
@@ -280,14 +307,16 @@ impl Model {
     }
 
     /// "Object is the word (kinds 1, 2) or lock (3, 4), else 0; value is used
-    /// by kind 2 alone."
+    /// by kind 2 alone." L4: the object of kinds 8 and 9 is the tally, and kind
+    /// 8 has a value.
     fn fields_fit(&self, step: &Step) -> bool {
         let object_fits = match step.kind {
             READ | WRITE => self.page_present(place(step.object).0),
             ACQUIRE | RELEASE => self.locks.contains_key(&LockId(step.object)),
+            TALLY_ADD | TALLY_READ => self.tallies.contains_key(&TallyId(step.object)),
             _ => step.object == 0,
         };
-        object_fits && (step.kind == WRITE || step.value == 0)
+        object_fits && (matches!(step.kind, WRITE | TALLY_ADD) || step.value == 0)
     }
 
     fn refusal_by_kind(&self, step: &Step, card: ProcId) -> Option<u32> {
@@ -314,7 +343,7 @@ impl Model {
     }
 }
 
-// The six kinds of step.
+// The eight kinds of step.
 impl Model {
     /// Takes or refuses one step. A refused step changes nothing.
     pub fn step(&mut self, step: &Step) -> Answer {
@@ -332,6 +361,8 @@ impl Model {
             ACQUIRE => self.acquire(card, LockId(step.object)),
             RELEASE => self.release(card, LockId(step.object)),
             ARRIVE => self.arrive(card),
+            TALLY_ADD => self.add_to_tally(card, TallyId(step.object), step.value),
+            TALLY_READ => self.read_tally(card, TallyId(step.object)),
             _ => self.want_collection(),
         }
     }
@@ -408,8 +439,12 @@ impl Model {
     }
 
     /// "When the last card arrives, each card's clock joins the barrier's,
-    /// which returns to zeros, and marks clear."
+    /// which returns to zeros, and marks clear." L4: totals are posted, whether
+    /// collection is wanted or not; a collection leaves them alone.
     fn complete_round(&mut self) -> u32 {
+        if self.barrier.wanted || self.fault != Some(Fault::PostWanted) {
+            self.post_tallies();
+        }
         for processor in self.processors.values_mut() {
             processor.clock.join(&self.barrier.clock);
         }
@@ -458,6 +493,66 @@ impl Model {
     fn want_collection(&mut self) -> Answer {
         self.barrier.wanted = true;
         Answer::accepted(0, 0)
+    }
+}
+
+// Tallies (L4). They close nothing and fetch nothing.
+impl Model {
+    /// "Kind 8 adds the value to the tally named by the object": to the card's
+    /// own adds.
+    fn add_to_tally(&mut self, card: ProcId, tally: TallyId, value: u32) -> Answer {
+        let added = self.sum([self.tallies[&tally].since[&card], value]);
+        self.tally_mut(tally).since.insert(card, added);
+        Answer::accepted(0, 0)
+    }
+
+    /// "Kind 9 answers the posted total plus the card's own adds since,
+    /// wrapped, as its value."
+    fn read_tally(&self, card: ProcId, tally: TallyId) -> Answer {
+        let Tally { posted, since } = &self.tallies[&tally];
+        Answer::accepted(self.sum([*posted, since[&card]]), 0)
+    }
+
+    /// "The posted total is the sum of all accepted adds of finished rounds":
+    /// at the end of a round each tally takes in what each card has added.
+    fn post_tallies(&mut self) {
+        let cards = self.cards_posted();
+        let names: Vec<TallyId> = self.tallies.keys().copied().collect();
+        for name in names {
+            let Tally { posted, since } = &self.tallies[&name];
+            let adds = cards.iter().map(|card| since[card]);
+            let total = self.sum([*posted].into_iter().chain(adds));
+            let keep = self.fault == Some(Fault::AddsKept);
+            let tally = self.tally_mut(name);
+            tally.posted = total;
+            if !keep {
+                tally.since.values_mut().for_each(|added| *added = 0);
+            }
+        }
+    }
+
+    /// The cards whose adds are posted: all, unless there is a fault.
+    fn cards_posted(&self) -> Vec<ProcId> {
+        let mut cards = self.cards();
+        match self.fault {
+            Some(Fault::PostShort) => cards.truncate(cards.len() - 1),
+            Some(Fault::PostFirst) => cards.fill(ProcId(1)),
+            _ => {}
+        }
+        cards
+    }
+
+    /// "Totals wrap at 4,294,967,296."
+    fn sum(&self, numbers: impl IntoIterator<Item = u32>) -> u32 {
+        let sum: u64 = numbers.into_iter().map(u64::from).sum();
+        match self.fault {
+            Some(Fault::Saturate) => sum.min(WRAP - 1) as u32,
+            _ => (sum % WRAP) as u32,
+        }
+    }
+
+    fn tally_mut(&mut self, tally: TallyId) -> &mut Tally {
+        self.tallies.get_mut(&tally).expect("present tally")
     }
 }
 
@@ -559,7 +654,8 @@ impl Model {
             Fault::Join => right = Model::joined(&right),
             Fault::JoinAll => right = self.joined_with_applied(card, &right),
             Fault::WholePage => return self.copy_whole_page(card, page, &right),
-            Fault::LockOwn | Fault::LearnFirst | Fault::SkipEqual => {}
+            // The others show elsewhere.
+            _ => {}
         }
         self.apply_all(card, page, &right);
     }

@@ -5,6 +5,7 @@
 
 use crate::clock::{LockId, ProcId};
 use crate::model::{Answer, Model, Step, ACQUIRE, ARRIVE, READ, RELEASE, WANT, WRITE};
+use crate::model::{TALLIES, TALLY_ADD, TALLY_READ};
 use crate::rng::Rng;
 
 pub struct Script {
@@ -15,6 +16,8 @@ pub struct Script {
     pub locks: u16,
     /// Whether a card may ask for a lock that another card holds.
     pub waiting: bool,
+    /// Whether stretches that are not about tallies have turns with them.
+    pub tallies: bool,
     bytes: Vec<u8>,
     steps: usize,
     fresh: u32,
@@ -32,6 +35,7 @@ impl Script {
             pages: pages.into(),
             locks: locks.into(),
             waiting: true,
+            tallies: false,
             bytes: opening.to_vec(),
             steps,
             fresh: 0,
@@ -94,6 +98,24 @@ impl Script {
         self.put(WANT, card, 0, 0)
     }
 
+    /// Adds to a tally, mostly 1 or another small number; now and then so much
+    /// that the total wraps, or nothing.
+    pub fn add(&mut self, card: u8, tally: u16) -> Answer {
+        let value = match self.rng.below(20) {
+            0 => 0,
+            1 => u32::MAX - self.rng.below(3) as u32,
+            2..=3 => self.rng.next() as u32,
+            4..=7 => self.rng.within(2, 9) as u32,
+            _ => 1,
+        };
+        self.put(TALLY_ADD, card, tally, value)
+    }
+
+    /// Reads a tally.
+    pub fn look(&mut self, card: u8, tally: u16) -> Answer {
+        self.put(TALLY_READ, card, tally, 0)
+    }
+
     fn value(&mut self, card: u8, word: u16) -> u32 {
         match self.rng.below(100) {
             0..=4 => 0,
@@ -129,6 +151,15 @@ impl Script {
 
     pub fn any_lock(&mut self) -> u16 {
         self.rng.below(self.locks.into()) as u16
+    }
+
+    /// A tally, often the first or the last.
+    pub fn any_tally(&mut self) -> u16 {
+        match self.rng.below(4) {
+            0 => 0,
+            1 => TALLIES - 1,
+            _ => self.rng.below(TALLIES.into()) as u16,
+        }
     }
 
     pub fn holder(&self, lock: u16) -> Option<u8> {

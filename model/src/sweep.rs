@@ -39,6 +39,7 @@ fn head() -> String {
         "least share of accepted steps in a file",
         "accepted reads",
         "reads under the strong half (written before)",
+        "accepted reads of tallies",
         "broken",
     ];
     columns.join(", ") + "\n"
@@ -47,12 +48,13 @@ fn head() -> String {
 fn row(profile: &str, tally: &Tally) -> String {
     let v = &tally.verdict;
     let found = format!(
-        "{profile}: {} lines, {:.1} % or more accepted, {} reads, {} strong ({} written), {} broken",
+        "{profile}: {} lines, {:.1} % or more accepted, {} reads, {} strong ({} written), {} of tallies, {} broken",
         tally.lines,
         tally.least_accepted,
         v.reads,
         v.strong,
         v.strong_written,
+        v.tally_reads,
         v.broken.len()
     );
     format!("{found}\n    {}\n", by_refusal(&tally.refusals))
@@ -116,15 +118,16 @@ impl Tally {
         self.verdict.reads += verdict.reads;
         self.verdict.strong += verdict.strong;
         self.verdict.strong_written += verdict.strong_written;
+        self.verdict.tally_reads += verdict.tally_reads;
         self.verdict.broken.extend(verdict.broken);
     }
 }
 
 /// `model sweep-faults SEEDS STEPS`: of the files of each profile, how many
-/// have other lines under a fault, and how many break demand 3.
+/// have other lines under a fault, and how many the judge finds broken.
 pub fn sweep_faults(seeds: u64, steps: usize) -> String {
     let mut text = format!(
-        "lines differ / demand 3 broken, of {seeds} files\n{:<9}",
+        "lines differ / broken by the judge, of {seeds} files\n{:<9}",
         ""
     );
     for (fault, _) in FAULTS {

@@ -27,7 +27,7 @@ pub fn wait_cases() -> Vec<Case> {
 }
 
 fn wait_in_line() -> Case {
-    let shows = "Cards 2, 3 and 4 wait for lock 0: 17 for each kind, after 3 and 5 and before 8; each learns what the one before it did.";
+    let shows = "Cards 2, 3 and 4 wait for lock 0: 17 for kinds 1 to 6 and 9, after refusal 5 and before refusal 8; each learns what the one before it did.";
     let mut c = Case::open("wait-in-line", [4, 1, 2], shows);
     c.ok(&[acquire(1, 0), acquire(2, 0), acquire(3, 0), acquire(4, 0)]);
     c.refused(acquire(1, 0), 7);
@@ -38,7 +38,7 @@ fn wait_in_line() -> Case {
         c.refused(step, 17);
     }
     c.refused(acquire(2, 2), 5);
-    c.refused(any(9, 2, 0, 0), 3);
+    c.refused(any(9, 2, 0, 0), 17);
     c.refused(any(3, 2, 0, 1), 5);
     c.refused(release(3, 0), 17);
     c.ok(&[write(1, 0, 11), release(1, 0)]);

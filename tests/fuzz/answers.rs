@@ -1,7 +1,7 @@
 //! What a step on a state in order must be answered and leave, as far as it
 //! can be read off the state before: the refusal, the count of a fetch, who
 //! holds and who waits. Written from document 01's table and "Pending", and
-//! from request L1 of document 02.
+//! from requests L1 and L4 of document 02.
 
 use crate::areas::*;
 use crate::library::Step;
@@ -13,11 +13,13 @@ pub const ACQUIRE: u32 = 3;
 pub const RELEASE: u32 = 4;
 pub const ARRIVE: u32 = 5;
 pub const WANT: u32 = 6;
+pub const TALLY_ADD: u32 = 8;
+pub const TALLY_READ: u32 = 9;
 
 /// The refusal or 0, "the first that applies ... and only then".
 pub fn refusal(s: State, step: Step) -> u8 {
     let (p, object) = (step.processor as usize, step.object as usize);
-    if !(READ..=WANT).contains(&step.kind) {
+    if !matches!(step.kind, READ..=WANT | TALLY_ADD | TALLY_READ) {
         return 3;
     }
     if !s.has_processor(p) {
@@ -26,9 +28,11 @@ pub fn refusal(s: State, step: Step) -> u8 {
     let object_fits = match step.kind {
         READ | WRITE => s.has_page(object / PAGE_WORDS),
         ACQUIRE | RELEASE => s.has_lock(object),
+        TALLY_ADD | TALLY_READ => object < TALLIES,
         _ => object == 0,
     };
-    if !object_fits || step.kind != WRITE && step.value != 0 {
+    let has_value = matches!(step.kind, WRITE | TALLY_ADD);
+    if !object_fits || !has_value && step.value != 0 {
         return 5;
     }
     if s.arrived(p) {

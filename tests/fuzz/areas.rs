@@ -11,6 +11,7 @@ pub const INTERVALS: usize = 63;
 pub const SLOTS: usize = 128;
 pub const SLOT: usize = 135;
 pub const PAGE_WORDS: usize = 32;
+pub const TALLIES: usize = 16;
 /// Rows of eight entries in the clocks.
 pub const ROWS: usize = CLOCKS / 8;
 
@@ -46,6 +47,20 @@ pub const TWINS_AT: usize = PAGE_WORDS * 64;
 /// The first of the 32 words of a page's twin.
 pub fn twin_at(p: usize, page: usize) -> usize {
     TWINS_AT + copy_at(p, page)
+}
+
+/// The words of the tallies, behind the twins: the posted totals, then the adds
+/// of each processor.
+pub const TALLY_WORDS: Range<usize> = 2 * TWINS_AT..WORDS;
+
+/// The posted total of a tally.
+pub fn posted_at(tally: usize) -> usize {
+    TALLY_WORDS.start + tally
+}
+
+/// What a processor has added to a tally since the last completed round.
+pub fn added_at(p: usize, tally: usize) -> usize {
+    posted_at(tally) + TALLIES * p
 }
 
 // Marks.

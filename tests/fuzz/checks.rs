@@ -1,12 +1,13 @@
 //! What is checked of every call. Each check gives what is wrong in words.
 
-use crate::answers::{self, ACQUIRE, READ, RELEASE};
+use crate::answers::{self, ACQUIRE, READ, RELEASE, TALLY_ADD, TALLY_READ};
 use crate::areas::{copy_at, lock_row, processor_row, Areas, PAGE_WORDS};
 use crate::closing;
 use crate::library::{self, Step};
 use crate::order;
 use crate::random::Random;
 use crate::state::State;
+use crate::tallies;
 
 /// What the checks have met, for the report.
 #[derive(Default)]
@@ -26,6 +27,12 @@ pub struct Met {
     /// word that differs.
     pub closed: u64,
     pub equal: u64,
+    /// Accepted adds to tallies and reads of them; totals that rounds posted
+    /// something to, and those of them that wrapped.
+    pub adds: u64,
+    pub looks: u64,
+    pub posted: u64,
+    pub wrapped: u64,
 }
 
 impl Met {
@@ -41,6 +48,14 @@ impl Met {
     fn add_closing(&mut self, s: State, step: Step) {
         self.closed += closing::closed_pages(s, step).len() as u64;
         self.equal += closing::equal_pages(s, step) as u64;
+    }
+
+    fn add_tally_use(&mut self, s: State, step: Step) {
+        self.adds += u64::from(step.kind == TALLY_ADD);
+        self.looks += u64::from(step.kind == TALLY_READ);
+        let (posted, wrapped) = tallies::postings(s, step);
+        self.posted += posted;
+        self.wrapped += wrapped;
     }
 }
 
@@ -103,6 +118,7 @@ pub fn check_step(
     if due == 0 {
         met.add_lock_use(State(before.shown()), step);
         met.add_closing(State(before.shown()), step);
+        met.add_tally_use(State(before.shown()), step);
         accepted(areas, before, step, value, count).map_err(|e| format!("{step:?}: {e}"))
     } else if [value, count] != [0, 0] {
         Err(format!("{step:?}: refused {refusal} with {value} {count}"))
@@ -123,8 +139,9 @@ fn same(areas: &Areas, before: &Areas, wrong: &str) -> Result<(), String> {
 }
 
 /// An accepted step leaves a state in order and touches nothing outside; its
-/// value is the word that stands in the copy, its count the pending records;
-/// locks and their lines are as they must be, and so is what a closing leaves.
+/// value is the word that stands in the copy or the tally's total, its count the
+/// pending records; locks and their lines are as they must be, and so is what a
+/// closing leaves, and the tallies.
 fn accepted(
     areas: &Areas,
     before: &Areas,
@@ -155,13 +172,17 @@ fn accepted(
     if let Some(wrong) = closing::wrong(was, is, step) {
         return Err(format!("closes wrongly: {wrong}"));
     }
-    let word = match step.kind {
+    if let Some(wrong) = tallies::wrong(was, is, step) {
+        return Err(wrong.to_string());
+    }
+    let number = match step.kind {
         READ => word_of(areas, step),
+        TALLY_READ => tallies::value(was, step),
         _ => 0,
     };
     let due = answers::count(State(before.shown()), step);
-    if value != word || due.is_some_and(|due| due != count as usize) {
-        return Err(format!("answers {value} {count}, due {word} {due:?}"));
+    if value != number || due.is_some_and(|due| due != count as usize) {
+        return Err(format!("answers {value} {count}, due {number} {due:?}"));
     }
     Ok(())
 }
@@ -235,10 +256,8 @@ fn opened(opening: &[u8], areas: &Areas) -> Result<(), String> {
     let counts = shown.marks[..3] == opening[1..4];
     let marks = shown.marks[3..].iter().all(|mark| *mark == 0);
     let clocks = shown.clocks.iter().all(|entry| *entry == 0);
-    let copies = shown.words[..shown.words.len() / 2]
-        .iter()
-        .all(|word| *word == 0);
-    if counts && marks && clocks && copies && library::in_order(shown) && order::in_order(shown) {
+    let words = shown.words.iter().all(|word| *word == 0);
+    if counts && marks && clocks && words && library::in_order(shown) && order::in_order(shown) {
         Ok(())
     } else {
         Err(format!("opening {opening:?}: not the opened state"))

@@ -28,10 +28,15 @@ pub fn equal_pages(was: State, step: Step) -> usize {
         .count()
 }
 
+/// Whether the step completes a round.
+pub fn completes(was: State, step: Step) -> bool {
+    let mut others = (1..=was.processors()).filter(|p| *p != step.processor as usize);
+    step.kind == ARRIVE && others.all(|p| was.arrived(p))
+}
+
 /// Whether the step completes a round with collection wanted.
 fn collects(was: State, step: Step) -> bool {
-    let mut others = (1..=was.processors()).filter(|p| *p != step.processor as usize);
-    step.kind == ARRIVE && was.wish() && others.all(|p| was.arrived(p))
+    was.wish() && completes(was, step)
 }
 
 /// What is wrong with the records, the own entry, the interval's clock or the

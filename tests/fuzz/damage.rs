@@ -7,7 +7,7 @@ use crate::random::Random;
 use crate::state::State;
 
 pub fn damage(random: &mut Random, areas: &mut Areas) {
-    match random.below(32) {
+    match random.below(34) {
         0 => flip_byte(random, areas),
         1 => flip_word(random, areas),
         2 => change(random, areas, PROCESSORS_AT, &[0, 1, 8, 9, 255]),
@@ -44,6 +44,8 @@ pub fn damage(random: &mut Random, areas: &mut Areas) {
             change(random, areas, at, &[0, 1, 2, 6, 7, 8, 255]);
         }
         27..=28 => one_more_waiter(random, areas),
+        29 => change_tally(random, areas),
+        30 => absent_add(random, areas),
         _ => change_line(random, areas),
     }
 }
@@ -230,6 +232,27 @@ fn absent_word(random: &mut Random, areas: &mut Areas) {
     let page_at = random.pick(&[copy_at, twin_at]);
     let at = page_at(p, page) + random.below(PAGE_WORDS);
     areas.words.part_mut()[at] = random.pick(&[0, 1, 1 << 31, u32::MAX]);
+}
+
+/// A posted total, or an add of any processor.
+fn change_tally(random: &mut Random, areas: &mut Areas) {
+    let tally = random.below(TALLIES);
+    let at = match random.percent(50) {
+        true => posted_at(tally),
+        false => added_at(random.within(1, PROCESSORS), tally),
+    };
+    areas.words.part_mut()[at] = random.pick(&[0, 1, 1 << 31, u32::MAX]);
+}
+
+/// An add of a processor beyond those opened, often the next one or the last,
+/// and often the first or the last tally's.
+fn absent_add(random: &mut Random, areas: &mut Areas) {
+    let next = usize::from(*areas.mark(PROCESSORS_AT)).min(PROCESSORS - 1) + 1;
+    let any = random.within(next, PROCESSORS);
+    let p = random.pick(&[next, any, PROCESSORS]);
+    let tally = random.below(TALLIES);
+    let tally = random.pick(&[0, tally, TALLIES - 1]);
+    areas.words.part_mut()[added_at(p, tally)] = random.pick(&[0, 1, 1 << 31, u32::MAX]);
 }
 
 /// The lock that a processor waits for, often the last one or one beyond.

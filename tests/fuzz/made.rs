@@ -20,10 +20,27 @@ pub fn make(random: &mut Random, areas: &mut Areas) {
             }
         }
     }
+    make_tallies(random, areas, processors);
     let own: Vec<u8> = (0..processors).map(|_| own_entry(random)).collect();
     make_clocks(random, areas, counts, &own);
     make_marks(random, areas, counts, &own);
     make_records(random, areas, pages, &own);
+}
+
+/// Any posted totals and any adds of the processors, some of them 0 or the
+/// largest.
+fn make_tallies(random: &mut Random, areas: &mut Areas, processors: usize) {
+    let words = areas.words.part_mut();
+    for tally in 0..TALLIES {
+        let adds = (1..=processors).map(|p| added_at(p, tally));
+        for at in adds.chain([posted_at(tally)]) {
+            words[at] = match random.below(4) {
+                0 => 0,
+                1 => u32::MAX,
+                _ => random.word(),
+            };
+        }
+    }
 }
 
 /// A count, often the largest.

@@ -17,6 +17,7 @@ mod random;
 mod shapes;
 mod state;
 mod steps;
+mod tallies;
 
 use areas::{Areas, LENGTHS};
 use checks::{check_opening, check_order, check_short_answer, check_step, Met};
@@ -83,6 +84,10 @@ fn report(met: &Met) {
     println!("steps by refusal: {}", refusals.join(" "));
     println!("locks: {} waits, {} grants", met.waits, met.grants);
     println!("pages closed: {}, {} of them equal", met.closed, met.equal);
+    println!(
+        "tallies: {} adds, {} reads, {} totals posted to, {} of them wrapped",
+        met.adds, met.looks, met.posted, met.wrapped
+    );
     println!(
         "order asked: {} in order, {} not",
         met.in_order, met.out_of_order

@@ -1,7 +1,7 @@
-//! "A state is in order when: ..." of document 01 and, of lines, request L1 of
-//! document 02, clause by clause, in plain Rust. It is written from the
-//! documents and the layout alone, and is what the library's `in_order` is
-//! compared with.
+//! "A state is in order when: ..." of document 01 and, of lines and tallies,
+//! requests L1 and L4 of document 02, clause by clause, in plain Rust. It is
+//! written from the documents and the layout alone, and is what the library's
+//! `in_order` is compared with.
 
 use crate::areas::*;
 use crate::library::Shown;
@@ -12,7 +12,7 @@ type Clause = (&'static str, fn(State) -> bool);
 /// The clauses after the first (the sizes), in the documents' order. That a
 /// card waits at most once in all holds by the layout: it has one place for
 /// the lock it waits for. Turns number the waiters of a lock from 0.
-pub const CLAUSES: [Clause; 27] = [
+pub const CLAUSES: [Clause; 28] = [
     ("counts in range", counts_in_range),
     ("absent entries are 0", absent_entries_zero),
     ("absent copies' words are 0", absent_copies_zero),
@@ -40,11 +40,12 @@ pub const CLAUSES: [Clause; 27] = [
     ("no waiter has arrived", waiters_arrived_not),
     ("no two waiters have one turn", turns_unlike),
     ("turns count those before", turns_count),
+    ("absent processors have added 0", absent_adds_zero),
 ];
 
 pub fn sizes_hold(areas: Shown) -> bool {
     areas.clocks.len() == 593 * 8
-        && areas.words.len() == 128 * 32
+        && areas.words.len() == 128 * 32 + 9 * 16
         && areas.records.len() == 128 * 135
         && areas.marks.len() == 110
 }
@@ -298,4 +299,11 @@ fn turns_count(s: State) -> bool {
         let before = s.waiters(lock).filter(|q| s.turn(*q) < s.turn(p));
         before.count() == s.turn(p)
     })
+}
+
+/// "words ... for absent cards": those of their adds. Posted totals are nobody's
+/// and may be anything.
+fn absent_adds_zero(s: State) -> bool {
+    let zero = |p| (0..TALLIES).all(|tally| s.added(p, tally) == 0);
+    all_processors().all(|p| s.has_processor(p) || zero(p))
 }

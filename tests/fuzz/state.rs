@@ -118,6 +118,16 @@ impl<'a> State<'a> {
         &self.0.words[twin_at(p, page)..twin_at(p, page) + PAGE_WORDS]
     }
 
+    /// The posted total of a tally.
+    pub fn posted(self, tally: usize) -> u32 {
+        self.0.words[posted_at(tally)]
+    }
+
+    /// What a processor has added to a tally since the last completed round.
+    pub fn added(self, p: usize, tally: usize) -> u32 {
+        self.0.words[added_at(p, tally)]
+    }
+
     /// The records that stand, as far as there are slots for them.
     pub fn records(self) -> impl Iterator<Item = Record<'a>> {
         let slots = self.0.records.chunks_exact(SLOT);

@@ -1,13 +1,13 @@
 //! Random steps: mostly ones that fit the state, some with any fields.
 
-use crate::answers::{ACQUIRE, ARRIVE, READ, RELEASE, WANT, WRITE};
+use crate::answers::{ACQUIRE, ARRIVE, READ, RELEASE, TALLY_ADD, TALLY_READ, WANT, WRITE};
 use crate::areas::*;
 use crate::library::Step;
 use crate::random::Random;
 use crate::state::State;
 
-/// How often of 100 each kind comes in a run: read, write, lock, arrive; the
-/// rest wants collection.
+/// How often of 100 each kind comes in a run where no tally is used: read,
+/// write, lock, arrive; the rest wants collection.
 #[derive(Clone, Copy)]
 pub struct Habits([usize; 4]);
 
@@ -27,6 +27,9 @@ pub fn any_habits(random: &mut Random) -> Habits {
 pub fn any_step(random: &mut Random, s: State, habits: Habits) -> Step {
     if random.percent(8) {
         return wild_step(random, s);
+    }
+    if random.percent(12) {
+        return use_tally(random, s);
     }
     let Habits([read, write, lock, arrive]) = habits;
     let turn = random.below(100);
@@ -79,6 +82,27 @@ fn use_word(random: &mut Random, s: State, kind: u32) -> Step {
         _ => 0,
     };
     step(kind, p, PAGE_WORDS * page + at, value)
+}
+
+/// An add to a tally, often of little or of so much that the total wraps, or a
+/// read of one. Seldom the tally is just not there, or a read has a value.
+fn use_tally(random: &mut Random, s: State) -> Step {
+    let p = any_processor(random, s);
+    let tally = match random.below(20) {
+        0 => TALLIES,
+        1..=3 => TALLIES - 1,
+        4..=6 => 0,
+        _ => random.below(TALLIES),
+    };
+    if random.percent(40) {
+        return step(TALLY_READ, p, tally, random.percent(3).into());
+    }
+    let value = match random.below(4) {
+        0 => random.word(),
+        1 => u32::MAX - random.below(3) as u32,
+        _ => random.below(3) as u32,
+    };
+    step(TALLY_ADD, p, tally, value)
 }
 
 /// Mostly a free lock is taken, and one that is held is asked for or freed,
@@ -138,6 +162,9 @@ fn wild_step(random: &mut Random, s: State) -> Step {
         locks,
         words.saturating_sub(1),
         words,
+        15,
+        16,
+        17,
         255,
         256,
         257,
@@ -152,7 +179,7 @@ fn wild_step(random: &mut Random, s: State) -> Step {
         _ => random.below(most) as u32,
     };
     Step {
-        kind: field(8),
+        kind: field(12),
         processor: field(10),
         object: field(20),
         value: field(2),

@@ -3,6 +3,7 @@
 use crate::library::{in_order, step, Areas, CLOCKS, MARKS, RECORDS, WORDS};
 use crate::openings::of_wrong_sizes;
 use crate::steps::refused_as;
+use crate::tallies::{added, posted};
 use crate::Tally;
 
 pub fn check(tally: &mut Tally, reached: &Areas) {
@@ -41,7 +42,7 @@ fn copy(p: usize, g: usize) -> usize {
 }
 
 fn twin(p: usize, g: usize) -> usize {
-    WORDS / 2 + copy(p, g)
+    32 * 64 + copy(p, g)
 }
 
 pub fn slot(i: usize) -> usize {
@@ -147,6 +148,9 @@ fn damages(reached: &Areas) -> Vec<(String, Areas)> {
         ("the last twin's word of an absent page", twin(2, 7) + 31),
         ("a twin's word of an absent processor", twin(6, 0)),
         ("the last word of all the twins", twin(8, 7) + 31),
+        ("an add of an absent processor", added(6, 0)),
+        ("the last add of an absent processor", added(7, 15)),
+        ("the last word of all", added(8, 15)),
     ];
     for (name, place) in words {
         let mut areas = reached.clone();
@@ -257,6 +261,8 @@ fn not_in_order(tally: &mut Tally, name: &str, damaged: &Areas) {
         (4, 2, 0, 0),
         (5, 1, 0, 0),
         (6, 1, 0, 0),
+        (8, 1, 0, 5),
+        (9, 1, 0, 0),
         (0, 0, 0, 0),
     ];
     let refused = steps.iter().all(|&fields| {
@@ -322,7 +328,7 @@ fn sweep(
 
 /// Changes of which "in order" says nothing: the step is done.
 fn harmless(tally: &mut Tally, reached: &Areas) {
-    let changes: [(&str, fn(&mut Areas)); 11] = [
+    let changes: [(&str, fn(&mut Areas)); 13] = [
         ("a word of a copy", |a| a.words[copy(3, 1)] = 1),
         ("a twin of a clean page", |a| a.words[twin(1, 0)] = 1),
         ("a slot behind the standing records", |a| {
@@ -343,6 +349,8 @@ fn harmless(tally: &mut Tally, reached: &Areas) {
         ("the line in another order", |a| {
             (a.marks[turn(4)], a.marks[turn(5)]) = (1, 0)
         }),
+        ("a posted total", |a| a.words[posted(15)] = u32::MAX),
+        ("an add of one who waits", |a| a.words[added(5, 15)] = 1),
         ("two that wait for each other", |a| {
             a.marks[holder(1)] = 4;
             a.marks[awaited(2)] = 2;

@@ -6,7 +6,7 @@
 
 /// The lengths of the areas, in elements.
 pub const CLOCKS: usize = 4744;
-pub const WORDS: usize = 4096;
+pub const WORDS: usize = 4240;
 pub const RECORDS: usize = 17280;
 pub const MARKS: usize = 110;
 

@@ -20,13 +20,19 @@ pub fn check(tally: &mut Tally) {
     for (name, length) in lengths {
         tally.check(&format!("header: {name}"), defined(name) == Some(length));
     }
+    let kinds: Vec<usize> = (1..=6).chain([8, 9]).collect();
+    tally.check("header: the kinds", numbers_of("lughtsavi_kind") == kinds);
     let refusals: Vec<usize> = (0..=14).chain([17]).collect();
-    tally.check("header: the refusals", refusals_named() == refusals);
+    tally.check(
+        "header: the refusals",
+        numbers_of("lughtsavi_refusal") == refusals,
+    );
 }
 
-/// The numbers of the enumeration of refusals, sorted.
-fn refusals_named() -> Vec<usize> {
-    let behind = HEADER.split("enum lughtsavi_refusal {").nth(1);
+/// The numbers of an enumeration, sorted.
+fn numbers_of(enumeration: &str) -> Vec<usize> {
+    let head = format!("enum {enumeration} {{");
+    let behind = HEADER.split(head.as_str()).nth(1);
     let inside = behind.and_then(|rest| rest.split('}').next());
     let lines = inside.unwrap_or_default().lines();
     let number = |line: &str| {

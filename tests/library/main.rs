@@ -11,6 +11,7 @@ mod lines;
 mod openings;
 mod runs;
 mod steps;
+mod tallies;
 
 use std::process::ExitCode;
 
@@ -45,6 +46,7 @@ fn main() -> ExitCode {
     steps::check(&mut tally, &reached);
     lines::check(&mut tally, &reached);
     closing::check(&mut tally);
+    tallies::check(&mut tally, &reached);
     damage::check(&mut tally, &reached);
     diffs::check(&mut tally);
     println!("{} passed, {} failed", tally.passed, tally.failed);

@@ -56,7 +56,7 @@ fn answers_of_wrong_lengths(tally: &mut Tally, reached: &Areas) {
 
 /// The refusals 3 to 8 and 17, each in its place of the table: every byte is left as it was.
 fn refused_steps(tally: &mut Tally, reached: &Areas) {
-    let steps: [(u8, Step); 42] = [
+    let steps: [(u8, Step); 66] = [
         (3, (0, 1, 0, 0)),
         (3, (7, 1, 0, 0)),
         (3, (257, 1, 0, 0)),
@@ -99,6 +99,30 @@ fn refused_steps(tally: &mut Tally, reached: &Areas) {
         (7, (3, 2, 0, 0)),
         (8, (4, 1, 0, 0)),
         (8, (4, 2, 1, 0)),
+        (3, (10, 1, 0, 0)),
+        (3, (11, 4, 16, 1)),
+        (3, (264, 1, 0, 0)),
+        (3, (265, 1, 0, 0)),
+        (4, (8, 0, 0, 1)),
+        (4, (8, 6, 16, 1)),
+        (4, (9, 6, 0, 0)),
+        (4, (9, 257, 0, 1)),
+        (5, (8, 1, 16, 1)),
+        (5, (8, 1, 65_536, 1)),
+        (5, (8, 3, 16, 1)),
+        (5, (8, 4, 4_294_967_280, 1)),
+        (5, (9, 1, 16, 0)),
+        (5, (9, 1, 256, 0)),
+        (5, (9, 1, 0, 1)),
+        (5, (9, 1, 15, 0x8000_0000)),
+        (5, (9, 3, 0, 1)),
+        (5, (9, 4, 16, 0)),
+        (6, (8, 3, 0, 1)),
+        (6, (9, 3, 15, 0)),
+        (17, (8, 4, 0, 1)),
+        (17, (8, 5, 15, 0)),
+        (17, (9, 4, 0, 0)),
+        (17, (9, 5, 15, 0)),
     ];
     for (refusal, fields) in steps {
         let mut areas = reached.clone();

@@ -10,7 +10,7 @@ use Rattle.rules.proofs.inorder.InOrderWhen.{in-order-when}
 use Rattle.rules.proofs.inorder.Kept.{next-keeps-order}
 use Rattle.rules.proofs.order.Nobody.{NobodyMarked, next-nobody-marked, opened-nobody-marked}
 use Rattle.rules.proofs.inorder.OpenedInOrder.{opened-in-order, opening-counts}
-use Rattle.layout.specs.Areas.{clockBytes, pageWords, recordBytes, markBytes, areas, heldBy, holding, rightSizes}
+use Rattle.layout.specs.Areas.{clockBytes, areaWords, recordBytes, markBytes, areas, heldBy, holding, rightSizes}
 use Rattle.layout.proofs.Encoding.{lent-right}
 use Rattle.layout.proofs.Decoding.{encoded-lent, decoded}
 use Rattle.inorder.specs.Areas.{areasInOrder}
@@ -40,7 +40,7 @@ module _ (s : State) (h : Carried s) where
   -- its areas have the fixed sizes
   pub carried-sizes : rightSizes (holding s) ≡ true
   unfolding rightSizes holding areas
-  carried-sizes = lent-right (clockBytes (s .clocks)) (pageWords (s .pages)) (recordBytes (s .records)) (markBytes s) (encoded-lent s (h .in-order .sized))
+  carried-sizes = lent-right (clockBytes (s .clocks)) (areaWords (s .pages) (s .shared)) (recordBytes (s .records)) (markBytes s) (encoded-lent s (h .in-order .sized))
 
   -- and hold it
   pub carried-held : heldBy (holding s) ≡ s

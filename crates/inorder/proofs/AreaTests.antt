@@ -19,7 +19,7 @@ use Rattle.inorder_marks.specs.inner.Tests.{marksHoldWith}
 use Rattle.inorder_marks.specs.inner.Needed.{CountsFit, MarksThere}
 use Rattle.inorder_records.specs.inner.Tests.{ownFits, recordsHoldWith}
 use Rattle.inorder_records.specs.inner.Needed.{OwnFit, SlotsThere}
-use Rattle.inorder.specs.inner.Tests.{rowsHold, ownEntries, appliedHold, intervalsHold, clocksHoldWith, wordsHold, countsHold, areasHoldWith, areasHold}
+use Rattle.inorder.specs.inner.Tests.{rowsHold, ownEntries, appliedHold, intervalsHold, clocksHoldWith, wordsHold, addsHold, countsHold, areasHoldWith, areasHold}
 use Rattle.inorder.specs.inner.Needed.{ClocksThere, AreasThere}
 
 -- ---- the test of the counts
@@ -91,7 +91,7 @@ own-fit-clocks own c processors pages locks t e k =
 
 -- the tests of the areas, one after the other
 pub areas-is : (own c w r m : List ℕ) (processors pages locks standing : ℕ) (t : Bool)
-    → t ≡ (clocksHoldWith own c processors pages locks && (every processorLimit (wordsHold w 0 processors pages) && (every processorLimit (wordsHold w copyLimit processors pages) && (marksHoldWith own m processors pages locks standing && recordsHoldWith own r processors pages standing))))
+    → t ≡ (clocksHoldWith own c processors pages locks && (every processorLimit (wordsHold w 0 processors pages) && (every processorLimit (wordsHold w copyLimit processors pages) && (addsHold w processors && (marksHoldWith own m processors pages locks standing && recordsHoldWith own r processors pages standing)))))
     → t ≡ areasHoldWith own c w r m processors pages locks standing
 unfolding areasHoldWith
 areas-is own c w r m processors pages locks standing t e = e

@@ -1,5 +1,6 @@
 -- Lent memory that holds a state in order passes the tests on its clocks and words. Assumes nothing.
-use Prim.Native.Nat.{ℕ, zero, suc, _+_, _*_, _≤_, _<_}
+use Rattle.layout.proofs.TallyLaws.{tally-at, adds-read}
+use Prim.Native.Nat.{ℕ, zero, suc, _+_, _*_, _≤_, _<_, _/_, _%_, _-_}
 use native.Mathlib.Omega.{arith}
 use mathlib.Core.Path.{_≡_, sym, ap, _∙_}
 use mathlib.Core.Bool.{Bool, true, false, cond}
@@ -9,21 +10,21 @@ use lib.Dec.{ltb}
 use borrow.Author.Tests.{le-ltb, le-leb}
 use Rattle.lists.specs.Tables.{every}
 use Rattle.lists.proofs.Tables.{every-holds}
-use Rattle.limits.specs.Limits.{intervalLimit, lockLimit, pageLimit, pageWidth, processorLimit}
-use Rattle.limits.specs.inner.Sizes.{clockWidth, copyLimit, firstAppliedRow, firstIntervalRow, firstLockRow}
+use Rattle.limits.specs.Limits.{intervalLimit, lockLimit, pageLimit, pageWidth, processorLimit, tallyLimit}
+use Rattle.limits.specs.inner.Sizes.{clockWidth, copyLimit, firstAppliedRow, firstIntervalRow, firstLockRow, firstTally}
 use Rattle.clock.specs.Clocks.{zeros}
 use Rattle.rules.specs.InOrder.{presentHolder}
 use Rattle.rules.specs.Refusals.{fits}
 use Rattle.rules.specs.State.{mainframe, Holder, Processor, Lock, Barrier, Applied, Interval, copyOf, twinOf, clock}
 use Rattle.rules.proofs.inorder.Facts.{Within, InOrder}
-use Rattle.layout.specs.Areas.{lockRow, appliedRow, intervalRow, clockRow, stateIn}
+use Rattle.layout.specs.Areas.{lockRow, appliedRow, intervalRow, clockRow, stateIn, tallyPlace}
 use Rattle.layout.specs.Layout.{rowOf}
 use Rattle.layout.specs.inner.Marks.{lockCount, pageCount, processorCount}
 use Rattle.layout.proofs.RowLaws.{get-row}
 use Rattle.inorder_marks.specs.inner.Tests.{pagesOf}
 use Rattle.inorder_records.specs.inner.Tests.{ownFits}
-use Rattle.inorder.specs.inner.Tests.{rowsHold, ownEntries, appliedHold, intervalsHold, clocksHoldWith, wordsHold}
-use Rattle.inorder.proofs.PlaceFacts.{rows-hold-when, words-zero-when}
+use Rattle.inorder.specs.inner.Tests.{rowsHold, ownEntries, appliedHold, intervalsHold, clocksHoldWith, wordsHold, addsHold}
+use Rattle.inorder.proofs.PlaceFacts.{rows-hold-when, words-zero-when, zeros-hold}
 use Rattle.inorder.proofs.StateReads.{entry-read, own-read, copy-word-read, twin-word-read, present-read, page-present-read, lock-present-read}
 
 module _ (c w r m : List ℕ) (o : InOrder mainframe (stateIn mainframe c w r m)) where
@@ -134,3 +135,17 @@ module _ (c w r m : List ℕ) (o : InOrder mainframe (stateIn mainframe c w r m)
   -- so do their twins
   pub twins-say : every processorLimit (wordsHold w copyLimit (processorCount m) (pageCount m)) ≡ true
   twins-say = words-say copyLimit (twinOf (stateIn mainframe c w r m .pages)) (twin-word-read c w r m) (o .absent-twin)
+
+  -- and what absent processors add
+  pub adds-say : addsHold w (processorCount m) ≡ true
+  unfolding addsHold mainframe
+  adds-say = zeros-hold w (firstTally + tallyLimit * (processorCount m + 1)) (tallyLimit * (processorLimit - processorCount m)) at
+    where
+      at : (i : ℕ) → i < tallyLimit * (processorLimit - processorCount m) → getD w (firstTally + tallyLimit * (processorCount m + 1) + i) 0 ≡ 0
+      at i h =
+          let k : ℕ = processorCount m + i / tallyLimit in
+          let t : ℕ = i % tallyLimit in
+          let place : firstTally + tallyLimit * (processorCount m + 1) + i ≡ tallyPlace mainframe (suc k) t = omega (arith, tally-at (suc k) t) in
+          ap (λ (j : ℕ). getD w j 0) place
+          ∙ sym (adds-read w (suc k) t (omega arith) (omega (arith, h)) (omega arith))
+          ∙ (unfold stateIn in o .absent-adds (suc k) t (omega arith) (present-read c w r m k ∙ le-ltb k (processorCount m) (omega arith)))

@@ -26,7 +26,7 @@ use Rattle.inorder_records.specs.inner.Tests.{noticeHolds, diffHolds, recordHol
 use Rattle.inorder.specs.inner.Tests.{ownEntries, countsHold, areasHoldWith, areasHold}
 use Rattle.inorder.proofs.PlaceFacts.{marks-zero-when}
 use Rattle.inorder.proofs.StateReads.{own-read, dirty-mark-read, arrived-mark-read, holder-mark-read, dirty-pages-read, record-processor, record-interval, record-page, record-length, record-diff, same-notice-read, present-read, page-present-read, lock-present-read, own-of-read}
-use Rattle.inorder.proofs.ClocksSay.{clocks-say, copies-say, twins-say}
+use Rattle.inorder.proofs.ClocksSay.{clocks-say, copies-say, twins-say, adds-say}
 use Rattle.inorder.proofs.LineConditions.{lines-say}
 
 module _ (c w r m : List ℕ) (o : InOrder mainframe (stateIn mainframe c w r m)) where
@@ -134,4 +134,4 @@ module _ (c w r m : List ℕ) (o : InOrder mainframe (stateIn mainframe c w r m)
   -- a state in order passes all tests
   pub areas-say : areasHold c w r m ≡ true
   unfolding areasHold areasHoldWith
-  areas-say = rw (counts-say, clocks-say c w r m o, copies-say c w r m o, twins-say c w r m o, marks-say, records-say)
+  areas-say = rw (counts-say, clocks-say c w r m o, copies-say c w r m o, twins-say c w r m o, adds-say c w r m o, marks-say, records-say)

@@ -22,13 +22,13 @@ use Rattle.layout.proofs.Encoding.{lent-sized, lent-right}
 use Rattle.inorder_marks.specs.inner.Tests.{dirtyHold, holdersHold, arrivedHold, roomHolds, linesHold, marksHoldWith}
 use Rattle.inorder_records.specs.inner.Tests.{recordsHoldWith}
 use Rattle.inorder.specs.Areas.{areasInOrder}
-use Rattle.inorder.specs.inner.Tests.{ownEntries, clocksHoldWith, wordsHold, countsHold, areasHoldWith, areasHold}
+use Rattle.inorder.specs.inner.Tests.{ownEntries, clocksHoldWith, wordsHold, addsHold, countsHold, areasHoldWith, areasHold}
 use Rattle.inorder.proofs.AreaTests.{counts-in, counts-fit}
 use Rattle.inorder.proofs.PlaceFacts.{same-truth}
 use Rattle.inorder.proofs.MarksSay.{areas-say}
 use Rattle.inorder.proofs.ClocksWhen.{held, ClocksPass, clocks-pass}
 use Rattle.inorder.proofs.ClockConditions.{absent-clocks, absent-entries, later-intervals-when, entries-known-when, applied-known-when}
-use Rattle.inorder.proofs.PageConditions.{absent-copies, absent-twins, absent-clean, dirty-have-interval-when, absent-not-held, holders-present-when, absent-not-arrived, someone-missing-when, room-kept-when}
+use Rattle.inorder.proofs.PageConditions.{absent-copies, absent-twins, absent-adds, absent-clean, dirty-have-interval-when, absent-not-held, holders-present-when, absent-not-arrived, someone-missing-when, room-kept-when}
 use Rattle.inorder.proofs.RecordConditions.{records-sound-when}
 use Rattle.inorder.proofs.LineConditions.{absent-awake, absent-turn, lines-sound-when}
 
@@ -37,6 +37,7 @@ record AreasPass (c w r m : List ℕ) (processors pages locks standing : ℕ) : 
   pub clocks : ClocksPass c processors pages locks
   pub copies : every processorLimit (wordsHold w 0 processors pages) ≡ true
   pub twins : every processorLimit (wordsHold w copyLimit processors pages) ≡ true
+  pub adds : addsHold w processors ≡ true
   pub dirty : every processorLimit (dirtyHold (ownEntries c) m processors pages) ≡ true
   pub holders : holdersHold m processors locks ≡ true
   pub arrived : arrivedHold m processors ≡ true
@@ -58,17 +59,20 @@ areas-pass c w r m processors pages locks standing e =
     let room : Bool = roomHolds m processors pages standing in
     let records : Bool = recordsHoldWith (ownEntries c) r processors pages standing in
     let marks : Bool = dirty && (holders && (arrived && (lines && room))) in
-    let a = and-right clocks (copies && (twins && (marks && records))) e in
-    let t = and-right copies (twins && (marks && records)) a in
-    let b = and-right twins (marks && records) t in
+    let adds : Bool = addsHold w processors in
+    let a = and-right clocks (copies && (twins && (adds && (marks && records)))) e in
+    let t = and-right copies (twins && (adds && (marks && records))) a in
+    let u = and-right twins (adds && (marks && records)) t in
+    let b = and-right adds (marks && records) u in
     let d = and-left marks records b in
     let f = and-right dirty (holders && (arrived && (lines && room))) d in
     let g = and-right holders (arrived && (lines && room)) f in
     let h = and-right arrived (lines && room) g in
     record {
-      clocks = clocks-pass c processors pages locks (and-left clocks (copies && (twins && (marks && records))) e);
-      copies = and-left copies (twins && (marks && records)) a;
-      twins = and-left twins (marks && records) t;
+      clocks = clocks-pass c processors pages locks (and-left clocks (copies && (twins && (adds && (marks && records)))) e);
+      copies = and-left copies (twins && (adds && (marks && records))) a;
+      twins = and-left twins (adds && (marks && records)) t;
+      adds = and-left adds (marks && records) u;
       dirty = and-left dirty (holders && (arrived && (lines && room))) d;
       holders = and-left holders (arrived && (lines && room)) f;
       arrived = and-left arrived (lines && room) g;
@@ -105,6 +109,7 @@ module _ (c w r m : List ℕ) (lent : Lent c w r m) where
       (absent-not-held c w r m (z .holders))
       (absent-awake c w r m (z .lines))
       (absent-turn c w r m (z .lines))
+      (absent-adds c w r m size (z .adds))
 
   areas-when : areasHold c w r m ≡ true → inOrder mainframe (held c w r m) ≡ true
   unfolding areasHold orderTests Given

@@ -4,26 +4,27 @@ use native.Mathlib.Omega.{arith}
 use native.Mathlib.Decide.{decLt}
 use mathlib.Core.Path.{_≡_, sym, ap, _∙_}
 use mathlib.Core.Bool.{Bool, true, false, cond, not, _||_, false≢true}
-use mathlib.Core.List.{List}
+use mathlib.Core.List.{List, []}
 use lib.ListN.{length, getD, List·getD-eq-default}
 use lib.Dec.{ltb, eqb}
 use borrow.Author.Tests.{ltb-false, leb-true, eqb-false, not-false, lt-ltb, le-ltb, le-leb, eq-eqb}
 use Rattle.lists.specs.Tables.{every, any, total}
 use Rattle.lists.proofs.Conditions.{and-left, and-right, and-both, or-when}
 use Rattle.lists.proofs.Tables.{every-at, every-holds, Passes, any-at, any-holds}
-use Rattle.limits.specs.Limits.{intervalLimit, lockLimit, pageLimit, pageWidth, processorLimit, recordLimit}
+use Rattle.limits.specs.Limits.{intervalLimit, lockLimit, pageLimit, pageWidth, processorLimit, recordLimit, tallyLimit}
 use Rattle.limits.specs.Places.{firstArrived}
-use Rattle.limits.specs.inner.Sizes.{copyLimit, firstDirty, firstHolder}
+use Rattle.limits.specs.inner.Sizes.{copyLimit, firstDirty, firstHolder, firstTally}
 use Rattle.clock.specs.Clocks.{zeros}
 use Rattle.rules.specs.InOrder.{present, everyProcessor, everyPage, presentHolder, allZero, dirtyPages, roomKept, dirtyHaveInterval, holdersPresent, someoneMissing}
-use Rattle.rules.specs.State.{mainframe, Lock, Applied, copyOf, twinOf, dirtyAt, own, holder, hasArrived}
+use Rattle.rules.specs.State.{mainframe, Lock, Applied, copyOf, twinOf, dirtyAt, addsOf, own, holder, hasArrived}
 use Rattle.rules.proofs.inorder.Everywhere.{every-processor-holds, every-page-holds, all-zero-holds}
 use Rattle.rules.proofs.inorder.Facts.{Sized}
-use Rattle.layout.specs.Areas.{recordsIn, stateIn, standingCount}
+use Rattle.layout.specs.Areas.{tallyPlace, recordsIn, stateIn, standingCount}
 use Rattle.layout.specs.inner.Marks.{lockCount, pageCount, processorCount}
+use Rattle.layout.proofs.TallyLaws.{tally-at, adds-read}
 use Rattle.inorder_marks.specs.inner.Tests.{zeroAt, pagesOf, mayBeDirty, dirtyHold, holderWithin, holdersHold, arrivedHold, dirtyOf, roomHolds}
-use Rattle.inorder.specs.inner.Tests.{ownEntries, wordsHold}
-use Rattle.inorder.proofs.PlaceFacts.{words-zero-at, marks-zero-at}
+use Rattle.inorder.specs.inner.Tests.{ownEntries, wordsHold, addsHold}
+use Rattle.inorder.proofs.PlaceFacts.{zero-at, words-zero-at, marks-zero-at}
 use Rattle.inorder.proofs.StateReads.{own-read, copy-word-read, twin-word-read, dirty-mark-read, arrived-mark-read, holder-mark-read, dirty-pages-read, present-read, page-present-read, lock-present-read}
 use Rattle.inorder.proofs.ClocksWhen.{held}
 
@@ -61,6 +62,23 @@ module _ (c w r m : List ℕ) (size : Sized mainframe (held c w r m)) where
       → everyPage mainframe (λ (p g : ℕ). presentHolder (held c w r m) (Applied p g) || allZero (twinOf (held c w r m .pages) p g)) ≡ true
   unfolding mainframe
   absent-twins = absent-words copyLimit (twinOf (held c w r m .pages)) (twin-word-read c w r m) (size .twin)
+
+  -- of adds to tallies
+  pub absent-adds : addsHold w (processorCount m) ≡ true → everyProcessor mainframe (λ (p : ℕ). present (held c w r m) p || allZero (getD (held c w r m .shared .adds) p [])) ≡ true
+  unfolding mainframe addsHold
+  absent-adds e = every-processor-holds mainframe _ (λ p k l. or-when (present (held c w r m) p) _ (λ a. all-zero-holds _ (λ t. zeros-of p t k l a (decLt t tallyLimit))))
+    where
+      read : (k t : ℕ) → suc k ≤ processorLimit → t < tallyLimit → getD (getD (held c w r m .shared .adds) (suc k) []) t 0 ≡ getD w (tallyPlace mainframe (suc k) t) 0
+      read k t n l = unfold addsOf stateIn in adds-read w (suc k) t (omega arith) n l
+
+      zeros-of : (p t : ℕ) → 1 ≤ p → p ≤ processorLimit → present (held c w r m) p ≡ false → Dec (t < tallyLimit) → getD (getD (held c w r m .shared .adds) p []) t 0 ≡ 0
+      zeros-of zero t h k a d = absurd (omega arith)
+      zeros-of (suc k) t h n a (yes l) =
+          let absent : processorCount m ≤ k = ltb-false k (processorCount m) (sym (present-read c w r m k) ∙ a) in
+          let place : tallyPlace mainframe (suc k) t ≡ firstTally + tallyLimit * (processorCount m + 1) + (tallyLimit * (k - processorCount m) + t) = omega (arith, tally-at (suc k) t, absent) in
+          read k t n l ∙ ap (λ (j : ℕ). getD w j 0) place
+          ∙ zero-at w (firstTally + tallyLimit * (processorCount m + 1)) (tallyLimit * (processorLimit - processorCount m)) (tallyLimit * (k - processorCount m) + t) e (omega (arith, absent, n, l))
+      zeros-of (suc k) t h n a (no l) = List·getD-eq-default (getD (held c w r m .shared .adds) (suc k) []) 0 (omega (arith, size .adds-row (suc k) h n, l))
 
 -- ---- dirty marks
 

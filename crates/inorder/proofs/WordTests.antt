@@ -8,12 +8,12 @@ use lib.ListN.{length}
 use borrow.Author.Needs.{needs}
 use Rattle.lists.specs.Tables.{every}
 use Rattle.lists.proofs.Passing.{passed-none, passed-more, passed-broken, passed-all, kept-none, kept-all}
-use Rattle.limits.specs.Limits.{pageLimit, pageWidth, processorLimit}
-use Rattle.limits.specs.inner.Sizes.{copyLimit, wordArea}
+use Rattle.limits.specs.Limits.{pageLimit, pageWidth, processorLimit, tallyLimit}
+use Rattle.limits.specs.inner.Sizes.{copyLimit, firstTally, wordArea}
 use Rattle.inorder_marks.specs.inner.Tests.{zeroAt, pagesOf}
 use Rattle.inorder_marks.specs.inner.Needed.{PlacesThere}
 use Rattle.inorder_marks.proofs.MarkTests.{zero-kept, zero-lost}
-use Rattle.inorder.specs.inner.Tests.{wordsHold}
+use Rattle.inorder.specs.inner.Tests.{wordsHold, addsHold}
 use Rattle.inorder.specs.inner.Needed.{WordsOne}
 
 -- the absent pages lie within the area
@@ -31,4 +31,14 @@ words-is w first processors pages k there r t e = e ∙ rw t
 pub words-one : (w : List ℕ) (first pages k : ℕ) → length w ≡ wordArea → first ≤ copyLimit → pages ≤ pageLimit → k < processorLimit → WordsOne w first pages k
 words-one w first pages k a f b h = record { words = a; rows = f; pages-fit = b; processor = h }
 
-pub ruleset words-checked = (passed-none, passed-more, passed-broken, passed-all, kept-none, kept-all, zero-kept, zero-lost, pages-there, words-is, words-one, needs)
+-- the adds of absent processors lie within the area
+pub adds-there : (w : List ℕ) (processors : ℕ) → (length w ≡ wordArea) × (processors ≤ processorLimit)
+    → PlacesThere w (firstTally + tallyLimit * (processors + 1)) (tallyLimit * (processorLimit - processors))
+adds-there w processors h = record { within = omega (arith, h .0, h .1) }
+
+-- and decide
+pub adds-is : (w : List ℕ) (processors : ℕ) (r : Bool) → r ≡ every (tallyLimit * (processorLimit - processors)) (zeroAt w (firstTally + tallyLimit * (processors + 1))) → r ≡ addsHold w processors
+unfolding addsHold
+adds-is w processors r e = e
+
+pub ruleset words-checked = (passed-none, passed-more, passed-broken, passed-all, kept-none, kept-all, zero-kept, zero-lost, pages-there, words-is, words-one, adds-there, adds-is, needs)

@@ -13,7 +13,7 @@ ghost use Rattle.inorder_marks.specs.inner.Needed.{PlacesThere};
 ghost use Rattle.inorder_records.specs.inner.Tests.{ownFits};
 ghost use Rattle.inorder_records.specs.inner.Needed.{OwnFit};
 ghost use Rattle.inorder.specs.Areas.{OrderIs};
-ghost use Rattle.inorder.specs.inner.Tests.{entryWithin, rowWithin, rowsHold, ownEntries, appliedHold, intervalsHold, clocksHoldWith, wordsHold, countsHold, areasHoldWith, areasHold};
+ghost use Rattle.inorder.specs.inner.Tests.{entryWithin, rowWithin, rowsHold, ownEntries, appliedHold, intervalsHold, clocksHoldWith, wordsHold, countsHold, areasHoldWith, areasHold, addsHold};
 ghost use Rattle.inorder.specs.inner.Needed.{RowsThere, ClocksThere, ClocksOne, IntervalsOne, WordsOne, AreasThere};
 use inorder_marks::marks_hold;
 use inorder_marks::pages_of;
@@ -31,6 +31,7 @@ use limits::COPY_LIMIT;
 use limits::FIRST_APPLIED_ROW;
 use limits::FIRST_INTERVAL_ROW;
 use limits::FIRST_LOCK_ROW;
+use limits::FIRST_TALLY;
 use limits::INTERVAL_LIMIT;
 use limits::LAST_INTERVAL;
 use limits::LOCK_LIMIT;
@@ -41,6 +42,7 @@ use limits::PAGE_WIDTH;
 use limits::PROCESSOR_LIMIT;
 use limits::RECORD_AREA;
 use limits::RECORD_LIMIT;
+use limits::TALLY_LIMIT;
 use limits::WORD_AREA;
 
 // Whether lent memory is in order: its areas have the fixed sizes, and the state that they hold is in order.
@@ -271,6 +273,18 @@ fn words_hold(words: &[u32], first: usize, processors: usize, pages: usize) -> b
     true
 }
 
+// Whether absent processors have added nothing to a tally.
+fn adds_hold(words: &[u32], processors: usize) -> bool
+    requires { ⌜ (length (now words) ≡ wordArea) × (processors ≤ processorLimit) ⌝ }
+    ensures { λ r. ⌜ r ≡ addsHold (now (words .entry)) processors ⌝ }
+{
+    words_zero(
+        words,
+        FIRST_TALLY + TALLY_LIMIT * (processors + 1),
+        TALLY_LIMIT * (PROCESSOR_LIMIT - processors),
+    )
+}
+
 // Whether the counts are in range, and the records that stand have their slots.
 fn counts_hold(processors: usize, pages: usize, locks: usize, standing: usize) -> bool
     ensures { λ r. ⌜ r ≡ countsHold processors pages locks standing ⌝ }
@@ -318,6 +332,9 @@ fn all_hold(
         return false;
     }
     if !words_hold(words, COPY_LIMIT, processors, pages) {
+        return false;
+    }
+    if !adds_hold(words, processors) {
         return false;
     }
     if !marks_hold(marks, own, processors, pages, locks, standing) {

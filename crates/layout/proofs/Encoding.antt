@@ -9,22 +9,23 @@ use lib.ListN.{length, getD, take, drop}
 use lib.Seq.{take-all, take-add}
 use lib.Dec.{eqb}
 use borrow.Author.Tests.{eqb-true, eq-eqb}
-use Rattle.limits.specs.Limits.{intervalLimit, lockLimit, pageLimit, pageWidth, processorLimit, recordLimit}
+use Rattle.limits.specs.Limits.{intervalLimit, lockLimit, pageLimit, pageWidth, processorLimit, recordLimit, tallyLimit}
 use Rattle.limits.specs.Places.{firstArrived, standingHigh, standingPlace}
-use Rattle.limits.specs.inner.Sizes.{clockArea, clockWidth, copyLimit, firstAppliedRow, firstAwaited, firstDirty, firstHolder, firstIntervalRow, firstLockRow, firstTurn, markArea, recordArea, slotWidth, wordArea, wordLimit}
+use Rattle.limits.specs.inner.Sizes.{clockArea, clockWidth, copyLimit, firstAppliedRow, firstAwaited, firstDirty, firstHolder, firstIntervalRow, firstLockRow, firstTurn, markArea, recordArea, slotWidth, wordArea, wordLimit, firstTally}
 use Rattle.diff.specs.Reading.{applied}
 use Rattle.rules.specs.InOrder.{slotSize}
 use Rattle.rules.specs.State.{mainframe, Processor, Lock, Applied, Interval, State, clockOf}
 use Rattle.rules.proofs.inorder.Facts.{Sized, InOrder}
 use Rattle.lists.specs.Tables.{tabulate}
 use Rattle.layout.specs.Layout.{rowOf, perProcessor, joinRows}
-use Rattle.layout.specs.Areas.{lockRow, appliedRow, intervalRow, clockRow, clockRows, copyRow, twinRow, wordRows, arrivedPlace, holderPlace, dirtyPlace, awaitedPlace, turnPlace, markPlaces, clocksIn, pagesIn, recordsIn, marksIn, stateIn, clockBytes, pageWords, recordBytes, markBytes, sizesRight, areas, holding, standingCount}
+use Rattle.layout.specs.Areas.{lockRow, appliedRow, intervalRow, clockRow, clockRows, copyRow, twinRow, wordRows, tallyPlace, wordPlaces, arrivedPlace, holderPlace, dirtyPlace, awaitedPlace, turnPlace, markPlaces, clocksIn, pagesIn, recordsIn, marksIn, sharedIn, stateIn, clockBytes, areaWords, recordBytes, markBytes, sizesRight, areas, holding, standingCount}
 use Rattle.layout.specs.inner.Needed.{Lent, Holds}
 use Rattle.layout.specs.inner.Marks.{lockCount, pageCount, processorCount, wishMark}
 use Rattle.lists.proofs.Tabulated.{length-tabulate}
 use Rattle.layout.proofs.RowLaws.{length-row, length-per-processor, get-nobody, get-per-processor}
 use Rattle.layout.proofs.ClockLaws.{holder-row-there, clock-read}
 use Rattle.layout.proofs.PageLaws.{copy-row-there, twin-row-there, copy-read, twin-read}
+use Rattle.layout.proofs.TallyLaws.{tally-at}
 use Rattle.layout.proofs.SlotLaws.{slot-there, slot-read}
 use Rattle.layout.proofs.Joins.{join-rows, join-per-processor, join-tables, tabulate-part}
 
@@ -110,10 +111,30 @@ module _ (w m : List ℕ) where
       at : (k g : ℕ) → pageWidth * twinRow mainframe (suc k) g ≡ (pageWidth * copyLimit) + wordLimit * k + pageWidth * g
       at k g = omega arith
 
-  -- the copies and twins laid out again are their area
-  page-words : length w ≡ wordArea → pageWords (pagesIn mainframe w m) ≡ w
-  unfolding pageWords
-  page-words h = rw (joined-copies, joined-twins) (sym (take-add (pageWidth * copyLimit) (pageWidth * copyLimit) w) ∙ take-all wordArea w (omega arith))
+  module _ (h : length w ≡ wordArea) where
+    joined-posted : sharedIn mainframe w .posted ≡ take tallyLimit (drop firstTally w)
+    unfolding sharedIn mainframe
+    joined-posted =
+        tabulate-part tallyLimit firstTally w 0 (λ t. getD w (tallyPlace mainframe 0 t) 0) (omega arith) (λ t b. ap (λ (j : ℕ). getD w j 0) (omega (arith, tally-at 0 t)))
+
+    joined-adds : joinRows (sharedIn mainframe w .adds) ≡ take (tallyLimit * processorLimit) (drop (firstTally + tallyLimit) w)
+    unfolding sharedIn mainframe
+    joined-adds =
+        join-per-processor processorLimit (λ p. tabulate tallyLimit (λ t. getD w (tallyPlace mainframe p t) 0))
+        ∙ join-rows processorLimit tallyLimit (firstTally + tallyLimit) w (λ k. tabulate tallyLimit (λ t. getD w (tallyPlace mainframe (suc k) t) 0))
+        (λ k b.
+        tabulate-part tallyLimit (firstTally + tallyLimit + tallyLimit * k) w 0 (λ t. getD w (tallyPlace mainframe (suc k) t) 0) (omega arith)
+        (λ t d. ap (λ (j : ℕ). getD w j 0) (omega (arith, tally-at (suc k) t))))
+
+    -- the copies, twins and tallies laid out again are their area
+    words-of : areaWords (pagesIn mainframe w m) (sharedIn mainframe w) ≡ w
+    unfolding areaWords
+    words-of =
+        rw (joined-copies, joined-twins, joined-posted, joined-adds)
+        (ap (λ (x : List ℕ). x ++ take tallyLimit (drop firstTally w) ++ take (tallyLimit * processorLimit) (drop (firstTally + tallyLimit) w)) (sym (take-add (pageWidth * copyLimit) (pageWidth * copyLimit) w))
+        ∙ ap (λ (x : List ℕ). x ++ take (tallyLimit * processorLimit) (drop (firstTally + tallyLimit) w)) (sym (take-add firstTally tallyLimit w))
+        ∙ sym (take-add (firstTally + tallyLimit) (tallyLimit * processorLimit) w)
+        ∙ take-all wordArea w (omega arith))
 
 -- ---- the records
 
@@ -213,15 +234,15 @@ few-records m few = omega arith
 -- the state that four areas hold, laid out again, is the areas
 pub encoded : (c w r m : List ℕ) → Lent c w r m → getD m standingPlace 0 < 256
     → (clockBytes (clocksIn mainframe c) ≡ c)
-    × (pageWords (pagesIn mainframe w m) ≡ w)
+    × (areaWords (pagesIn mainframe w m) (sharedIn mainframe w) ≡ w)
     × (recordBytes (recordsIn mainframe r m) ≡ r)
     × (markBytes (stateIn mainframe c w r m) ≡ m)
 encoded c w r m lent byte =
-    (clock-bytes c (lent .clocks), page-words w m (lent .words), record-bytes r m (lent .records), mark-bytes m (lent .marks) byte c w r)
+    (clock-bytes c (lent .clocks), words-of w m (lent .words), record-bytes r m (lent .records), mark-bytes m (lent .marks) byte c w r)
 
 -- the tables of the state that the areas hold have the mainframe's sizes
 pub lent-sized : (c w r m : List ℕ) → Lent c w r m → standingCount m ≤ recordLimit → Sized mainframe (stateIn mainframe c w r m)
-unfolding stateIn clocksIn pagesIn recordsIn marksIn mainframe slotSize clockOf
+unfolding stateIn clocksIn pagesIn recordsIn marksIn sharedIn mainframe slotSize clockOf
 lent-sized c w r m lent few =
     record {
       processors = length-per-processor processorLimit (λ p. rowOf clockWidth c (clockRow mainframe (Processor p)));
@@ -262,6 +283,10 @@ lent-sized c w r m lent few =
       arrived = ap suc (length-tabulate processorLimit (λ k. getD m (arrivedPlace mainframe (suc k)) 0));
       awaited = ap suc (length-tabulate processorLimit (λ k. getD m (awaitedPlace mainframe (suc k)) 0));
       turns = ap suc (length-tabulate processorLimit (λ k. getD m (turnPlace mainframe (suc k)) 0));
+      posted = length-tabulate tallyLimit (λ t. getD w (tallyPlace mainframe 0 t) 0);
+      adds = length-per-processor processorLimit adds;
+      nobody-adds = ap length (get-nobody processorLimit adds []);
+      adds-row = λ p h k. ap length (get-per-processor processorLimit adds p [] h k) ∙ length-tabulate tallyLimit (λ t. getD w (tallyPlace mainframe p t) 0);
     }
   where
     applied-clocks : ℕ → List (List ℕ)
@@ -279,17 +304,20 @@ lent-sized c w r m lent few =
     dirty : ℕ → List ℕ
     dirty p = tabulate pageLimit (λ g. getD m (dirtyPlace mainframe p g) 0)
 
+    adds : ℕ → List ℕ
+    adds p = tabulate tallyLimit (λ t. getD w (tallyPlace mainframe p t) 0)
+
 -- ---- the size
 
 -- areas of the fixed sizes pass the test of sizes
 pub lent-right : (c w r m : List ℕ) → Lent c w r m → sizesRight mainframe c w r m ≡ true
-unfolding sizesRight clockRows wordRows markPlaces slotSize mainframe
+unfolding sizesRight clockRows wordPlaces wordRows markPlaces slotSize mainframe
 lent-right c w r m lent =
     rw (eq-eqb (length c) clockArea (lent .clocks), eq-eqb (length w) wordArea (lent .words), eq-eqb (length r) recordArea (lent .records), eq-eqb (length m) markArea (lent .marks))
 
 -- and areas that pass it have them
 pub right-lent : (c w r m : List ℕ) → sizesRight mainframe c w r m ≡ true → Lent c w r m
-unfolding sizesRight clockRows wordRows markPlaces slotSize mainframe
+unfolding sizesRight clockRows wordPlaces wordRows markPlaces slotSize mainframe
 right-lent c w r m e =
     let three = and-eq-true-iff (eqb (length c) clockArea && eqb (length w) wordArea && eqb (length r) recordArea) (eqb (length m) markArea) .0 e in
     let two = and-eq-true-iff (eqb (length c) clockArea && eqb (length w) wordArea) (eqb (length r) recordArea) .0 (three .0) in
@@ -307,8 +335,8 @@ right-lent c w r m e =
 pub held-again : (c w r m : List ℕ) → Lent c w r m → getD m standingPlace 0 < 256 → holding (stateIn mainframe c w r m) ≡ areas c w r m
 unfolding holding stateIn
 held-again c w r m h byte =
-    ap (λ (x : List ℕ). areas x (pageWords (pagesIn mainframe w m)) (recordBytes (recordsIn mainframe r m)) (markBytes (stateIn mainframe c w r m))) (clock-bytes c (h .clocks))
-    ∙ ap (λ (x : List ℕ). areas c x (recordBytes (recordsIn mainframe r m)) (markBytes (stateIn mainframe c w r m))) (page-words w m (h .words))
+    ap (λ (x : List ℕ). areas x (areaWords (pagesIn mainframe w m) (sharedIn mainframe w)) (recordBytes (recordsIn mainframe r m)) (markBytes (stateIn mainframe c w r m))) (clock-bytes c (h .clocks))
+    ∙ ap (λ (x : List ℕ). areas c x (recordBytes (recordsIn mainframe r m)) (markBytes (stateIn mainframe c w r m))) (words-of w m (h .words))
     ∙ ap (λ (x : List ℕ). areas c w x (markBytes (stateIn mainframe c w r m))) (record-bytes r m (h .records))
     ∙ ap (λ (x : List ℕ). areas c w r x) (mark-bytes m (h .marks) byte c w r)
 

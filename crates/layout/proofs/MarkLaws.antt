@@ -14,7 +14,7 @@ use Rattle.limits.specs.Limits.{lockLimit, pageLimit, processorLimit}
 use Rattle.limits.specs.Places.{firstArrived, standingPlace, standingHigh, wantedPlace}
 use Rattle.limits.specs.inner.Sizes.{clockWidth, firstAwaited, firstDirty, firstHolder, firstTurn, markArea}
 use Rattle.rules.specs.State.{mainframe, Pages, withArrived, withWanted, withPages, withRecords, withMarks, withHolder, withLines}
-use Rattle.layout.specs.Areas.{arrivedPlace, holderPlace, dirtyPlace, awaitedPlace, turnPlace, standingCount, clocksIn, recordsIn, marksIn, stateIn}
+use Rattle.layout.specs.Areas.{arrivedPlace, holderPlace, dirtyPlace, awaitedPlace, turnPlace, standingCount, clocksIn, recordsIn, marksIn, sharedIn, stateIn}
 use Rattle.layout.specs.inner.Marks.{pageCount, processorCount, wishMark, withStanding}
 use Rattle.layout.proofs.Stores.{get-sets-same, get-set, eqb-iff}
 use Rattle.lists.proofs.Tabulated.{get-tabulate, tabulate-same, put-tabulate, map-tabulate}
@@ -90,6 +90,7 @@ module _ (c w r m : List ℕ) (x : ℕ) (there : length m ≡ markArea) where
         pages = pages-kept (withStanding m x) m w (λ j a b. above j (omega arith) (omega arith)) i;
         records = record { standing = stands i; slots = recordsIn mainframe r m .slots };
         marks = marks-kept (withStanding m x) m (λ j a b. above j (omega arith) (omega arith)) (λ j a b. above j (omega arith) (omega arith)) i;
+        shared = sharedIn mainframe w;
       }
     where
       low : List ℕ

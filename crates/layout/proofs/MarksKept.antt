@@ -9,7 +9,7 @@ use Rattle.limits.specs.Limits.{lockLimit, pageLimit, processorLimit}
 use Rattle.limits.specs.Places.{firstArrived, locksPlace, pagesPlace, processorsPlace, standingPlace, standingHigh, wantedPlace}
 use Rattle.limits.specs.inner.Sizes.{firstAwaited, firstDirty, firstHolder, firstTurn, markArea}
 use Rattle.rules.specs.State.{mainframe, withPages, withMarks}
-use Rattle.layout.specs.Areas.{arrivedPlace, holderPlace, dirtyPlace, awaitedPlace, turnPlace, standingCount, clocksIn, pagesIn, recordsIn, marksIn, stateIn}
+use Rattle.layout.specs.Areas.{arrivedPlace, holderPlace, dirtyPlace, awaitedPlace, turnPlace, standingCount, clocksIn, pagesIn, recordsIn, marksIn, sharedIn, stateIn}
 use Rattle.layout.proofs.Stores.{get-sets-before, get-sets-behind}
 use Rattle.lists.proofs.Tabulated.{tabulate-same}
 use Rattle.layout.proofs.RowLaws.{page-table-same}
@@ -99,6 +99,7 @@ module _ (n m : List ℕ) where
         pages = pages-kept w f i;
         records = records-kept r (λ j a b. e j (omega arith) b) i;
         marks = marksIn mainframe n;
+        shared = sharedIn mainframe w;
       }
 
   -- and in its pages alone where all but the dirty marks stay
@@ -111,6 +112,7 @@ module _ (n m : List ℕ) where
         pages = pagesIn mainframe w n;
         records = records-kept r (λ j a b. e j (omega arith) (omega arith)) i;
         marks = marks-kept (λ j a b. e j (omega arith) b) f i;
+        shared = sharedIn mainframe w;
       }
 
 -- one mark stored anew: all places but its own agree

@@ -6,7 +6,7 @@ use lib.ListN.{length, getD, drop}
 use lib.Dec.{eqb}
 use Rattle.limits.specs.Places.{processorsPlace, pagesPlace, locksPlace, standingPlace, standingHigh, wantedPlace, firstArrived}
 use Rattle.rules.specs.InOrder.{slotSize}
-use Rattle.rules.specs.State.{Limits, mainframe, Holder, Processor, Lock, Barrier, Applied, Interval, Clocks, Pages, Records, Marks, State, standing}
+use Rattle.rules.specs.State.{Limits, mainframe, Holder, Processor, Lock, Barrier, Applied, Interval, Clocks, Pages, Records, Marks, Shared, State, standing}
 use Rattle.lists.specs.Tables.{tabulate}
 use Rattle.layout.specs.Layout.{rowOf, perProcessor, joinRows}
 
@@ -49,6 +49,16 @@ twinRow lim p g = lim .processors * lim .pages + copyRow lim p g
 -- all rows of words
 unfoldable pub wordRows : Limits → ℕ
 wordRows lim = lim .processors * lim .pages + lim .processors * lim .pages
+
+-- ---- where a tally stands, behind the twins: the posted totals, then the adds of each processor
+
+-- of tally t the posted total, for k 0, or the adds of processor k
+unfoldable pub tallyPlace : Limits → ℕ → ℕ → ℕ
+tallyPlace lim k t = lim .words * wordRows lim + k * lim .tallies + t
+
+-- all words
+unfoldable pub wordPlaces : Limits → ℕ
+wordPlaces lim = lim .words * wordRows lim + (lim .processors + 1) * lim .tallies
 
 -- ---- where a mark stands: processors, pages, locks, records standing, collection wanted, arrived, holders, dirty, locks waited for, turns
 
@@ -117,6 +127,14 @@ marksIn lim m =
       turns = 0 ∷ tabulate (lim .processors) (λ k. getD m (turnPlace lim (suc k)) 0);
     }
 
+-- the tallies from the words
+unfoldable pub sharedIn : Limits → List ℕ → Shared
+sharedIn lim w =
+    record {
+      posted = tabulate (lim .tallies) (λ t. getD w (tallyPlace lim 0 t) 0);
+      adds = perProcessor (lim .processors) (λ p. tabulate (lim .tallies) (λ t. getD w (tallyPlace lim p t) 0));
+    }
+
 -- the whole state
 unfoldable pub stateIn : Limits → List ℕ → List ℕ → List ℕ → List ℕ → State
 stateIn lim c w r m =
@@ -126,6 +144,7 @@ stateIn lim c w r m =
       pages = pagesIn lim w m;
       records = recordsIn lim r m;
       marks = marksIn lim m;
+      shared = sharedIn lim w;
     }
 
 -- ---- encode: the areas that hold a state
@@ -134,9 +153,9 @@ stateIn lim c w r m =
 unfoldable pub clockBytes : Clocks → List ℕ
 clockBytes c = c .barrier ++ joinRows (c .processors) ++ joinRows (c .locks) ++ joinRows (joinRows (c .applied)) ++ joinRows (joinRows (c .intervals))
 
--- the copies, then the twins
-unfoldable pub pageWords : Pages → List ℕ
-pageWords m = joinRows (joinRows (m .copies)) ++ joinRows (joinRows (m .twins))
+-- the copies, then the twins, then the tallies
+unfoldable pub areaWords : Pages → Shared → List ℕ
+areaWords m h = joinRows (joinRows (m .copies)) ++ joinRows (joinRows (m .twins)) ++ h .posted ++ joinRows (h .adds)
 
 -- the slots, one after the other
 unfoldable pub recordBytes : Records → List ℕ
@@ -154,7 +173,7 @@ markBytes s =
 unfoldable pub sizesRight : Limits → List ℕ → List ℕ → List ℕ → List ℕ → Bool
 sizesRight lim c w r m =
     eqb (length c) (lim .processors * clockRows lim)
-    && eqb (length w) (lim .words * wordRows lim)
+    && eqb (length w) (wordPlaces lim)
     && eqb (length r) (slotSize lim * lim .records)
     && eqb (length m) (markPlaces lim)
 
@@ -177,7 +196,7 @@ heldBy a = stateIn mainframe (a .clocks) (a .words) (a .records) (a .marks)
 
 -- the areas that hold a state
 unfoldable pub holding : State → Areas
-holding s = areas (clockBytes (s .clocks)) (pageWords (s .pages)) (recordBytes (s .records)) (markBytes s)
+holding s = areas (clockBytes (s .clocks)) (areaWords (s .pages) (s .shared)) (recordBytes (s .records)) (markBytes s)
 
 -- whether each of them has its fixed size
 unfoldable pub rightSizes : Areas → Bool

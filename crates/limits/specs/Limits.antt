@@ -26,6 +26,10 @@ recordLimit = 128
 abbrev pub intervalLimit : ℕ
 intervalLimit = 63
 
+-- L4: "there are 16 tallies of 32 bits"
+abbrev pub tallyLimit : ℕ
+tallyLimit = 16
+
 -- a slot has four numbers before its diff: processor, interval, page and the diff's length
 abbrev pub slotHead : ℕ
 slotHead = 4

@@ -11,6 +11,8 @@ pub const PAGE_WIDTH: usize = 32;
 pub const LOCK_LIMIT: usize = 16;
 
 pub const RECORD_LIMIT: usize = 128;
+
+pub const TALLY_LIMIT: usize = 16;
 // The intervals of a processor.
 pub const INTERVAL_LIMIT: usize = 63;
 // The same as a byte, as clocks have it.
@@ -77,7 +79,10 @@ pub const FIRST_TURN: usize = FIRST_AWAITED + PROCESSOR_LIMIT;
 // The four areas.
 pub const CLOCK_AREA: usize = CLOCK_WIDTH * CLOCK_ROW_LIMIT;
 
-pub const WORD_AREA: usize = PAGE_WIDTH * WORD_ROW_LIMIT;
+// The words of the pages, and behind them the tallies: of each the posted total, then the adds of each processor.
+pub const FIRST_TALLY: usize = PAGE_WIDTH * WORD_ROW_LIMIT;
+
+pub const WORD_AREA: usize = FIRST_TALLY + (PROCESSOR_LIMIT + 1) * TALLY_LIMIT;
 
 pub const RECORD_AREA: usize = SLOT_WIDTH * RECORD_LIMIT;
 
@@ -112,7 +117,7 @@ pub const FIRST_WATERMARK: usize = RANKED_PLACE + 1;
 
 pub const FIRST_BOUND: usize = FIRST_WATERMARK + COPY_LIMIT;
 
-pub const KIND_LIMIT: usize = 7;
+pub const KIND_LIMIT: usize = 10;
 
 pub const KIND_BOUNDS: usize = KIND_LIMIT + 1;
 

@@ -3,24 +3,24 @@ use Prim.Native.Nat.{ℕ, _+_, _*_, _≤_, _<_}
 use native.Mathlib.Omega.{arith}
 use mathlib.Core.Path.{_≡_, refl, sym, ap, _∙_}
 use mathlib.Core.Bool.{Bool, true, false, cond, not, _&&_, and-eq-true-iff}
-use mathlib.Core.List.{List, _++_}
+use mathlib.Core.List.{List, [], _∷_, _++_}
 use lib.ListN.{length, getD, take, drop, set, length-set, length-append, replicate, length-replicate, replicate-append-replicate}
 use lib.Seq.{length-take-le, take-all, take-at, sets, length-sets, sets-eq}
 use lib.Dec.{eqb}
 use borrow.Author.Tests.{eqb-true, not-false}
 use borrow.Author.Needs.{needs}
 use Rattle.limits.specs.Files.{fileRecordWidth}
-use Rattle.limits.specs.inner.Sizes.{clockArea, markArea, partLimit, recordArea, wordArea, wordLimit}
+use Rattle.limits.specs.inner.Sizes.{clockArea, markArea, partLimit, recordArea, wordArea, wordLimit, firstTally}
 use Rattle.clock.specs.Clocks.{zeros}
 use Rattle.rules.specs.InOrder.{slotSize, countsInRange}
-use Rattle.rules.specs.Opening.{openingRefusal, rows, zeroClocks, zeroPages, zeroMarks, opened}
+use Rattle.rules.specs.Opening.{openingRefusal, rows, zeroClocks, zeroPages, zeroMarks, opened, zeroShared}
 use Rattle.rules.specs.State.{mainframe, Counts}
-use Rattle.layout.specs.Areas.{clockBytes, pageWords, recordBytes, markBytes, sizesRight, Areas, areas, holding, rightSizes}
+use Rattle.layout.specs.Areas.{clockBytes, areaWords, recordBytes, markBytes, sizesRight, Areas, areas, holding, rightSizes}
 use Rattle.layout.specs.Layout.{joinRows}
 use Rattle.layout.specs.inner.Needed.{Lent, RowThere}
 use Rattle.layout.proofs.Encoding.{lent-right, right-lent}
 use Rattle.opening.specs.Promises.{openingOf, openRefusal, areasOpened}
-use Rattle.opening.specs.inner.Openings.{openingFits, freshCopy, freshWords, openedMarks, Openable, MarksOpenable, SizesAre, OpeningIs, HoldsOpened}
+use Rattle.opening.specs.inner.Openings.{openingFits, freshCopy, freshWords, openedMarks, Openable, MarksOpenable, SizesAre, OpeningIs, HoldsOpened, WordsZeroTo}
 
 -- ---- the sizes
 
@@ -100,11 +100,41 @@ module _ (w₀ w copy : List ℕ) (k : ℕ) (h : CopiesLaid w₀ w copy k) where
       }
 
   -- all are
-  pub copies-all : partLimit ≤ k → w ≡ freshWords
-  unfolding freshWords
+  pub copies-all : partLimit ≤ k → WordsZeroTo w firstTally
   copies-all l =
-      let e : wordLimit * k ≡ wordArea = omega (arith, l, h .upto) in
-      sym (take-all (wordLimit * k) w (omega (arith, h .long, e))) ∙ h .first ∙ ap (λ (j : ℕ). replicate j 0) e
+      let e : wordLimit * k ≡ firstTally = omega (arith, l, h .upto) in
+      record { long = h .long; first = ap (λ (j : ℕ). take j w) (sym e) ∙ h .first ∙ ap (λ (j : ℕ). replicate j 0) e }
+
+-- the words up to i are 0
+pub record WordsLaid (w₀ w : List ℕ) (i : ℕ) : Type 0 where
+  pub zeros : WordsZeroTo w i
+  pub as-long : length w ≡ length w₀
+  pub upto : i ≤ wordArea
+
+-- the tallies are not laid yet
+pub tallies-begin : (w : List ℕ) → WordsZeroTo w firstTally → WordsLaid w w firstTally
+tallies-begin w h = record { zeros = h; as-long = refl; upto = omega arith }
+
+module _ (w₀ w : List ℕ) (i : ℕ) (h : WordsLaid w₀ w i) where
+  -- the next word is there
+  pub tally-word-there : i < wordArea → i < length w
+  tally-word-there l = omega (arith, h .zeros .long)
+
+  -- one more is laid
+  pub tallies-more : i < wordArea → WordsLaid w₀ (set w i 0) (i + 1)
+  tallies-more l =
+      record {
+        zeros = record { long = length-set w i 0 ∙ h .zeros .long; first = zeros-behind i 1 w (0 ∷ []) (omega (arith, h .zeros .long, l)) refl (h .zeros .first) };
+        as-long = length-set w i 0 ∙ h .as-long;
+        upto = omega arith;
+      }
+
+  -- all are
+  pub tallies-all : wordArea ≤ i → w ≡ freshWords
+  unfolding freshWords
+  tallies-all l =
+      let e : i ≡ wordArea = omega (arith, l, h .upto) in
+      sym (take-all i w (omega (arith, h .zeros .long, e))) ∙ h .zeros .first ∙ ap (λ (j : ℕ). replicate j 0) e
 
 -- ---- the marks
 
@@ -135,8 +165,8 @@ pub open-clocks : clockBytes (zeroClocks mainframe) ≡ replicate clockArea 0
 unfolding clockBytes zeroClocks mainframe rows zeros joinRows
 open-clocks = refl
 
-pub open-words : pageWords (zeroPages mainframe) ≡ replicate wordArea 0
-unfolding pageWords zeroPages mainframe rows joinRows
+pub open-words : areaWords (zeroPages mainframe) (zeroShared mainframe) ≡ replicate wordArea 0
+unfolding areaWords zeroPages zeroShared mainframe rows joinRows
 open-words = refl
 
 pub open-records : (k : Counts) → recordBytes (opened mainframe k .records) ≡ replicate recordArea 0
@@ -166,10 +196,10 @@ module _ (bs c w r m : List ℕ) (h : Openable bs c w r m) where
         is =
             ap (λ (x : List ℕ). areas x w′ r′ m′) (ec ∙ ap (λ (n : ℕ). replicate n 0) (h .lent .clocks) ∙ sym open-clocks)
             ∙ ap (λ (x : List ℕ). areas (clockBytes (zeroClocks mainframe)) x r′ m′) (ew ∙ sym open-words)
-            ∙ ap (λ (x : List ℕ). areas (clockBytes (zeroClocks mainframe)) (pageWords (zeroPages mainframe)) x m′)
+            ∙ ap (λ (x : List ℕ). areas (clockBytes (zeroClocks mainframe)) (areaWords (zeroPages mainframe) (zeroShared mainframe)) x m′)
             (er ∙ ap (λ (n : ℕ). replicate n 0) (h .lent .records) ∙ sym (open-records (openingOf bs .counts)))
             ∙ ap
-            (λ (x : List ℕ). areas (clockBytes (zeroClocks mainframe)) (pageWords (zeroPages mainframe)) (recordBytes (opened mainframe (openingOf bs .counts) .records)) x)
+            (λ (x : List ℕ). areas (clockBytes (zeroClocks mainframe)) (areaWords (zeroPages mainframe) (zeroShared mainframe)) (recordBytes (opened mainframe (openingOf bs .counts) .records)) x)
             (em ∙ sym (open-marks bs));
       }
 
@@ -243,6 +273,6 @@ pub fresh-copy-is : replicate {A = ℕ} wordLimit 0 ≡ freshCopy
 unfolding freshCopy
 fresh-copy-is = refl
 
-pub ruleset laying-laws = (fresh-copy-is, copies-begin, copy-there, copies-more, copies-all, first-count-there, second-count-there, third-count-there, marks-laid, marks-cleared, words-openable, marks-openable, state-laid, needs)
+pub ruleset laying-laws = (fresh-copy-is, copies-begin, copy-there, copies-more, copies-all, tallies-begin, tally-word-there, tallies-more, tallies-all, first-count-there, second-count-there, third-count-there, marks-laid, marks-cleared, words-openable, marks-openable, state-laid, needs)
 
 pub ruleset opening-laws = (clocks-of-other-size, words-of-other-size, records-of-other-size, marks-of-other-size, fixed-sizes, sizes-refused, sizes-untouched, opening-refused, opening-untouched, openable, opening-accepted, opening-done, needs)

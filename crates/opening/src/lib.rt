@@ -5,14 +5,15 @@ ghost use Prim.Native.Nat.{_*_};
 ghost use lib.ListN.{length};
 ghost use lib.Seq.{sets};
 ghost use Rattle.limits.specs.Files.{fileRecordWidth};
-ghost use Rattle.limits.specs.inner.Sizes.{wordArea, wordLimit};
+ghost use Rattle.limits.specs.inner.Sizes.{firstTally, wordArea, wordLimit};
 ghost use Rattle.layout.specs.Areas.{areas};
 ghost use Rattle.layout.specs.inner.Needed.{RowThere};
 ghost use Rattle.opening.specs.Promises.{openRefusal, areasOpened};
-ghost use Rattle.opening.specs.inner.Openings.{freshCopy, freshWords, openedMarks, Openable, MarksOpenable, SizesAre, ZerosAre, CountsAre, OpeningIs, HoldsOpened};
+ghost use Rattle.opening.specs.inner.Openings.{freshCopy, freshWords, openedMarks, Openable, MarksOpenable, SizesAre, ZerosAre, CountsAre, OpeningIs, HoldsOpened, WordsZeroTo};
 use layout::clear;
 use limits::CLOCK_AREA;
 use limits::FILE_RECORD_WIDTH;
+use limits::FIRST_TALLY;
 use limits::LOCK_LIMIT;
 use limits::LOCKS_PLACE;
 use limits::MARK_AREA;
@@ -148,6 +149,7 @@ fn lay_opened(
 {
     clear(clocks);
     lay_copies(words);
+    lay_tallies(words);
     clear(records);
     lay_marks(opening, marks);
 }
@@ -155,13 +157,25 @@ fn lay_opened(
 // A fresh copy for each processor, and the same for its twin.
 fn lay_copies(words: &mut [u32])
     requires { ⌜ length (now words) ≡ wordArea ⌝ }
-    ensures { λ _. ⌜ now (words .exit) ≡ freshWords ⌝ }
+    ensures { λ _. ⌜ WordsZeroTo (now (words .exit)) firstTally ⌝ }
 {
     let copy = fresh_copy();
     let mut k: usize = 0;
     while k < PART_LIMIT {
         put_copy(words, k, copy);
         k = k + 1;
+    }
+}
+
+// Nothing is posted to a tally or added: every word behind the copies and twins is 0.
+fn lay_tallies(words: &mut [u32])
+    requires { ⌜ WordsZeroTo (now words) firstTally ⌝ }
+    ensures { λ _. ⌜ now (words .exit) ≡ freshWords ⌝ }
+{
+    let mut i: usize = FIRST_TALLY;
+    while i < WORD_AREA {
+        words[i] = 0;
+        i = i + 1;
     }
 }
 

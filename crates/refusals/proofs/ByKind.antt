@@ -8,7 +8,7 @@ use lib.Dec.{leb, ltb, eqb}
 use borrow.Author.Tests.{ltb-true, le-leb, lt-leb, lt-ltb, le-ltb, eq-eqb, ne-eqb}
 use mir.Syntax.{w64}
 use mir.Val.{Fits}
-use Rattle.limits.specs.Limits.{intervalLimit, lockLimit, pageWidth, recordLimit}
+use Rattle.limits.specs.Limits.{intervalLimit, lockLimit, pageWidth, recordLimit, tallyLimit}
 use Rattle.limits.specs.inner.Sizes.{wordLimit}
 use Rattle.rules.specs.Refusals.{Write, Acquire, Release, knownKind, usesValue, lateRefusal}
 use Rattle.rules.specs.State.{mainframe, dirtyAt, State, holder}
@@ -29,9 +29,19 @@ unfolding knownKind
 zero-unknown k e = rw e
 
 -- the others are known up to 6
-pub last-decides : (k : ℕ) → (k ≡ 0 → ⊥) → leb k 6 ≡ knownKind k
+pub first-known : (k : ℕ) → (k ≡ 0 → ⊥) → k ≤ 6 → true ≡ knownKind k
 unfolding knownKind
-last-decides k h = rw (le-leb 1 k (omega arith))
+first-known k h l = rw (le-leb 1 k (omega arith), le-leb k 6 l)
+
+-- then 8
+pub eight-known : (k : ℕ) → k ≡ 8 → true ≡ knownKind k
+unfolding knownKind
+eight-known k e = rw e
+
+-- and 9
+pub last-decides : (k : ℕ) → 6 < k → (k ≡ 8 → ⊥) → eqb k 9 ≡ knownKind k
+unfolding knownKind
+last-decides k h e = rw (le-leb 1 k (omega arith), lt-leb k 6 h, ne-eqb k 8 e)
 
 -- ---- row 5
 
@@ -50,15 +60,24 @@ module _ (m : List ℕ) (k n : ℕ) where
   unfolding boundOf seen stateIn mainframe
   locks-bound h l e = rw (lt-leb k 2 h, le-leb k 4 l) (e .0)
 
--- the other kinds use no object
-pub no-bound : (m : List ℕ) (k : ℕ) → 4 < k → 1 ≡ boundOf (seen m) k
+-- the others up to 6 use no object
+pub no-bound : (m : List ℕ) (k : ℕ) → 4 < k → k ≤ 6 → 1 ≡ boundOf (seen m) k
 unfolding boundOf
-no-bound m k h = rw (lt-leb k 2 (omega arith), lt-leb k 4 h)
+no-bound m k h l = rw (lt-leb k 2 (omega arith), lt-leb k 4 h, le-leb k 6 l)
 
--- a write uses its value, no other kind does
-pub value-used : (k : ℕ) → eqb k 2 ≡ usesValue k
+-- those behind them a tally
+pub tally-bound : (m : List ℕ) (k : ℕ) → 6 < k → tallyLimit ≡ boundOf (seen m) k
+unfolding boundOf mainframe
+tally-bound m k h = rw (lt-leb k 2 (omega arith), lt-leb k 4 (omega arith), lt-leb k 6 h)
+
+-- a write uses its value, and an add, no other kind does
+pub write-uses : (k : ℕ) → k ≡ 2 → true ≡ usesValue k
 unfolding usesValue
-value-used k = refl
+write-uses k e = rw e
+
+pub value-used : (k : ℕ) → (k ≡ 2 → ⊥) → eqb k 8 ≡ usesValue k
+unfolding usesValue
+value-used k e = rw (ne-eqb k 2 e)
 
 module _ (m : List ℕ) (k o v b : ℕ) (bound : b ≡ boundOf (seen m) k) where
   -- an object that is not there

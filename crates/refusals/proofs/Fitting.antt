@@ -1,10 +1,11 @@
 -- The rows 3 to 6 and 17 as one test: flags multiplied, by the bounds of the kinds and the marks. One law for each way of the code. Assumes nothing.
-use Prim.Native.Nat.{ℕ, _+_, _*_, _%_, _^_, _≤_, _<_, min}
+use Prim.Native.Nat.{ℕ, zero, suc, _+_, _*_, _%_, _^_, _≤_, _<_, min}
 use native.Mathlib.Nat.{zero-mul}
 use native.Mathlib.Decide.{decLe, decLt}
 use native.Mathlib.Omega.{arith}
 use mathlib.Core.Path.{_≡_, refl, sym, ap, _∙_}
 use mathlib.Core.Bool.{Bool, true, false, cond, not, _&&_, _||_, and-false}
+use mathlib.Core.Logic.{_⊎_, inl, inr}
 use mathlib.Core.List.{List}
 use lib.ListN.{length, getD}
 use lib.Dec.{leb, ltb, eqb}
@@ -18,7 +19,7 @@ use Rattle.rules.specs.InOrder.{present}
 use Rattle.rules.specs.Lines.{waits}
 use Rattle.rules.specs.Refusals.{knownKind, usesValue}
 use Rattle.rules.specs.State.{mainframe, hasArrived}
-use Rattle.rules.proofs.inorder.KindsOfSteps.{by-kind, known-says}
+use Rattle.rules.proofs.inorder.KindsOfSteps.{known-says}
 use Rattle.layout.specs.Areas.{arrivedPlace, awaitedPlace, stateIn}
 use Rattle.layout.specs.inner.Marks.{processorCount, arrivedMark, awaitedMark}
 use Rattle.refusals.specs.inner.Parts.{seen, boundOf, fieldsFit, isFree, mayAct, stepFits}
@@ -66,12 +67,11 @@ module _ (bounds : List ℕ) (k j : ℕ) (e : j ≡ min k kindLimit) where
 
 -- a kind and its place are known or not together
 place-known : (k : ℕ) → knownKind (min k kindLimit) ≡ knownKind k
-unfolding knownKind
-place-known k = go (decLe k 6)
+place-known k = go (decLe k kindLimit)
   where
-    go : Dec (k ≤ 6) → (leb 1 (min k kindLimit) && leb (min k kindLimit) 6) ≡ (leb 1 k && leb k 6)
+    go : Dec (k ≤ kindLimit) → knownKind (min k kindLimit) ≡ knownKind k
     go (yes l) = let same : min k kindLimit ≡ k = omega arith in rw same
-    go (no l) = let last : min k kindLimit ≡ kindLimit = omega arith in rw (last, lt-leb k 6 (omega arith)) (sym (and-false (leb 1 k)))
+    go (no l) = let last : min k kindLimit ≡ kindLimit = omega arith in rw last (unfold knownKind in sym (rw (lt-leb k 6 (omega arith), ne-eqb k 8 (λ e. omega (arith, e)), ne-eqb k 9 (λ e. omega (arith, e)), and-false (leb 1 k))))
 
 -- a value is not above its bound where it is used or 0
 value-in-bound : (k v : ℕ) → v ≤ valueLimit → leb v (valueBoundOf k) ≡ (usesValue k || eqb v 0)
@@ -97,7 +97,12 @@ in-bounds m bounds k o v h l =
   where
     go : (b : Bool) → knownKind k ≡ b
         → (ltb o (cond b (boundOf (seen m) (min k kindLimit)) 0) && (usesValue (min k kindLimit) || eqb v 0)) ≡ (b && (ltb o (boundOf (seen m) k) && (usesValue k || eqb v 0)))
-    go true e = let known = known-says k e in let same : min k kindLimit ≡ k = omega (arith, known .1) in rw same
+    go true e = rw (place (known-says k e))
+      where
+        place : ((1 ≤ k) × (k ≤ 6)) ⊎ ((k ≡ 8) ⊎ (k ≡ 9)) → min k kindLimit ≡ k
+        place (inl x) = omega (arith, x .1)
+        place (inr (inl x)) = omega (arith, x)
+        place (inr (inr x)) = omega (arith, x)
     go false e = rw (le-ltb o 0 (omega arith))
 
 -- ---- the processor
@@ -197,13 +202,19 @@ pub bounds-long : (m bounds : List ℕ) → BoundsOf m bounds → length bounds 
 bounds-long m bounds h = h .long
 
 -- a claim of every place of a kind
-by-place : (claim : ℕ → Type 0) → claim 0 → claim 1 → claim 2 → claim 3 → claim 4 → claim 5 → claim 6 → claim 7 → (k : ℕ) → k ≤ kindLimit → claim k
-by-place claim z a b c d e f g k l = go (decLe 1 k) (decLe k 6)
-  where
-    go : Dec (1 ≤ k) → Dec (k ≤ 6) → claim k
-    go (yes h) (yes i) = by-kind claim a b c d e f k h i
-    go (yes h) (no i) = let is : k ≡ 7 = omega arith in rw is g
-    go (no h) i = let is : k ≡ 0 = omega arith in rw is z
+by-place : (claim : ℕ → Type 0) → claim 0 → claim 1 → claim 2 → claim 3 → claim 4 → claim 5 → claim 6 → claim 7 → claim 8 → claim 9 → claim 10 → (k : ℕ) → k ≤ kindLimit → claim k
+by-place claim a₀ a₁ a₂ a₃ a₄ a₅ a₆ a₇ a₈ a₉ a₁₀ zero l = a₀
+by-place claim a₀ a₁ a₂ a₃ a₄ a₅ a₆ a₇ a₈ a₉ a₁₀ (suc zero) l = a₁
+by-place claim a₀ a₁ a₂ a₃ a₄ a₅ a₆ a₇ a₈ a₉ a₁₀ (suc (suc zero)) l = a₂
+by-place claim a₀ a₁ a₂ a₃ a₄ a₅ a₆ a₇ a₈ a₉ a₁₀ (suc (suc (suc zero))) l = a₃
+by-place claim a₀ a₁ a₂ a₃ a₄ a₅ a₆ a₇ a₈ a₉ a₁₀ (suc (suc (suc (suc zero)))) l = a₄
+by-place claim a₀ a₁ a₂ a₃ a₄ a₅ a₆ a₇ a₈ a₉ a₁₀ (suc (suc (suc (suc (suc zero))))) l = a₅
+by-place claim a₀ a₁ a₂ a₃ a₄ a₅ a₆ a₇ a₈ a₉ a₁₀ (suc (suc (suc (suc (suc (suc zero)))))) l = a₆
+by-place claim a₀ a₁ a₂ a₃ a₄ a₅ a₆ a₇ a₈ a₉ a₁₀ (suc (suc (suc (suc (suc (suc (suc zero))))))) l = a₇
+by-place claim a₀ a₁ a₂ a₃ a₄ a₅ a₆ a₇ a₈ a₉ a₁₀ (suc (suc (suc (suc (suc (suc (suc (suc zero)))))))) l = a₈
+by-place claim a₀ a₁ a₂ a₃ a₄ a₅ a₆ a₇ a₈ a₉ a₁₀ (suc (suc (suc (suc (suc (suc (suc (suc (suc zero))))))))) l = a₉
+by-place claim a₀ a₁ a₂ a₃ a₄ a₅ a₆ a₇ a₈ a₉ a₁₀ (suc (suc (suc (suc (suc (suc (suc (suc (suc (suc zero)))))))))) l = a₁₀
+by-place claim a₀ a₁ a₂ a₃ a₄ a₅ a₆ a₇ a₈ a₉ a₁₀ (suc (suc (suc (suc (suc (suc (suc (suc (suc (suc (suc k))))))))))) l = absurd (omega arith)
 
 -- the bounds of the marks are such
 pub bounds-are : (m : List ℕ) → BoundsOf m (boundsOf m)
@@ -211,6 +222,6 @@ unfolding boundsOf objectBoundOf valueBoundOf boundOf knownKind usesValue seen s
 bounds-are m =
     record {
       long = refl;
-      object = by-place (λ k. getD (boundsOf m) k 0 ≡ objectBoundOf (seen m) k) refl refl refl refl refl refl refl refl;
-      value = by-place (λ k. getD (boundsOf m) (kindBounds + k) 0 ≡ valueBoundOf k) refl refl refl refl refl refl refl refl;
+      object = by-place (λ k. getD (boundsOf m) k 0 ≡ objectBoundOf (seen m) k) refl refl refl refl refl refl refl refl refl refl refl;
+      value = by-place (λ k. getD (boundsOf m) (kindBounds + k) 0 ≡ valueBoundOf k) refl refl refl refl refl refl refl refl refl refl refl;
     }

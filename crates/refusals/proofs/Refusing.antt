@@ -9,10 +9,10 @@ use borrow.Author.Tests.{not-true, not-false}
 use borrow.Author.Needs.{needs}
 use Rattle.rules.specs.InOrder.{present, presentHolder, dirtyPages}
 use Rattle.rules.specs.Lines.{waits}
-use Rattle.rules.specs.Refusals.{Step, stepOf, Action, Read, Write, Acquire, Release, Arrive, Want, Unknown, actionOf, knownKind, objectBound, usesValue, fits, lateRefusal, refusalBy, refusalInOrder}
+use Rattle.rules.specs.Refusals.{Step, stepOf, Action, Read, Write, Acquire, Release, Arrive, Want, TallyAdd, TallyRead, Unknown, actionOf, knownKind, objectBound, usesValue, fits, lateRefusal, refusalBy, refusalInOrder}
 use Rattle.rules.specs.State.{mainframe, dirtyAt, State, own, holder, hasArrived}
 use Rattle.rules.proofs.inorder.Accepted.{present-says}
-use Rattle.rules.proofs.inorder.KindsOfSteps.{by-kind, known-says}
+use Rattle.rules.proofs.inorder.KindsOfSteps.{by-kind}
 use Rattle.layout.specs.Areas.{pagesIn, recordsIn, stateIn}
 use Rattle.layout.specs.inner.Marks.{arrivedMark, awaitedMark}
 use Rattle.layout.specs.inner.Needed.{MarksOf, Ready}
@@ -20,7 +20,7 @@ use Rattle.refusals.specs.inner.Parts.{seen, boundOf, fieldsFit, isFree,
 use Rattle.refusals.specs.inner.Needed.{MarksCountable, KnownKind, KnownStep, FittingStep}
 use Rattle.refusals.proofs.Marked.{nobody-absent, count-decides, arrived-seen, waiting-seen}
 use Rattle.refusals.proofs.Counting.{counting-begins, counting-next, counting-more, counting-ends, few-counted, records-to-come-are, product-fits, room-sum-fits, marks-decide-room}
-use Rattle.refusals.proofs.ByKind.{zero-unknown, last-decides, words-fit, words-bound, locks-bound, no-bound, value-used, object-absent, any-value, no-value, word-there, lock-there, page-of-word, counted-of-write, dirty-takes-stores, no-interval-left, no-room-left, write-has-space, write-has-ample-space, holder-asks, other-asks, holder-releases, not-the-holder, write-of-kind, lock-of-acquire, lock-of-release, write-decides, acquire-decides, release-decides, other-kinds-pass}
+use Rattle.refusals.proofs.ByKind.{zero-unknown, first-known, eight-known, last-decides, words-fit, words-bound, locks-bound, no-bound, tally-bound, write-uses, value-used, object-absent, any-value, no-value, word-there, lock-there, page-of-word, counted-of-write, dirty-takes-stores, no-interval-left, no-room-left, write-has-space, write-has-ample-space, holder-asks, other-asks, holder-releases, not-the-holder, write-of-kind, lock-of-acquire, lock-of-release, write-decides, acquire-decides, release-decides, other-kinds-pass}
 use Rattle.refusals.proofs.Fitting.{flags-fit, object-bound-there, value-bound-there, fields-flagged, processor-place, arrived-place-there, awaited-place-there, marks-flagged, processor-flagged, fits-by-flags, bounds-long}
 
 -- ---- the rows 5, 6 and 17
@@ -101,20 +101,20 @@ module _ (m : List ℕ) (k p o v : ℕ) (b : Bool) (is : b ≡ knownKind k) wher
 
   -- what the rows from 4 on ask for
   pub kind-known : MarksCountable m → not b ≡ false → KnownKind m k
-  kind-known h t = let both = known-says k (sym is ∙ not-false b t) in record { counted = h; first = both .0; last = both .1 }
+  kind-known h t = record { counted = h; known = sym is ∙ not-false b t }
 
 -- ---- the whole table
 
 module _ (s : State) (k p o v : ℕ) where
-  module _ (known : (1 ≤ k) × (k ≤ 6)) where
+  module _ (known : knownKind k ≡ true) where
     fits-in-parts : fits mainframe s (stepOf k p o v) ≡ fieldsFit s k o v
     unfolding fits objectBound actionOf stepOf fieldsFit boundOf
     fits-in-parts =
-        by-kind (λ j. (ltb o (objectBound mainframe s (actionOf (stepOf j p o v))) && (usesValue j || eqb v 0)) ≡ fieldsFit s j o v) refl refl refl refl refl refl k (known .0) (known .1)
+        by-kind (λ j. (ltb o (objectBound mainframe s (actionOf (stepOf j p o v))) && (usesValue j || eqb v 0)) ≡ fieldsFit s j o v) refl refl refl refl refl refl refl refl k known
 
     late-in-parts : (n : ℕ) → lateRefusal mainframe s n p (actionOf (stepOf k p o v)) ≡ refusalOfKind s n k p o
     unfolding lateRefusal actionOf stepOf refusalOfKind
-    late-in-parts n = by-kind (λ j. lateRefusal mainframe s n p (actionOf (stepOf j p o v)) ≡ refusalOfKind s n j p o) refl refl refl refl refl refl k (known .0) (known .1)
+    late-in-parts n = by-kind (λ j. lateRefusal mainframe s n p (actionOf (stepOf j p o v)) ≡ refusalOfKind s n j p o) refl refl refl refl refl refl refl refl k known
 
     known-in-parts : (n : ℕ) → refusalBy mainframe s n (stepOf k p o v)
         ≡ cond (not (knownKind k)) 3 (cond (not (present s p)) 4 (cond (not (fieldsFit s k o v)) 5 (cond (hasArrived s p) 6 (cond (waits (s .marks) p) 17 (refusalOfKind s n k p o)))))
@@ -141,7 +141,7 @@ module _ (s : State) (k p o v : ℕ) where
           ≡ cond (knownKind k && fieldsFit s k o v && (present s p && (not (hasArrived s p) && not (waits (s .marks) p)))) (refusalOfKind s n k p o)
           (cond (not (knownKind k)) 3 (cond (not (present s p)) 4 (cond (not (fieldsFit s k o v)) 5 (cond (hasArrived s p) 6 (cond (waits (s .marks) p) 17 0)))))
       go false e = rw e
-      go true e = known-in-parts (known-says k e) n ∙ rw e (cases (present s p) (fieldsFit s k o v) (hasArrived s p) (waits (s .marks) p) (refusalOfKind s n k p o))
+      go true e = known-in-parts e n ∙ rw e (cases (present s p) (fieldsFit s k o v) (hasArrived s p) (waits (s .marks) p) (refusalOfKind s n k p o))
 
   -- a step fits where no row up to 17 refuses it
   pub early-passes : earlyRefusal s k p o v ≡ 0 → stepFits s k p o v ≡ true
@@ -226,6 +226,8 @@ module _ (c w r m : List ℕ) where
   bound-by-marks (Release l) = refl
   bound-by-marks Arrive = refl
   bound-by-marks Want = refl
+  bound-by-marks (TallyAdd t v) = refl
+  bound-by-marks (TallyRead t) = refl
   bound-by-marks Unknown = refl
 
   -- the rows 7 to 10 too
@@ -237,6 +239,8 @@ module _ (c w r m : List ℕ) where
   late-by-marks n p (Release l) = refl
   late-by-marks n p Arrive = refl
   late-by-marks n p Want = refl
+  late-by-marks n p (TallyAdd t v) = refl
+  late-by-marks n p (TallyRead t) = refl
   late-by-marks n p Unknown = refl
 
   -- the rows 3, 4, 6 and 17 too
@@ -261,4 +265,4 @@ module _ (c w r m : List ℕ) where
   unfolding refusalInOrder
   table-decides t n x e i = e ∙ sym (table-by-marks t n) ∙ ap (λ (j : ℕ). refusalBy mainframe (stateIn mainframe c w r m) j t) i
 
-pub ruleset refusal-laws = (nobody-absent, count-decides, counting-begins, counting-next, counting-more, counting-ends, few-counted, records-to-come-are, product-fits, room-sum-fits, marks-decide-room, zero-unknown, last-decides, words-fit, words-bound, locks-bound, no-bound, value-used, object-absent, any-value, no-value, page-of-word, counted-of-write, dirty-takes-stores, no-interval-left, no-room-left, write-has-space, write-has-ample-space, holder-asks, other-asks, holder-releases, not-the-holder, write-of-kind, lock-of-acquire, lock-of-release, write-decides, acquire-decides, release-decides, other-kinds-pass, kind-of-step, marks-of-step, fields-refused, arrived-refused, waiter-refused, fields-pass, processor-refused, fields-decide, counted-of-kind, step-known, kind-refused, known-decides, kind-known, early-decides, step-fits, kind-decides, flags-fit, object-bound-there, value-bound-there, fields-flagged, processor-place, arrived-place-there, awaited-place-there, marks-flagged, processor-flagged, fits-by-flags, bounds-long, needs)
+pub ruleset refusal-laws = (nobody-absent, count-decides, counting-begins, counting-next, counting-more, counting-ends, few-counted, records-to-come-are, product-fits, room-sum-fits, marks-decide-room, zero-unknown, first-known, eight-known, last-decides, words-fit, words-bound, locks-bound, no-bound, tally-bound, write-uses, value-used, object-absent, any-value, no-value, page-of-word, counted-of-write, dirty-takes-stores, no-interval-left, no-room-left, write-has-space, write-has-ample-space, holder-asks, other-asks, holder-releases, not-the-holder, write-of-kind, lock-of-acquire, lock-of-release, write-decides, acquire-decides, release-decides, other-kinds-pass, kind-of-step, marks-of-step, fields-refused, arrived-refused, waiter-refused, fields-pass, processor-refused, fields-decide, counted-of-kind, step-known, kind-refused, known-decides, kind-known, early-decides, step-fits, kind-decides, flags-fit, object-bound-there, value-bound-there, fields-flagged, processor-place, arrived-place-there, awaited-place-there, marks-flagged, processor-flagged, fits-by-flags, bounds-long, needs)

@@ -36,6 +36,7 @@ use limits::LAST_INTERVAL;
 use limits::PAGE_WIDTH;
 use limits::PROCESSOR_LIMIT;
 use limits::RECORD_LIMIT;
+use limits::TALLY_LIMIT;
 
 // Whether no row from 3 to 6 refuses a step, nor 17, as one test: by the bounds of the kinds, flags multiplied.
 pub fn fits(
@@ -117,7 +118,13 @@ fn is_known(kind: u32) -> bool
     if kind == 0 {
         return false;
     }
-    kind <= 6
+    if kind <= 6 {
+        return true;
+    }
+    if kind == 8 {
+        return true;
+    }
+    kind == 9
 }
 
 // Rows 4 to 6 and 17, for a known kind.
@@ -173,7 +180,7 @@ fn fields_fit(kind: u32, object: usize, value: u32, marks: &[u8]) -> bool
     value == 0
 }
 
-// Of row 5: the words for a read or write, the locks for an acquire or release, and 1 where no object is used.
+// Of row 5: the words for a read or write, the locks for an acquire or release, the tallies for an add or a read of one, and 1 where no object is used.
 fn object_bound(kind: u32, marks: &[u8]) -> usize
     requires { ⌜ KnownKind (now marks) kind ⌝ }
     ensures { λ r. ⌜ r ≡ boundOf (seen (now (marks .entry))) kind ⌝ }
@@ -184,14 +191,20 @@ fn object_bound(kind: u32, marks: &[u8]) -> usize
     if kind <= 4 {
         return lock_count(marks);
     }
-    1
+    if kind <= 6 {
+        return 1;
+    }
+    TALLY_LIMIT
 }
 
 // Of row 5: whether a kind uses its value.
 fn uses_value(kind: u32) -> bool
     ensures { λ r. ⌜ r ≡ usesValue kind ⌝ }
 {
-    kind == 2
+    if kind == 2 {
+        return true;
+    }
+    kind == 8
 }
 
 // The number of the row from 7 to 10 that refuses a step that fits, or 0: each row for its kind.

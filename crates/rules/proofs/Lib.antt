@@ -5,6 +5,8 @@ pub mod StrictOrder
 pub mod WaitsItsTurn
 pub mod WaitingCases
 pub mod StoresNoted
+pub mod TallyReads
+pub mod TallyCases
 pub mod Fetching
 pub mod DemandThree
 pub mod Cases

@@ -8,7 +8,7 @@ use lib.ListN.{replicate, set}
 use Rattle.lists.specs.Tables.{putCell}
 use Rattle.clock.specs.Clocks.{covered}
 use Rattle.diff.specs.Reading.{mostRuns, pairHolds, orderly, pairsRefusal, readRefusal}
-use Rattle.rules.specs.State.{Limits, Holder, Processor, Applied, Interval, withClock, slotBytes, laidOver, State, withClocks, withPages, withRecords, withMarks, withLines}
+use Rattle.rules.specs.State.{Limits, Holder, Processor, Applied, Interval, withClock, slotBytes, laidOver, State, withClocks, withPages, withRecords, withMarks, withLines, withShared}
 use Rattle.rules.specs.InOrder.{everyProcessor, everyPage, everyHolder, slotSize, rowsSized, sized, inRange, countsInRange, presentHolder, allZero, absentZero, laterIntervalsZero, entriesKnown, appliedKnown, recordAt, diffLegal, recordSound, sameNotice, recordsSound, roomKept, dirtyHaveInterval, holdersPresent, someoneMissing, standBefore, waiterSound, apartInLine, linesSound, inOrder}
 use Rattle.rules.specs.Opening.{opened}
 use Rattle.rules.specs.Refusals.{stepOf, refusedAs, answer}
@@ -18,14 +18,14 @@ use Rattle.rules.proofs.runs.Listing.{start}
 -- limits of two of each, and pages of one word; two processors, one page and one lock are opened
 unfoldable pub twoOfEach : Limits
 unfolding start covered mostRuns pairHolds orderly pairsRefusal readRefusal everyProcessor everyPage everyHolder rowsSized sized inRange countsInRange presentHolder allZero absentZero laterIntervalsZero entriesKnown appliedKnown recordAt diffLegal recordSound sameNotice recordsSound roomKept dirtyHaveInterval holdersPresent someoneMissing standBefore waiterSound apartInLine linesSound inOrder orderTests waiterTests lineTests
-twoOfEach = record { processors = 2; pages = 2; words = 1; locks = 2; records = 2; intervals = 2 }
+twoOfEach = record { processors = 2; pages = 2; words = 1; locks = 2; records = 2; intervals = 2; tallies = 1 }
 
 unfoldable pub plain : State
 plain = opened twoOfEach (record { processors = 2; pages = 1; locks = 1 })
 
 -- limits of three processors, with all three or two of them opened
 unfoldable pub threeOfEach : Limits
-threeOfEach = record { processors = 3; pages = 1; words = 1; locks = 2; records = 1; intervals = 1 }
+threeOfEach = record { processors = 3; pages = 1; words = 1; locks = 2; records = 1; intervals = 1; tallies = 1 }
 
 unfoldable pub threeOpened : State
 threeOpened = opened threeOfEach (record { processors = 3; pages = 1; locks = 1 })
@@ -88,7 +88,7 @@ pub record OutOfOrder : Type 0 where
   -- "its size is the fixed one": one holder too few
   pub size : BreaksOnly 0 (marked plain (0 ∷ []) (0 ∷ 0 ∷ 0 ∷ []))
   -- "counts of cards, pages and locks are in range": three pages
-  pub counts : BreaksOnly 1 (record { counts = record { processors = 2; pages = 3; locks = 1 }; clocks = plain .clocks; pages = plain .pages; records = plain .records; marks = plain .marks })
+  pub counts : BreaksOnly 1 (record { counts = record { processors = 2; pages = 3; locks = 1 }; clocks = plain .clocks; pages = plain .pages; records = plain .records; marks = plain .marks; shared = plain .shared })
   -- "entries, words, marks and holders for absent cards, pages and locks are 0": a word of page 1
   pub absent : BreaksOnly 2 (withPages plain (record { copies = putCell [] (plain .pages .copies) 1 1 (7 ∷ []); twins = plain .pages .twins; dirty = plain .pages .dirty }))
   -- "the clock kept for an interval above its card's own entry is zeros": 1 has made none
@@ -122,6 +122,8 @@ pub record OutOfOrder : Type 0 where
   -- L1, "only present cards in lines": of limits of three, processor 3 is absent and waits, or has a turn
   pub absent-waits : Breaks threeOfEach 2 (queued (marked twoOpened (1 ∷ 0 ∷ []) (0 ∷ 0 ∷ 0 ∷ 0 ∷ [])) (0 ∷ 0 ∷ 0 ∷ 1 ∷ []) (0 ∷ 0 ∷ 0 ∷ 0 ∷ []))
   pub absent-turn : Breaks threeOfEach 2 (queued twoOpened (0 ∷ 0 ∷ 0 ∷ 0 ∷ []) (0 ∷ 0 ∷ 0 ∷ 1 ∷ []))
+  -- L4: processor 3 is absent and has added to a tally
+  pub absent-adds : Breaks threeOfEach 2 (withShared twoOpened (record { posted = 0 ∷ []; adds = [] ∷ (0 ∷ []) ∷ (0 ∷ []) ∷ (7 ∷ []) ∷ [] }))
   -- a line at a present lock, which is held, in which 2 and 3 stand one behind the other, is in order
   pub line-in-order : inOrder threeOfEach (queued (marked threeOpened (1 ∷ 0 ∷ []) (0 ∷ 0 ∷ 0 ∷ 0 ∷ [])) (0 ∷ 0 ∷ 1 ∷ 1 ∷ []) (0 ∷ 7 ∷ 1 ∷ 0 ∷ [])) ≡ true
   -- 2 waits for an absent lock
@@ -163,6 +165,7 @@ each-condition-counts =
       all-arrived = record { out = refl; alone = refl };
       absent-waits = record { out = refl; alone = refl };
       absent-turn = record { out = refl; alone = refl };
+      absent-adds = record { out = refl; alone = refl };
       line-in-order = refl;
       absent-lock = record { by-lines = record { out = refl; alone = refl }; alone = refl };
       free-lock = record { by-line = record { by-lines = record { out = refl; alone = refl }; alone = refl }; alone = refl };

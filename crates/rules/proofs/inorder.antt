@@ -18,6 +18,7 @@ pub mod KeptRecords
 pub mod KeptNewRecords
 pub mod KeptPages
 pub mod KeptClose
+pub mod KeptShared
 pub mod KeptFetch
 pub mod KeptLocks
 pub mod KeptBarrier

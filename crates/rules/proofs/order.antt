@@ -10,6 +10,7 @@ pub mod Turns
 pub mod Allowed
 pub mod Grants
 pub mod Rounds
+pub mod TalliesAfter
 pub mod NumbersAfter
 pub mod Numbers
 pub mod Carrying

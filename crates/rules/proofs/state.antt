@@ -1,4 +1,4 @@
--- laws on clocks by holder, slots, copies, lists of fetches, and lines of waiters
+-- laws on clocks by holder, slots, copies, lists of fetches, lines of waiters, and sums that wrap
 pub mod Holders
 pub mod Slots
 pub mod CopyWords
@@ -7,3 +7,4 @@ pub mod Lines
 pub mod Waiters
 pub mod LineOf
 pub mod Outlines
+pub mod WrappedSums

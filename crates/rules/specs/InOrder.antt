@@ -64,6 +64,8 @@ sized lim s =
     && eqb (length (s .marks .arrived)) (suc (lim .processors))
     && eqb (length (s .marks .awaited)) (suc (lim .processors))
     && eqb (length (s .marks .turns)) (suc (lim .processors))
+    && eqb (length (s .shared .posted)) (lim .tallies)
+    && rowsSized lim (lim .tallies) (s .shared .adds)
 
 -- ---- "counts of cards, pages and locks are in range"
 
@@ -91,7 +93,7 @@ allZero [] = true
 allZero (x ∷ l) = eqb x 0 && allZero l
 
 -- clocks of absent holders and entries of absent processors; words (of copies and of twins) and dirty marks of absent pages; arrived marks;
--- holders; the marks of waiting ("only present cards in lines")
+-- holders; the marks of waiting ("only present cards in lines"); the words that hold adds to tallies
 unfoldable pub absentZero : Limits → State → Bool
 absentZero lim s =
     everyHolder lim (λ h. presentHolder s h || allZero (clockOf (s .clocks) h))
@@ -103,6 +105,7 @@ absentZero lim s =
     && every (lim .locks) (λ l. presentHolder s (Lock l) || eqb (holder s l) 0)
     && everyProcessor lim (λ p. present s p || not (waits (s .marks) p))
     && everyProcessor lim (λ p. present s p || eqb (turnOf (s .marks) p) 0)
+    && everyProcessor lim (λ p. present s p || allZero (getD (s .shared .adds) p []))
 
 -- ---- "the clock kept for an interval above its card's own entry is zeros"
 

@@ -1,5 +1,6 @@
 pub mod State
 pub mod Lines
+pub mod Tallies
 pub mod InOrder
 pub mod Opening
 pub mod Close

@@ -5,7 +5,7 @@ use mathlib.Core.List.{List, [], _∷_}
 use lib.ListN.{replicate}
 use lib.Dec.{eqb}
 use Rattle.clock.specs.Clocks.{zeros}
-use Rattle.rules.specs.State.{Limits, Counts, Clocks, Pages, Marks, State}
+use Rattle.rules.specs.State.{Limits, Counts, Clocks, Pages, Marks, Shared, State}
 use Rattle.rules.specs.InOrder.{slotSize, countsInRange}
 
 -- "The opening record holds 0, cards, pages, locks, four zeros": its first byte, the counts, and the number that bytes 4 to 7 make
@@ -53,6 +53,10 @@ zeroMarks lim =
       turns = replicate (suc (lim .processors)) 0;
     }
 
+-- nothing is posted or added
+unfoldable pub zeroShared : Limits → Shared
+zeroShared lim = record { posted = replicate (lim .tallies) 0; adds = rows (lim .processors) (replicate (lim .tallies) 0) }
+
 -- the state that an accepted opening leaves
 unfoldable pub opened : Limits → Counts → State
 opened lim c =
@@ -62,4 +66,5 @@ opened lim c =
       pages = zeroPages lim;
       records = record { standing = 0; slots = replicate (lim .records) (replicate (slotSize lim) 0) };
       marks = zeroMarks lim;
+      shared = zeroShared lim;
     }

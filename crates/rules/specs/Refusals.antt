@@ -5,7 +5,7 @@ use lib.Dec.{leb, ltb, eqb}
 use Rattle.rules.specs.State.{Limits, dirtyAt, State, own, holder, hasArrived}
 use Rattle.rules.specs.Lines.{waits}
 use Rattle.rules.specs.InOrder.{present, dirtyPages, inOrder}
-use Rattle.rules.specs.Steps.{Effect, pageOfWord, read, write, acquire, release, arrive, want}
+use Rattle.rules.specs.Steps.{Effect, pageOfWord, read, write, acquire, release, arrive, want, tallyAdd, tallyRead}
 
 -- a step's four fields, any numbers: kind, processor, object (a word or a lock) and value
 pub record Step : Type 0 where
@@ -26,6 +26,8 @@ pub data Action : Type 0 where
   Release : ℕ → Action
   Arrive : Action
   Want : Action
+  TallyAdd : ℕ → ℕ → Action
+  TallyRead : ℕ → Action
   Unknown : Action
 
 -- what a step asks for, by its kind
@@ -37,11 +39,13 @@ actionOf t =
     (cond (eqb (t .kind) 4) (Release (t .object))
     (cond (eqb (t .kind) 5) Arrive
     (cond (eqb (t .kind) 6) Want
-    Unknown)))))
+    (cond (eqb (t .kind) 8) (TallyAdd (t .object) (t .value))
+    (cond (eqb (t .kind) 9) (TallyRead (t .object))
+    Unknown)))))))
 
--- 3: "kind not 1 to 6"
+-- 3: "kind not 1 to 6"; L4: "kinds 8 and 9 leave the reach of 3"
 unfoldable pub knownKind : ℕ → Bool
-knownKind kind = leb 1 kind && leb kind 6
+knownKind kind = (leb 1 kind && leb kind 6) || eqb kind 8 || eqb kind 9
 
 -- the fields of a kind, a row a kind: the object is below this number, which is 1 where no object is used
 unfoldable pub objectBound : Limits → State → Action → ℕ
@@ -51,13 +55,15 @@ objectBound lim s (Acquire l) = s .counts .locks
 objectBound lim s (Release l) = s .counts .locks
 objectBound lim s Arrive = 1
 objectBound lim s Want = 1
+objectBound lim s (TallyAdd t v) = lim .tallies
+objectBound lim s (TallyRead t) = lim .tallies
 objectBound lim s Unknown = 1
 
--- "value is used by kind 2 alone"
+-- "value is used by kind 2 alone", and by L4's kind 8
 unfoldable pub usesValue : ℕ → Bool
-usesValue kind = eqb kind 2
+usesValue kind = eqb kind 2 || eqb kind 8
 
--- 5: "word or lock absent, or an unused field not 0"
+-- 5: "word or lock absent, or an unused field not 0"; L4: "an absent tally is 5"
 unfoldable pub fits : Limits → State → Step → Bool
 fits lim s t = ltb (t .object) (objectBound lim s (actionOf t)) && (usesValue (t .kind) || eqb (t .value) 0)
 
@@ -74,6 +80,8 @@ lateRefusal lim s e p (Acquire l) = cond (eqb (holder s l) p) 7 0
 lateRefusal lim s e p (Release l) = cond (eqb (holder s l) p) 0 8
 lateRefusal lim s e p Arrive = 0
 lateRefusal lim s e p Want = 0
+lateRefusal lim s e p (TallyAdd t v) = 0
+lateRefusal lim s e p (TallyRead t) = 0
 lateRefusal lim s e p Unknown = 0
 
 -- the rows 3 to 10, for a state in order whose processor has the own entry e; 6: "card has arrived, round not complete"; L1: "17, a step by a
@@ -99,6 +107,8 @@ effect lim s p (Acquire l) = record { after = acquire s p l; value = 0; count = 
 effect lim s p (Release l) = record { after = release s p l; value = 0; count = 0 }
 effect lim s p Arrive = record { after = arrive lim s p .after; value = 0; count = arrive lim s p .count }
 effect lim s p Want = record { after = want s; value = 0; count = 0 }
+effect lim s p (TallyAdd t v) = record { after = tallyAdd s p t v; value = 0; count = 0 }
+effect lim s p (TallyRead t) = tallyRead s p t
 effect lim s p Unknown = record { after = s; value = 0; count = 0 }
 
 -- what a step answers

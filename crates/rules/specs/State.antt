@@ -6,10 +6,10 @@ use mathlib.Core.List.{List, [], _∷_, _++_, map}
 use lib.ListN.{length, getD, take, drop}
 use lib.Dec.{eqb}
 use Rattle.lists.specs.Tables.{put, cell, putCell}
-use Rattle.limits.specs.Limits.{processorLimit, pageLimit, pageWidth, lockLimit, recordLimit, intervalLimit, slotHead}
+use Rattle.limits.specs.Limits.{processorLimit, pageLimit, pageWidth, lockLimit, recordLimit, intervalLimit, tallyLimit, slotHead}
 use Rattle.clock.specs.Clocks.{entryOf}
 
--- how many processors, pages, words of a page, locks, records and intervals of a processor there can be
+-- how many processors, pages, words of a page, locks, records, intervals of a processor and tallies there can be
 pub record Limits : Type 0 where
   pub processors : ℕ
   pub pages : ℕ
@@ -17,11 +17,20 @@ pub record Limits : Type 0 where
   pub locks : ℕ
   pub records : ℕ
   pub intervals : ℕ
+  pub tallies : ℕ
 
--- those of document 01
+-- those of document 01, with document 02's tallies
 unfoldable pub mainframe : Limits
 mainframe =
-    record { processors = processorLimit; pages = pageLimit; words = pageWidth; locks = lockLimit; records = recordLimit; intervals = intervalLimit }
+    record {
+      processors = processorLimit;
+      pages = pageLimit;
+      words = pageWidth;
+      locks = lockLimit;
+      records = recordLimit;
+      intervals = intervalLimit;
+      tallies = tallyLimit;
+    }
 
 -- how many processors, pages and locks the opening gave: the others are absent
 pub record Counts : Type 0 where
@@ -148,28 +157,47 @@ withHolder m l p = record { holders = put 0 (m .holders) l p; arrived = m .arriv
 abbrev pub withLines : Marks → List ℕ → List ℕ → Marks
 withLines m a t = record { holders = m .holders; arrived = m .arrived; wanted = m .wanted; awaited = a; turns = t }
 
+-- what the processors share beside the pages. The tallies (document 02, L4): of each "the total posted at the last completed round", and the adds of
+-- each processor since
+pub record Shared : Type 0 where
+  pub posted : List ℕ
+  pub adds : List (List ℕ)
+
+-- the posted total of a tally
+unfoldable pub postedOf : Shared → ℕ → ℕ
+postedOf h t = getD (h .posted) t 0
+
+-- what a processor has added to it since
+unfoldable pub addsOf : Shared → ℕ → ℕ → ℕ
+addsOf h p t = cell 0 (h .adds) p t
+
 pub record State : Type 0 where
   pub counts : Counts
   pub clocks : Clocks
   pub pages : Pages
   pub records : Records
   pub marks : Marks
+  pub shared : Shared
 
 -- the state with other clocks, the rest kept
 abbrev pub withClocks : State → Clocks → State
-withClocks s c = record { counts = s .counts; clocks = c; pages = s .pages; records = s .records; marks = s .marks }
+withClocks s c = record { counts = s .counts; clocks = c; pages = s .pages; records = s .records; marks = s .marks; shared = s .shared }
 
 -- with other pages
 abbrev pub withPages : State → Pages → State
-withPages s m = record { counts = s .counts; clocks = s .clocks; pages = m; records = s .records; marks = s .marks }
+withPages s m = record { counts = s .counts; clocks = s .clocks; pages = m; records = s .records; marks = s .marks; shared = s .shared }
 
 -- with other records
 abbrev pub withRecords : State → Records → State
-withRecords s r = record { counts = s .counts; clocks = s .clocks; pages = s .pages; records = r; marks = s .marks }
+withRecords s r = record { counts = s .counts; clocks = s .clocks; pages = s .pages; records = r; marks = s .marks; shared = s .shared }
 
 -- with other marks
 abbrev pub withMarks : State → Marks → State
-withMarks s m = record { counts = s .counts; clocks = s .clocks; pages = s .pages; records = s .records; marks = m }
+withMarks s m = record { counts = s .counts; clocks = s .clocks; pages = s .pages; records = s .records; marks = m; shared = s .shared }
+
+-- with other shared values
+abbrev pub withShared : State → Shared → State
+withShared s h = record { counts = s .counts; clocks = s .clocks; pages = s .pages; records = s .records; marks = s .marks; shared = h }
 
 -- the clock of a processor, and "own entry": the entry for itself in it
 unfoldable pub clock : State → ℕ → List ℕ

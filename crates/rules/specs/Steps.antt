@@ -6,10 +6,11 @@ use lib.ListN.{getD, set}
 use lib.Dec.{eqb}
 use Rattle.lists.specs.Tables.{put, putCell, every}
 use Rattle.clock.specs.Clocks.{joined}
-use Rattle.rules.specs.State.{Limits, Holder, Processor, Lock, Barrier, Clocks, clockOf, withClock, cleared, Pages, copyOf, dirtyAt, withArrived, withWanted, State, withClocks, withPages, withRecords, withMarks, holder, hasArrived}
+use Rattle.rules.specs.State.{Limits, Holder, Processor, Lock, Barrier, Clocks, clockOf, withClock, cleared, Pages, copyOf, dirtyAt, withArrived, withWanted, State, withClocks, withPages, withRecords, withMarks, withShared, holder, hasArrived}
 use Rattle.rules.specs.Lines.{firstInLine, lockAsked, lockHanded}
 use Rattle.rules.specs.Close.{closed}
 use Rattle.rules.specs.Fetch.{withCopy, fetched, fetchCount}
+use Rattle.rules.specs.Tallies.{tallyAdded, tallyTotal, posting}
 
 -- what an accepted step leaves and answers. "Only a read has a value other than 0. Where no count is named it is 0"
 pub record Effect : Type 0 where
@@ -109,11 +110,12 @@ unfoldable pub allLearned : Clocks → ℕ → Clocks
 allLearned c zero = c
 allLearned c (suc k) = learned (allLearned c k) (Processor (suc k)) Barrier
 
--- "each card's clock joins the barrier's, which returns to zeros, and marks clear"
+-- "each card's clock joins the barrier's, which returns to zeros, and marks clear"; L4: the adds of the round are posted
 unfoldable pub roundDone : State → State
 roundDone s =
     let s₁ = withClocks s (withClock (allLearned (s .clocks) (s .counts .processors)) Barrier (cleared (s .clocks .barrier))) in
-    withMarks s₁ (withArrived (s .marks) (map (λ mark. 0) (s .marks .arrived)))
+    let s₂ = withMarks s₁ (withArrived (s .marks) (map (λ mark. 0) (s .marks .arrived))) in
+    withShared s₂ (posting (s .shared) (s .counts .processors))
 
 -- fetches of several pages, and the sum of their counts
 pub record Fetches : Type 0 where
@@ -176,3 +178,11 @@ arrive lim s p =
 -- the wish is set, and stays as it is if it was
 unfoldable pub want : State → State
 want s = withMarks s (withWanted (s .marks) (cond (wantsCollection s) (s .marks .wanted) 1))
+
+-- ---- 8 and 9: tallies (L4). "Tallies order nothing among ordinary words": nothing is closed and nothing fetched
+
+abbrev pub tallyAdd : State → ℕ → ℕ → ℕ → State
+tallyAdd s p t v = withShared s (tallyAdded (s .shared) p t v)
+
+abbrev pub tallyRead : State → ℕ → ℕ → Effect
+tallyRead s p t = record { after = s; value = tallyTotal (s .shared) p t; count = 0 }

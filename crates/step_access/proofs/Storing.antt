@@ -4,21 +4,22 @@ use native.Mathlib.Omega.{arith}
 use native.Mathlib.Decide.{decLt}
 use mathlib.Core.Path.{_≡_, sym, ap, _∙_}
 use mathlib.Core.Bool.{Bool, true, false, cond, not}
-use mathlib.Core.List.{List, []}
+use mathlib.Core.List.{List, [], _∷_}
 use lib.ListN.{length, getD, set, length-set}
 use lib.Seq.{getD-set-other, ext-getD, sets, length-sets}
 use lib.Dec.{eqb}
 use borrow.Author.Needs.{needs}
 use Rattle.lists.specs.Tables.{putCell}
 use Rattle.limits.specs.Limits.{pageLimit, pageWidth}
-use Rattle.limits.specs.inner.Sizes.{wordArea, wordRowLimit}
-use Rattle.rules.specs.State.{mainframe, Pages, copyOf, dirtyAt, State, withPages}
+use Rattle.limits.specs.inner.Sizes.{wordArea, wordRowLimit, firstTally}
+use Rattle.rules.specs.State.{mainframe, Pages, copyOf, dirtyAt, State, withPages, withShared}
 use Rattle.rules.specs.Steps.{pageOfWord, offsetOfWord, newTwin, twinTaken, stored}
-use Rattle.layout.specs.Areas.{copyRow, twinRow, dirtyPlace, pagesIn, stateIn}
+use Rattle.layout.specs.Areas.{copyRow, twinRow, dirtyPlace, pagesIn, stateIn, sharedIn}
 use Rattle.layout.specs.Layout.{rowOf}
 use Rattle.layout.specs.inner.Marks.{dirtyMark}
 use Rattle.layout.specs.inner.Needed.{RowThere, OnPage, PageMark, PageThere}
 use Rattle.layout.proofs.MarkLaws.{dirty-mark-written}
+use Rattle.layout.proofs.TallyLaws.{twin-row-before, shared-beside}
 use Rattle.layout.proofs.PageLaws.{copy-row-there, copy-read, dirty-read, copy-written, twin-written}
 use Rattle.layout.proofs.RowLaws.{length-row, get-row}
 use Rattle.layout.proofs.Stores.{get-sets-before, get-sets-behind, get-sets-same, get-set, eqb-iff}
@@ -121,10 +122,18 @@ module _ (w m : List ℕ) (p g : ℕ) (there : PageThere w m p g) where
               λ c r.
               ap (stateIn mainframe c w′ r) em
               ∙ dirty-mark-written c w′ r m 1 (there .marks) p g (there .from) (there .to) (there .page)
-              ∙ ap (λ (x : Pages). withPages (stateIn mainframe c w r m) (record { copies = x .copies; twins = x .twins; dirty = putCell 0 (x .dirty) p g 1 })) laid
+              ∙ (λ i. withShared (withPages (stateIn mainframe c w r m) (record { copies = laid i .copies; twins = laid i .twins; dirty = putCell 0 (laid i .dirty) p g 1 })) (tallies i))
               ∙ twinned-clean (stateIn mainframe c w r m) p g (dirty-is c r ∙ sym is ∙ h);
         }
       where
+        wide : length (rowOf pageWidth w (copyRow mainframe p g)) ≡ pageWidth
+        wide = length-row pageWidth w (copyRow mainframe p g) (omega (arith, copy-row-there p g (there .from) (there .to) (there .page), there .words))
+
+        tallies : sharedIn mainframe w′ ≡ sharedIn mainframe w
+        tallies =
+            rw (e, et, ef)
+            (shared-beside w (rowOf pageWidth w (copyRow mainframe p g)) (pageWidth * twinRow mainframe p g) (omega (arith, wide, twin-row-before p g (there .from) (there .to) (there .page))))
+
         laid : pagesIn mainframe w′ m
             ≡ record {
               copies = pagesIn mainframe w m .copies;
@@ -133,11 +142,14 @@ module _ (w m : List ℕ) (p g : ℕ) (there : PageThere w m p g) where
             }
         laid =
             rw (copy-read w m p g (there .from) (there .to) (there .page), e, et, ef)
-            (twin-written w m (rowOf pageWidth w (copyRow mainframe p g)) p g (there .words)
-            (length-row pageWidth w (copyRow mainframe p g) (omega (arith, copy-row-there p g (there .from) (there .to) (there .page), there .words))) (there .from)
-            (there .to) (there .page))
+            (twin-written w m (rowOf pageWidth w (copyRow mainframe p g)) p g (there .words) wide (there .from) (there .to) (there .page))
 
 -- ---- the store
+
+-- a word of a copy lies before the tallies
+word-before : (p a : ℕ) → OnWord p a → wordPlace p a + 1 ≤ firstTally
+unfolding wordPlace copyRow mainframe
+word-before p a h = omega (arith, h .from, h .to, h .word)
 
 copy-stored : (w m w′ : List ℕ) (p a v : ℕ) → length w ≡ wordArea → OnWord p a → w′ ≡ set w (wordPlace p a) v → v < 4294967296
     → pagesIn mainframe w′ m ≡ stored mainframe (pagesIn mainframe w m) p a v
@@ -162,6 +174,9 @@ module _ (w m : List ℕ) (p a : ℕ) (there : WordThere w m p a) where
   pub word-in : (w₁ m₁ : List ℕ) → TwinTaken w m w₁ m₁ p (a / pageWidth) → WordIn w₁ p a
   word-in w₁ m₁ t = record { words = t .words; on-word = there .on-word }
 
+  tallies-kept : (w₁ w₂ : List ℕ) (v : ℕ) → w₂ ≡ set w₁ (wordPlace p a) v → sharedIn mainframe w₂ ≡ sharedIn mainframe w₁
+  tallies-kept w₁ w₂ v e = ap (sharedIn mainframe) e ∙ shared-beside w₁ (v ∷ []) (wordPlace p a) (word-before p a (there .on-word))
+
   -- twin, then store
   pub store-done : (w₁ m₁ w₂ : List ℕ) (v : ℕ) → TwinTaken w m w₁ m₁ p (a / pageWidth) → w₂ ≡ set w₁ (wordPlace p a) v → v < 4294967296 → Stored w m w₂ m₁ p a v
   unfolding twinned wordStored pageOfWord mainframe stateIn
@@ -171,7 +186,7 @@ module _ (w m : List ℕ) (p a : ℕ) (there : WordThere w m p a) where
         marks = t .marks;
         is =
             λ c r.
-            ap (λ (x : Pages). withPages (stateIn mainframe c w₁ r m₁) x) (copy-stored w₁ m₁ w₂ p a v (t .words) (there .on-word) e small)
+            (λ i. withShared (withPages (stateIn mainframe c w₁ r m₁) (copy-stored w₁ m₁ w₂ p a v (t .words) (there .on-word) e small i)) (tallies-kept w₁ w₂ v e i))
             ∙ ap (λ (s : State). withPages s (stored mainframe (s .pages) p a v)) (t .is c r);
       }
 

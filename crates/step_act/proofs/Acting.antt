@@ -3,12 +3,14 @@
 use Prim.Native.Nat.{ℕ, _*_, _≤_, _<_}
 use native.Mathlib.Omega.{arith}
 use mathlib.Core.Path.{_≡_, refl, sym, ap, _∙_}
+use mathlib.Core.Bool.{true}
+use mathlib.Core.Logic.{_⊎_, inl, inr}
 use mathlib.Core.List.{List}
 use lib.ListN.{length}
 use borrow.Author.Needs.{needs}
-use Rattle.limits.specs.Limits.{pageWidth}
+use Rattle.limits.specs.Limits.{pageWidth, processorLimit, tallyLimit}
 use Rattle.limits.specs.inner.Sizes.{markArea}
-use Rattle.rules.specs.Refusals.{stepOf, Action, Read, Write, Acquire, Release, Arrive, Want, actionOf, objectBound, effect}
+use Rattle.rules.specs.Refusals.{stepOf, Action, Read, Write, Acquire, Release, Arrive, Want, TallyAdd, TallyRead, actionOf, knownKind, objectBound, effect}
 use Rattle.rules.specs.State.{mainframe, State}
 use Rattle.rules.specs.Steps.{Effect, read, write, acquire, release, arrive}
 use Rattle.rules.proofs.inorder.Accepted.{Accepted, accepted-says, present-says, object-there, acquire-there, release-there}
@@ -16,7 +18,7 @@ use Rattle.rules.proofs.inorder.Kept.{effect-keeps-order}
 use Rattle.rules.proofs.order.Timeline.{effect-keeps-counts}
 use Rattle.rules.proofs.inorder.KindsOfSteps.{objectIn, known-says}
 use Rattle.rules.proofs.inorder.Standing.{StillStand, still-stand}
-use Rattle.layout.specs.Areas.{stateIn}
+use Rattle.layout.specs.Areas.{sharedIn, stateIn}
 use Rattle.layout.specs.inner.Needed.{Acts, Ready, Holds}
 use Rattle.fetch_index.proofs.Kept.{bounds-stay, kept-while-standing}
 use Rattle.step_collect.specs.inner.Effects.{CountedKept}
@@ -25,9 +27,12 @@ use Rattle.step_access.specs.inner.Needed.{ActsOnWord, AccessesKept}
 use Rattle.step_lock.specs.inner.Needed.{ActsOnLock}
 use Rattle.step_barrier.specs.inner.Effects.{Wanted}
 use Rattle.step_barrier.specs.inner.Needed.{ArrivesKept}
+use Rattle.rules.specs.Tallies.{tallyTotal}
+use Rattle.step_tally.specs.inner.Needed.{TallyIn}
+use Rattle.step_tally.specs.inner.Effects.{AddDone}
 use Rattle.step_act.specs.declared.Outcome.{Outcome}
 use Rattle.step_act.specs.declared.Outcome.the-variants.{Done}
-use Rattle.step_act.specs.inner.Needed.{Acting, ActingKept, Accessing, AccessingKept, Locking, Meeting, MeetingKept, DoneAs, DoneKept}
+use Rattle.step_act.specs.inner.Needed.{Acting, ActingKept, Accessing, AccessingKept, Locking, Meeting, MeetingKept, Tallying, DoneAs, DoneKept, Tallied}
 use Rattle.step_act.proofs.Telling.{done-tells}
 
 -- ---- the effect of an action that is known
@@ -54,13 +59,24 @@ module _ (c w r m : List ℕ) (k p o v : ℕ) (h : Acting c w r m k p o v) where
       let is = present-says (stateIn mainframe c w r m) p (accepted .processor-present) in
       record { lent = h .ready .lent; in-order = h .ready .in-order; from = is .0; to = is .1 }
 
-  kind-from : 1 ≤ k
+  kind-known : knownKind k ≡ true
   unfolding stepOf
-  kind-from = known-says k (accepted .known-kind) .0
+  kind-known = accepted .known-kind
 
-  kind-to : k ≤ 6
-  unfolding stepOf
-  kind-to = known-says k (accepted .known-kind) .1
+  kind-from : 1 ≤ k
+  kind-from = go (known-says k kind-known)
+    where
+      go : ((1 ≤ k) × (k ≤ 6)) ⊎ ((k ≡ 8) ⊎ (k ≡ 9)) → 1 ≤ k
+      go (inl e) = e .0
+      go (inr (inl e)) = omega (arith, e)
+      go (inr (inr e)) = omega (arith, e)
+
+  kind-tallies : 6 < k → (k ≡ 8) ⊎ (k ≡ 9)
+  kind-tallies l = go (known-says k kind-known)
+    where
+      go : ((1 ≤ k) × (k ≤ 6)) ⊎ ((k ≡ 8) ⊎ (k ≡ 9)) → (k ≡ 8) ⊎ (k ≡ 9)
+      go (inl e) = absurd (omega (arith, e .1))
+      go (inr e) = e
 
   on-word : o < stateIn mainframe c w r m .counts .pages * pageWidth → ActsOnWord c w r m p o
   on-word b = record { acts = acts; word = b }
@@ -93,6 +109,14 @@ module _ (k p o v : ℕ) where
   wants : k ≡ 6 → actionOf (stepOf k p o v) ≡ Want
   unfolding actionOf stepOf
   wants e = ap (λ (j : ℕ). actionOf (stepOf j p o v)) e
+
+  adds : k ≡ 8 → actionOf (stepOf k p o v) ≡ TallyAdd o v
+  unfolding actionOf stepOf
+  adds e = ap (λ (j : ℕ). actionOf (stepOf j p o v)) e
+
+  totals : k ≡ 9 → actionOf (stepOf k p o v) ≡ TallyRead o
+  unfolding actionOf stepOf
+  totals e = ap (λ (j : ℕ). actionOf (stepOf j p o v)) e
 
 effect-by : (s : State) (p : ℕ) (a b : Action) → a ≡ b → effect mainframe s p a ≡ effect mainframe s p b
 effect-by s p a b e = ap (λ (x : Action). effect mainframe s p x) e
@@ -257,12 +281,46 @@ module _ (c w r m : List ℕ) (k p o v : ℕ) (x : List ℕ) (q : MeetingKept c 
   wish-done m′ z a =
       let f = effect mainframe (stateIn mainframe c w r m) p Want in
       let l = t .acting .ready .lent in
-      let six : k ≡ 6 = omega (arith, z, t .first, kind-to c w r m k p o v (t .acting)) in
+      let six : k ≡ 6 = omega (arith, z, t .first, t .last) in
       apart-done c w r m k p o v x (record { acting = t .acting; kept = q .kept }) (omega (arith, t .first)) z (Done 0 0) c w r m′
       (done-by (effect mainframe (stateIn mainframe c w r m) p (actionOf (stepOf k p o v))) f (Done 0 0) c w r m′
       (effect-by (stateIn mainframe c w r m) p (actionOf (stepOf k p o v)) Want (wants k p o v six))
       (done-with f 0 0 c w r m′ refl refl
       (record { lent = record { clocks = l .clocks; words = l .words; records = l .records; marks = a .marks }; is = a .is c w r })))
+
+-- ---- tallies
+
+module _ (w : List ℕ) (k p o v : ℕ) (h : Tallying w k p o) where
+  -- the tally has its place
+  pub tally-has-place : TallyIn w p o
+  tally-has-place = h .tally
+
+  is-add : (k ≡ 9 → ⊥) → k ≡ 8
+  is-add z = go (h .kinds)
+    where
+      go : (k ≡ 8) ⊎ (k ≡ 9) → k ≡ 8
+      go (inl e) = e
+      go (inr e) = absurd (z e)
+
+  -- an add was done
+  pub add-tallied : (w′ : List ℕ) → (k ≡ 9 → ⊥) → AddDone w w′ p o v → Tallied w w′ k p o v (Done 0 0)
+  unfolding effect stateIn
+  add-tallied w′ z a =
+      record {
+        words = a .words;
+        is = λ c r m. a .is c r m ∙ ap (λ (x : Effect). x .after) (sym (effect-by (stateIn mainframe c w r m) p (actionOf (stepOf k p o v)) (TallyAdd o v) (adds k p o v (is-add z))));
+        outcome = λ c r m. rw (adds k p o v (is-add z)) (done-tells 0 0);
+      }
+
+  -- a total was read
+  pub total-tallied : (x : ℕ) → k ≡ 9 → x ≡ tallyTotal (sharedIn mainframe w) p o → Tallied w w k p o v (Done x 0)
+  unfolding effect stateIn
+  total-tallied x nine e =
+      record {
+        words = h .tally .words;
+        is = λ c r m. ap (λ (y : Effect). y .after) (sym (effect-by (stateIn mainframe c w r m) p (actionOf (stepOf k p o v)) (TallyRead o) (totals k p o v nine)));
+        outcome = λ c r m. rw (totals k p o v nine, ← e) (done-tells x 0);
+      }
 
 -- ---- the kinds
 
@@ -281,7 +339,32 @@ module _ (c w r m : List ℕ) (k p o v : ℕ) (x : List ℕ) (q : ActingKept c w
   locked-or-freed f l y c′ w′ r′ m′ d = apart-done c w r m k p o v x q f (λ e. omega (arith, e, l)) y c′ w′ r′ m′ d
 
   -- kinds 5 and 6
-  pub meets : 4 < k → MeetingKept c w r m k p o v x
-  meets f = record { meeting = record { acting = q .acting; first = f }; kept = q .kept }
+  pub meets : 4 < k → k ≤ 6 → MeetingKept c w r m k p o v x
+  meets f l = record { meeting = record { acting = q .acting; first = f; last = l }; kept = q .kept }
 
-pub ruleset acting-laws = (read-there, read-done, write-there, write-done, acquire-has-lock, acquire-done, release-has-lock, release-done, arrival-there, arrival-done, wish-there, wish-done, accesses, locks-or-frees, locked-or-freed, meets, needs)
+  -- kinds 8 and 9
+  pub tallies : 6 < k → Tallying w k p o
+  tallies f = record { tally = record { words = q .acting .ready .lent .words; on-tally = record { from = acts c w r m k p o v (q .acting) .from; to = on-machine; tally = below (kind-tallies c w r m k p o v (q .acting) f) } }; kinds = kind-tallies c w r m k p o v (q .acting) f }
+    where
+      on-machine : p ≤ processorLimit
+      on-machine = unfold mainframe in omega (arith, acts c w r m k p o v (q .acting) .to, q .acting .ready .in-order .processors-fit)
+
+      there : (a : Action) → actionOf (stepOf k p o v) ≡ a → objectIn o a < objectBound mainframe (stateIn mainframe c w r m) a
+      there a e = unfold stepOf in object-there mainframe (stateIn mainframe c w r m) (stepOf k p o v) a e (accepted c w r m k p o v (q .acting) .fields-fit)
+
+      below : (k ≡ 8) ⊎ (k ≡ 9) → o < tallyLimit
+      below (inl e) = unfold objectBound objectIn mainframe in there (TallyAdd o v) (adds k p o v e)
+      below (inr e) = unfold objectBound objectIn mainframe in there (TallyRead o) (totals k p o v e)
+
+  -- which keep the index
+  pub tallied-kept : 6 < k → (y : Outcome) (w′ : List ℕ) → Tallied w w′ k p o v y
+      → DoneKept (effect mainframe (stateIn mainframe c w r m) p (actionOf (stepOf k p o v))) y c w′ r m x
+  tallied-kept f y w′ d =
+      let l = q .acting .ready .lent in
+      apart-done c w r m k p o v x q (omega arith) (λ e. omega (arith, e, f)) y c w′ r m
+      (record {
+        outcome = d .outcome c r m;
+        areas = record { lent = record { clocks = l .clocks; words = d .words; records = l .records; marks = l .marks }; is = d .is c r m };
+      })
+
+pub ruleset acting-laws = (read-there, read-done, write-there, write-done, acquire-has-lock, acquire-done, release-has-lock, release-done, arrival-there, arrival-done, wish-there, wish-done, accesses, locks-or-frees, locked-or-freed, meets, tally-has-place, add-tallied, total-tallied, tallies, tallied-kept, needs)

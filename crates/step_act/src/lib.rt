@@ -3,7 +3,7 @@
 ghost use Rattle.rules.specs.State.{mainframe};
 ghost use Rattle.rules.specs.Refusals.{stepOf, actionOf, effect};
 ghost use Rattle.layout.specs.Areas.{stateIn};
-ghost use Rattle.step_act.specs.inner.Needed.{ActingKept, AccessingKept, Locking, MeetingKept, DoneAs, DoneKept};
+ghost use Rattle.step_act.specs.inner.Needed.{ActingKept, AccessingKept, Locking, MeetingKept, Tallying, DoneAs, DoneKept, Tallied};
 use clock::ProcessorId;
 
 // What a step answers: its value and count where it was done, else its refusal.
@@ -33,7 +33,10 @@ pub fn act(
     if kind <= 4 {
         return lock(kind, p, object, value, clocks, words, records, marks);
     }
-    meet(kind, p, object, value, clocks, words, records, marks, index)
+    if kind <= 6 {
+        return meet(kind, p, object, value, clocks, words, records, marks, index);
+    }
+    tally(kind, p, object, value, words)
 }
 
 // Kinds 1 and 2: read and write.
@@ -104,5 +107,21 @@ fn meet(
         return Outcome::Done { value: 0, count };
     }
     step_barrier::want(marks);
+    Outcome::Done { value: 0, count: 0 }
+}
+
+// Kinds 8 and 9: an add to a tally, and a read of one.
+fn tally(kind: u32, p: ProcessorId, object: usize, value: u32, words: &mut [u32]) -> Outcome
+    requires { ⌜ Tallying (now words) kind (p .0) object ⌝ }
+    ensures { λ r. ⌜ Tallied (now (words .entry)) (now (words .exit)) kind (p .0) object value r ⌝ }
+{
+    if kind == 9 {
+        let total = step_tally::total_of(words, p, object);
+        return Outcome::Done {
+            value: total,
+            count: 0,
+        };
+    }
+    step_tally::add_to(words, p, object, value);
     Outcome::Done { value: 0, count: 0 }
 }

@@ -127,6 +127,7 @@ module _ (c w r m : List ℕ) (p : ℕ) (x : List ℕ) (k : ArrivesKept c w r m 
     round =
         record {
           lent = h .lent;
+          some = omega (arith, same-processors, a .acts .in-order .some-processor);
           few = omega (arith, same-processors, a .acts .in-order .processors-fit);
           in-order =
               rw (h .is)
@@ -140,10 +141,10 @@ module _ (c w r m : List ℕ) (p : ℕ) (x : List ℕ) (k : ArrivesKept c w r m 
         record {
           complete = round;
           kept =
-              λ c₂ m₂ d.
-              let is : stateIn mainframe c₂ w r₁ m₂ ≡ roundDone (atBarrier s p) = d .is w r₁ ∙ ap (λ (t : State). roundDone t) (h .is) in
-              kept-while-standing c w r m c₂ w r₁ m₂ ready (round-ready c₁ w r₁ m₁ c₂ m₂ round d) (rw is (round-done-stand mainframe s p (a .acts .in-order))) x
-              (bounds-stay c w r m c₂ w r₁ m₂ (ap (λ (t : State). t .counts) is)) (k .kept);
+              λ c₂ w₂ m₂ d.
+              let is : stateIn mainframe c₂ w₂ r₁ m₂ ≡ roundDone (atBarrier s p) = d .is r₁ ∙ ap (λ (t : State). roundDone t) (h .is) in
+              kept-while-standing c w r m c₂ w₂ r₁ m₂ ready (round-ready c₁ w r₁ m₁ c₂ w₂ m₂ round d) (rw is (round-done-stand mainframe s p (a .acts .in-order))) x
+              (bounds-stay c w r m c₂ w₂ r₁ m₂ (ap (λ (t : State). t .counts) is)) (k .kept);
         }
 
     module _ (b : Bool) (one : OneMissing m b) where

@@ -28,40 +28,40 @@ unfolding completed
 completed-collects s e = rw e
 
 -- the clocks and marks of the round
-pub round-there : (c w r m x : List ℕ) → CompleteKept c w r m x → RoundThere c m
-round-there c w r m x h = record { clocks = h .complete .lent .clocks; marks = h .complete .lent .marks; few = h .complete .few }
+pub round-there : (c w r m x : List ℕ) → CompleteKept c w r m x → RoundThere c w m
+round-there c w r m x h = record { clocks = h .complete .lent .clocks; words = h .complete .lent .words; marks = h .complete .lent .marks; some = h .complete .some; few = h .complete .few }
 
-module _ (c w r m c₁ m₁ : List ℕ) (h : RoundComplete c w r m) (d : RoundDone c m c₁ m₁) where
-  lent-after : Lent c₁ w r m₁
-  lent-after = record { clocks = d .clocks; words = h .lent .words; records = h .lent .records; marks = d .marks }
+module _ (c w r m c₁ w₁ m₁ : List ℕ) (h : RoundComplete c w r m) (d : RoundDone c w m c₁ w₁ m₁) where
+  lent-after : Lent c₁ w₁ r m₁
+  lent-after = record { clocks = d .clocks; words = d .words; records = h .lent .records; marks = d .marks }
 
   -- the state is in order again
-  pub round-ready : Ready c₁ w r m₁
-  round-ready = record { lent = lent-after; in-order = rw (d .is w r) (h .in-order) }
+  pub round-ready : Ready c₁ w₁ r m₁
+  round-ready = record { lent = lent-after; in-order = rw (d .is r) (h .in-order) }
 
   module _ (b : Bool) (is : b ≡ not (eqb (wishMark m₁) 0)) where
     wish-is : b ≡ wantsCollection (stateIn mainframe c w r m)
     unfolding wantsCollection roundDone
-    wish-is = is ∙ ap (λ (x : ℕ). not (eqb x 0)) (sym (wanted-read c₁ w r m₁) ∙ ap (λ (s : State). s .marks .wanted) (d .is w r))
+    wish-is = is ∙ ap (λ (x : ℕ). not (eqb x 0)) (sym (wanted-read c₁ w₁ r m₁) ∙ ap (λ (s : State). s .marks .wanted) (d .is r))
 
     plain : b ≡ false → completed (stateIn mainframe c w r m) ≡ record { after = roundDone (stateIn mainframe c w r m); count = 0 }
     plain e = completed-plain (stateIn mainframe c w r m) (sym wish-is ∙ e)
 
-    with-collection : b ≡ true → collected mainframe (stateIn mainframe c₁ w r m₁) ≡ completed (stateIn mainframe c w r m)
+    with-collection : b ≡ true → collected mainframe (stateIn mainframe c₁ w₁ r m₁) ≡ completed (stateIn mainframe c w r m)
     with-collection e =
-        ap (λ (s : State). collected mainframe s) (d .is w r) ∙ sym (completed-collects (stateIn mainframe c w r m) (sym wish-is ∙ e))
+        ap (λ (s : State). collected mainframe s) (d .is r) ∙ sym (completed-collects (stateIn mainframe c w r m) (sym wish-is ∙ e))
 
     -- nothing is collected
-    plain-done : not b ≡ true → CountedAs (completed (stateIn mainframe c w r m)) 0 c₁ w r m₁
+    plain-done : not b ≡ true → CountedAs (completed (stateIn mainframe c w r m)) 0 c₁ w₁ r m₁
     plain-done e =
         let none-wanted = plain (not-true b e) in
         record {
           applied = ap (λ (f : Fetches). f .count) (sym none-wanted);
-          areas = record { lent = lent-after; is = d .is w r ∙ ap (λ (f : Fetches). f .after) (sym none-wanted) };
+          areas = record { lent = lent-after; is = d .is r ∙ ap (λ (f : Fetches). f .after) (sym none-wanted) };
         }
 
     -- garbage is collected
-    collecting-done : (x : ℕ) (c₂ w₂ m₂ : List ℕ) → not b ≡ false → CountedAs (collected mainframe (stateIn mainframe c₁ w r m₁)) x c₂ w₂ r m₂
+    collecting-done : (x : ℕ) (c₂ w₂ m₂ : List ℕ) → not b ≡ false → CountedAs (collected mainframe (stateIn mainframe c₁ w₁ r m₁)) x c₂ w₂ r m₂
         → CountedAs (completed (stateIn mainframe c w r m)) x c₂ w₂ r m₂
     collecting-done x c₂ w₂ m₂ t e =
         let wish = with-collection (not-false b t) in
@@ -72,23 +72,23 @@ module _ (c w r m c₁ m₁ : List ℕ) (h : RoundComplete c w r m) (d : RoundDo
 
 -- ---- the same with the index
 
-module _ (c w r m x c₁ m₁ : List ℕ) (h : CompleteKept c w r m x) (d : RoundDone c m c₁ m₁) where
+module _ (c w r m x c₁ w₁ m₁ : List ℕ) (h : CompleteKept c w r m x) (d : RoundDone c w m c₁ w₁ m₁) where
   -- the wish is among the marks
   pub wish-there : length m₁ ≡ markArea
   wish-there = d .marks
 
   -- the state is in order again
-  pub complete-ready : ReadyKept c₁ w r m₁ x
-  complete-ready = record { ready = round-ready c w r m c₁ m₁ (h .complete) d; kept = h .kept c₁ m₁ d }
+  pub complete-ready : ReadyKept c₁ w₁ r m₁ x
+  complete-ready = record { ready = round-ready c w r m c₁ w₁ m₁ (h .complete) d; kept = h .kept c₁ w₁ m₁ d }
 
   module _ (b : Bool) (is : b ≡ not (eqb (wishMark m₁) 0)) where
     -- nothing is collected
-    pub complete-plain : not b ≡ true → CountedKept (completed (stateIn mainframe c w r m)) 0 c₁ w r m₁ x
-    complete-plain e = record { counted = plain-done c w r m c₁ m₁ (h .complete) d b is e; kept = h .kept c₁ m₁ d }
+    pub complete-plain : not b ≡ true → CountedKept (completed (stateIn mainframe c w r m)) 0 c₁ w₁ r m₁ x
+    complete-plain e = record { counted = plain-done c w r m c₁ w₁ m₁ (h .complete) d b is e; kept = h .kept c₁ w₁ m₁ d }
 
     -- garbage is collected
-    pub complete-collects : (n : ℕ) (c₂ w₂ m₂ x₂ : List ℕ) → not b ≡ false → CountedKept (collected mainframe (stateIn mainframe c₁ w r m₁)) n c₂ w₂ r m₂ x₂
+    pub complete-collects : (n : ℕ) (c₂ w₂ m₂ x₂ : List ℕ) → not b ≡ false → CountedKept (collected mainframe (stateIn mainframe c₁ w₁ r m₁)) n c₂ w₂ r m₂ x₂
         → CountedKept (completed (stateIn mainframe c w r m)) n c₂ w₂ r m₂ x₂
-    complete-collects n c₂ w₂ m₂ x₂ t e = record { counted = collecting-done c w r m c₁ m₁ (h .complete) d b is n c₂ w₂ m₂ t (e .counted); kept = e .kept }
+    complete-collects n c₂ w₂ m₂ x₂ t e = record { counted = collecting-done c w r m c₁ w₁ m₁ (h .complete) d b is n c₂ w₂ m₂ t (e .counted); kept = e .kept }
 
 pub ruleset complete-laws = (round-there, wish-there, complete-plain, complete-ready, complete-collects, needs)

@@ -12,7 +12,7 @@ use borrow.Author.Needs.{needs}
 use Rattle.limits.specs.Limits.{processorLimit}
 use Rattle.limits.specs.Places.{firstArrived, wantedPlace}
 use Rattle.limits.specs.inner.Sizes.{clockArea, clockWidth, markArea}
-use Rattle.rules.specs.State.{mainframe, Barrier, Clocks, withClock, cleared, withArrived, withClocks, withMarks}
+use Rattle.rules.specs.State.{mainframe, Barrier, Clocks, withClock, cleared, withArrived, State, withClocks, withMarks, withShared}
 use Rattle.rules.specs.Steps.{allLearned, roundDone, wantsCollection, want}
 use Rattle.rules.proofs.inorder.Facts.{Within}
 use Rattle.layout.specs.Areas.{clockRow, clocksIn, stateIn}
@@ -22,14 +22,21 @@ use Rattle.layout.specs.inner.Marks.{processorCount, wishMark}
 use Rattle.layout.proofs.ClockLaws.{clock-written}
 use Rattle.layout.proofs.MarkLaws.{wanted-read, wanted-written, arrived-cleared}
 use Rattle.layout.proofs.RowLaws.{length-row, map-replicate}
+use Rattle.rules.specs.Tallies.{posting}
+use Rattle.step_tally.specs.inner.Needed.{RoundReady}
+use Rattle.step_tally.specs.inner.Effects.{Posted}
 use Rattle.step_barrier.specs.inner.Needed.{ClocksOfFirst, RoundThere}
 use Rattle.step_barrier.specs.inner.Effects.{HoldsClocks, RoundDone, Wanted}
 
 -- ---- a completed round
 
 -- the processors of the marks have rows
-pub learners-there : (c m : List ℕ) (n : ℕ) → RoundThere c m → n ≡ processorCount m → ClocksOfFirst c n
-learners-there c m n h e = record { clocks = h .clocks; few = omega (arith, h .few) }
+pub learners-there : (c w m : List ℕ) (n : ℕ) → RoundThere c w m → n ≡ processorCount m → ClocksOfFirst c n
+learners-there c w m n h e = record { clocks = h .clocks; few = omega (arith, h .few) }
+
+-- the tallies of the round have their places
+pub posters-there : (c w m : List ℕ) (n : ℕ) → RoundThere c w m → n ≡ processorCount m → RoundReady w n
+posters-there c w m n h e = record { words = h .words; some = omega (arith, h .some); few = omega (arith, h .few) }
 
 -- the barrier's clock has its row
 pub barrier-row-there : (c : List ℕ) (k : Clocks) → HoldsClocks c k → RowThere clockWidth c 0
@@ -48,21 +55,26 @@ round-clocks c c₁ c₂ n h k e =
     ∙ ap (λ (x : Clocks). withClock x Barrier (replicate clockWidth 0)) (k .clocks)
     ∙ ap (λ (x : List ℕ). withClock (allLearned (clocksIn mainframe c) n) Barrier x) (sym (zeros-again c h))
 
--- all have learned, the barrier's clock is zeros, the marks are clear
-pub round-done : (c m c₁ c₂ m₂ : List ℕ) (n : ℕ) → RoundThere c m → n ≡ processorCount m → HoldsClocks c₁ (allLearned (clocksIn mainframe c) n)
-    → c₂ ≡ sets c₁ (clockWidth * 0) (replicate clockWidth 0) → m₂ ≡ sets m firstArrived (replicate processorLimit 0) → RoundDone c m c₂ m₂
+-- the adds are posted, all have learned, the barrier's clock is zeros, the marks are clear
+pub round-done : (c w m w₁ c₁ c₂ m₂ : List ℕ) (n : ℕ) → RoundThere c w m → n ≡ processorCount m → Posted w w₁ n → HoldsClocks c₁ (allLearned (clocksIn mainframe c) n)
+    → c₂ ≡ sets c₁ (clockWidth * 0) (replicate clockWidth 0) → m₂ ≡ sets m firstArrived (replicate processorLimit 0) → RoundDone c w m c₂ w₁ m₂
 unfolding roundDone stateIn
-round-done c m c₁ c₂ m₂ n h e k ec em =
+round-done c w m w₁ c₁ c₂ m₂ n h e t k ec em =
     record {
       clocks = ap length ec ∙ length-sets c₁ (clockWidth * 0) (replicate clockWidth 0) ∙ k .long;
+      words = t .words;
       marks = ap length em ∙ length-sets m firstArrived (replicate processorLimit 0) ∙ h .marks;
       is =
-          λ w r.
-          ap (λ (x : List ℕ). stateIn mainframe c₂ w r x) em ∙ arrived-cleared c₂ w r m (h .marks)
+          λ r.
+          ap (λ (x : List ℕ). stateIn mainframe c₂ w₁ r x) em ∙ arrived-cleared c₂ w₁ r m (h .marks)
+          ∙ ap (λ (s : State). withMarks s (withArrived (s .marks) (map (λ mark. 0) (s .marks .arrived)))) (t .is c₂ r m)
           ∙ ap (λ (x : Clocks).
           let s = stateIn mainframe c w r m in
-          withMarks (withClocks s x) (withArrived (s .marks) (map (λ mark. 0) (s .marks .arrived))))
-          (round-clocks c c₁ c₂ n (h .clocks) k ec ∙ ap (λ (j : ℕ). withClock (allLearned (clocksIn mainframe c) j) Barrier (cleared (clocksIn mainframe c .barrier))) e);
+          withShared (withMarks (withClocks s x) (withArrived (s .marks) (map (λ mark. 0) (s .marks .arrived)))) (posting (s .shared) n))
+          (round-clocks c c₁ c₂ n (h .clocks) k ec)
+          ∙ ap (λ (j : ℕ).
+          let s = stateIn mainframe c w r m in
+          withShared (withMarks (withClocks s (withClock (allLearned (clocksIn mainframe c) j) Barrier (cleared (clocksIn mainframe c .barrier)))) (withArrived (s .marks) (map (λ mark. 0) (s .marks .arrived)))) (posting (s .shared) j)) e;
     }
 
 -- ---- the wish for collection
@@ -86,4 +98,4 @@ module _ (m : List ℕ) (h : length m ≡ markArea) (b : Bool) (e : b ≡ not (e
   unfolding want
   wish-kept t = record { marks = h; is = λ c w r. rw (wish-read c w r, t) }
 
-pub ruleset round-laws = (learners-there, barrier-row-there, round-done, wish-set, wish-kept, needs)
+pub ruleset round-laws = (learners-there, posters-there, barrier-row-there, round-done, wish-set, wish-kept, needs)

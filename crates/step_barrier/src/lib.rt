@@ -99,19 +99,21 @@ fn complete_round(
     requires { ⌜ CompleteKept (now clocks) (now words) (now records) (now marks) (now index) ⌝ }
     ensures { λ r. ⌜ CountedKept (completed (stateIn mainframe (now (clocks .entry)) (now (words .entry)) (now (records .entry)) (now (marks .entry)))) r (now (clocks .exit)) (now (words .exit)) (now (records .entry)) (now (marks .exit)) (now (index .exit)) ⌝ }
 {
-    round_done(clocks, marks);
+    round_done(clocks, words, marks);
     if !is_wanted(marks) {
         return 0;
     }
     step_collect::collect(clocks, words, records, marks, index)
 }
 
-// Every processor learns the barrier's clock, which returns to zeros, and the marks clear.
-fn round_done(clocks: &mut [u8], marks: &mut [u8])
-    requires { ⌜ RoundThere (now clocks) (now marks) ⌝ }
-    ensures { λ _. ⌜ RoundDone (now (clocks .entry)) (now (marks .entry)) (now (clocks .exit)) (now (marks .exit)) ⌝ }
+// The adds of the round are posted; every processor learns the barrier's clock, which returns to zeros, and the marks clear.
+fn round_done(clocks: &mut [u8], words: &mut [u32], marks: &mut [u8])
+    requires { ⌜ RoundThere (now clocks) (now words) (now marks) ⌝ }
+    ensures { λ _. ⌜ RoundDone (now (clocks .entry)) (now (words .entry)) (now (marks .entry)) (now (clocks .exit)) (now (words .exit)) (now (marks .exit)) ⌝ }
 {
-    all_learned(clocks, processor_count(marks));
+    let n = processor_count(marks);
+    step_tally::post_all(words, n);
+    all_learned(clocks, n);
     put_clock(clocks, 0, Clock::ZEROS);
     clear_arrived(marks);
 }

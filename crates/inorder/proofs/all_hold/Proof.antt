@@ -1,4 +1,4 @@
--- `all_hold` meets its contract, area by area. Assumes nothing.
+-- `all_hold` meets its contract. Assumes nothing.
 use Rattle.inorder.proofs.AreaTests.{areas-checked}
 use Rattle.inorder.proofs.all_hold.Statement.{statement}
 use Rattle.inorder.proofs.all_hold.Tie as tie
@@ -6,4 +6,4 @@ use Rattle.inorder.proofs.all_hold.Tie as tie
 pub all-hold-spec : {M : Type 1} → statement M
 all-hold-spec =
     tie.close
-    (tie.spec (λ c κs. search areas-checked) (λ c. search areas-checked) (λ c κs. search areas-checked) (λ c. search areas-checked) (λ c κs. search areas-checked) (λ c. search areas-checked) (λ c κs. search areas-checked) (λ c. search areas-checked) (λ c κs. search areas-checked) (λ c. search areas-checked))
+    (tie.spec (λ c κs. search areas-checked depth 7) (λ c. search areas-checked depth 7) (λ c κs. search areas-checked depth 7) (λ c. search areas-checked depth 7) (λ c κs. search areas-checked depth 7) (λ c. search areas-checked depth 7) (λ c κs. search areas-checked depth 7) (λ c. search areas-checked depth 7) (λ c κs. search areas-checked depth 7) (λ c. search areas-checked depth 7) (λ c κs. search areas-checked depth 7) (λ c. search areas-checked depth 7))

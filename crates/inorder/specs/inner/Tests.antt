@@ -7,8 +7,8 @@ use mathlib.Core.List.{List}
 use lib.ListN.{getD}
 use lib.Dec.{leb}
 use Rattle.lists.specs.Tables.{every, tabulate}
-use Rattle.limits.specs.Limits.{intervalLimit, lockLimit, pageLimit, pageWidth, processorLimit, recordLimit}
-use Rattle.limits.specs.inner.Sizes.{clockWidth, copyLimit, firstAppliedRow, firstIntervalRow, firstLockRow, ownStep}
+use Rattle.limits.specs.Limits.{intervalLimit, lockLimit, pageLimit, pageWidth, processorLimit, recordLimit, tallyLimit}
+use Rattle.limits.specs.inner.Sizes.{clockWidth, copyLimit, firstAppliedRow, firstIntervalRow, firstLockRow, ownStep, firstTally}
 use Rattle.layout.specs.Layout.{rowOf}
 use Rattle.layout.specs.Areas.{standingCount}
 use Rattle.layout.specs.inner.Marks.{lockCount, pageCount, processorCount}
@@ -57,6 +57,10 @@ unfoldable pub wordsHold : List ℕ → ℕ → ℕ → ℕ → ℕ → Bool
 wordsHold w first processors pages k =
     every (pageWidth * (pageLimit - pagesOf processors pages k)) (zeroAt w (pageWidth * (first + pageLimit * k + pagesOf processors pages k)))
 
+-- the adds of absent processors to tallies are zeros
+unfoldable pub addsHold : List ℕ → ℕ → Bool
+addsHold w processors = every (tallyLimit * (processorLimit - processors)) (zeroAt w (firstTally + tallyLimit * (processors + 1)))
+
 -- ---- all four areas
 
 -- counts in range; no more records than there are slots
@@ -70,8 +74,9 @@ areasHoldWith own c w r m processors pages locks standing =
     clocksHoldWith own c processors pages locks
     && (every processorLimit (wordsHold w 0 processors pages)
     && (every processorLimit (wordsHold w copyLimit processors pages)
+    && (addsHold w processors
     && (marksHoldWith own m processors pages locks standing
-    && recordsHoldWith own r processors pages standing)))
+    && recordsHoldWith own r processors pages standing))))
 
 -- all conditions but the sizes
 unfoldable pub areasHold : List ℕ → List ℕ → List ℕ → List ℕ → Bool

@@ -1,7 +1,7 @@
 -- The sizes and places that follow from the numbers of Limits.antt, each with one name; the code has the same names in capitals (src/lib.rt).
 -- Assumes nothing.
 use Prim.Native.Nat.{ℕ, _+_, _*_, _/_}
-use Rattle.limits.specs.Limits.{processorLimit, pageLimit, pageWidth, lockLimit, recordLimit, intervalLimit, slotHead}
+use Rattle.limits.specs.Limits.{processorLimit, pageLimit, pageWidth, lockLimit, recordLimit, intervalLimit, tallyLimit, slotHead}
 use Rattle.limits.specs.Files.{stepLimit}
 use Rattle.limits.specs.Places.{firstArrived}
 
@@ -93,9 +93,13 @@ firstTurn = firstAwaited + processorLimit
 abbrev pub clockArea : ℕ
 clockArea = clockWidth * clockRowLimit
 
--- the words of the pages
+-- the words of the pages, and behind them the tallies: of each the posted total, then the adds of each processor
+abbrev pub firstTally : ℕ
+firstTally = pageWidth * wordRowLimit
+
+-- all words
 abbrev pub wordArea : ℕ
-wordArea = pageWidth * wordRowLimit
+wordArea = firstTally + (processorLimit + 1) * tallyLimit
 
 -- the bytes of the records
 abbrev pub recordArea : ℕ
@@ -169,7 +173,7 @@ firstBound = firstWatermark + copyLimit
 
 -- from this kind on none is known: they share its place among the bounds
 abbrev pub kindLimit : ℕ
-kindLimit = 7
+kindLimit = 10
 
 -- the places for the kinds: 0, those that are known, and one for all above
 abbrev pub kindBounds : ℕ

@@ -1,5 +1,4 @@
 -- `lay_opened` meets its contract. Assumes nothing.
-use borrow.Author.Needs.{needs}
 use Rattle.opening.proofs.Opening.{laying-laws}
 use Rattle.opening.proofs.lay_opened.Statement.{statement}
 use Rattle.opening.proofs.lay_opened.Tie as tie
@@ -7,4 +6,4 @@ use Rattle.opening.proofs.lay_opened.Tie as tie
 pub lay-opened-spec : {M : Type 1} → statement M
 lay-opened-spec =
     tie.close
-    (tie.spec (λ c κs. search needs) (λ c κs. search laying-laws) (λ c κs. search needs) (λ c κs. search laying-laws) (λ c. search needs) (λ c. search needs) (λ c. search needs) (λ c. search needs) (λ c. search laying-laws))
+    (tie.spec (λ c κs. search laying-laws) (λ c κs. search laying-laws) (λ c κs. search laying-laws) (λ c κs. search laying-laws) (λ c κs. search laying-laws) (λ c. search laying-laws) (λ c. search laying-laws) (λ c. search laying-laws) (λ c. search laying-laws) (λ c. search laying-laws))

@@ -3,7 +3,7 @@ use Prim.Native.Nat.{ℕ, _-_}
 use mathlib.Core.Path.{_≡_}
 use mathlib.Core.Bool.{Bool, _&&_}
 use mathlib.Core.List.{List, _∷_}
-use lib.ListN.{length, getD, replicate}
+use lib.ListN.{length, getD, replicate, take}
 use lib.Dec.{eqb}
 use Rattle.limits.specs.Files.{fileRecordWidth}
 use Rattle.limits.specs.Places.{standingPlace}
@@ -23,7 +23,7 @@ openingFits bytes = eqb (length bytes) fileRecordWidth && eqb (openingRefusal ma
 unfoldable pub freshCopy : List ℕ
 freshCopy = replicate wordLimit 0
 
--- the copies and twins of eight processors, all 0
+-- the copies and twins of eight processors and the tallies, all 0
 unfoldable pub freshWords : List ℕ
 freshWords = replicate wordArea 0
 
@@ -44,6 +44,11 @@ pub record MarksOpenable (bytes m : List ℕ) : Type 0 where
   pub opening : length bytes ≡ fileRecordWidth
 
 -- ---- what they answer and leave
+
+-- the area of the words, of which the first n are 0
+pub record WordsZeroTo (w : List ℕ) (n : ℕ) : Type 0 where
+  pub long : length w ≡ wordArea
+  pub first : take n w ≡ replicate n 0
 
 -- b says whether the areas have the fixed sizes
 pub record SizesAre (b : Bool) (c w r m : List ℕ) : Type 0 where

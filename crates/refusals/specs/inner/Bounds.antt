@@ -1,11 +1,11 @@
--- The bounds of the kinds: 16 numbers by which one test says whether a kind is known and its fields fit; and the marks of a processor as one
+-- The bounds of the kinds: 22 numbers by which one test says whether a kind is known and its fields fit; and the marks of a processor as one
 -- test. Assumes nothing.
 use Prim.Native.Nat.{ℕ, _+_, _*_, min}
 use mathlib.Core.Bool.{Bool, cond, _&&_}
 use mathlib.Core.List.{List, [], _∷_}
 use lib.ListN.{getD}
 use lib.Dec.{leb, ltb, eqb}
-use Rattle.limits.specs.Limits.{pageWidth}
+use Rattle.limits.specs.Limits.{pageWidth, tallyLimit}
 use Rattle.limits.specs.Places.{firstArrived}
 use Rattle.limits.specs.inner.Sizes.{firstAwaited, kindBounds, kindLimit, valueLimit}
 use Rattle.rules.specs.State.{State}
@@ -30,10 +30,11 @@ inBounds bounds kind object value =
 unfoldable pub marksFree : List ℕ → ℕ → Bool
 marksFree m k = eqb (getD m (firstArrived + k) 0) 0 && eqb (getD m (firstAwaited + k) 0) 0
 
--- the bounds of the marks, a place a kind: the words for a read or a write, the locks for an acquire or a release, 1 where no object is used, 0
--- where a kind is not known; then what the value may be, anything for a write and 0 for the others
+-- the bounds of the marks, a place a kind: the words for a read or a write, the locks for an acquire or a release, 1 where no object is used, the
+-- tallies for kinds 8 and 9, 0 where a kind is not known; then what the value may be, anything for a write or an add and 0 for the others
 unfoldable pub boundsOf : List ℕ → List ℕ
 boundsOf m =
     let words = pageCount m * pageWidth in
     let locks = lockCount m in
-    0 ∷ words ∷ words ∷ locks ∷ locks ∷ 1 ∷ 1 ∷ 0 ∷ 0 ∷ 0 ∷ valueLimit ∷ 0 ∷ 0 ∷ 0 ∷ 0 ∷ 0 ∷ []
+    0 ∷ words ∷ words ∷ locks ∷ locks ∷ 1 ∷ 1 ∷ 0 ∷ tallyLimit ∷ tallyLimit ∷ 0
+    ∷ 0 ∷ 0 ∷ valueLimit ∷ 0 ∷ 0 ∷ 0 ∷ 0 ∷ 0 ∷ valueLimit ∷ 0 ∷ 0 ∷ []

@@ -1,7 +1,7 @@
 -- What the functions ask: the marks of a state in order, and of one another what the rows above have left. Assumes nothing.
 use Prim.Native.Nat.{ℕ, _+_, _≤_, _<_}
 use mathlib.Core.Path.{_≡_}
-use mathlib.Core.Bool.{false}
+use mathlib.Core.Bool.{true, false}
 use mathlib.Core.List.{List}
 use lib.ListN.{length, getD}
 use Rattle.limits.specs.Limits.{lockLimit, pageLimit, processorLimit}
@@ -9,6 +9,7 @@ use Rattle.limits.specs.inner.Sizes.{boundArea, kindBounds, kindLimit, markArea
 use Rattle.rules.specs.InOrder.{presentHolder}
 use Rattle.rules.specs.State.{dirtyAt, Applied}
 use Rattle.layout.specs.inner.Marks.{processorCount, pageCount, lockCount}
+use Rattle.rules.specs.Refusals.{knownKind}
 use Rattle.refusals.specs.inner.Parts.{seen}
 use Rattle.refusals.specs.inner.Bounds.{objectBoundOf, valueBoundOf}
 
@@ -33,8 +34,7 @@ pub record BoundsOf (m bounds : List ℕ) : Type 0 where
 -- the marks, and a known kind
 pub record KnownKind (m : List ℕ) (kind : ℕ) : Type 0 where
   pub counted : MarksCountable m
-  pub first : 1 ≤ kind
-  pub last : kind ≤ 6
+  pub known : knownKind kind ≡ true
 
 -- the marks, and a processor that has marks
 pub record PagesOf (m : List ℕ) (p : ℕ) : Type 0 where

@@ -16,7 +16,7 @@ seen marks = stateIn mainframe [] [] [] marks
 
 -- of 5: below which number the object of a known kind is
 unfoldable pub boundOf : State → ℕ → ℕ
-boundOf s kind = cond (leb kind 2) (s .counts .pages * mainframe .words) (cond (leb kind 4) (s .counts .locks) 1)
+boundOf s kind = cond (leb kind 2) (s .counts .pages * mainframe .words) (cond (leb kind 4) (s .counts .locks) (cond (leb kind 6) 1 (mainframe .tallies)))
 
 -- 5: whether object and value fit a known kind
 unfoldable pub fieldsFit : State → ℕ → ℕ → ℕ → Bool

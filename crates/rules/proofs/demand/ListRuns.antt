@@ -99,10 +99,21 @@ module _ (lim : Limits) (c : Counts) (in-range : countsInRange lim c ≡ true) (
         words-there = words-there;
       }
 
-  -- the value answered to an accepted read
+  -- its states
+  pub state-at : (j : ℕ) → timeline .state j ≡ stateBefore lim (opened lim c) ts j
+  unfolding timeline
+  state-at j = refl
+
+  -- the value answered to an accepted step
+  pub step-answer : (j p : ℕ) (a : Action) → Took (eventsOf lim (opened lim c) ts) j p a
+      → valueAt (answersInOrder lim (opened lim c) ts) j ≡ effect lim (timeline .state j) p a .value
+  unfolding timeline stateInOrder
+  step-answer j p a took =
+      value-of lim (opened lim c) ts j (took .accepted)
+      ∙ ap₂ (λ (q : ℕ) (b : Action). effect lim (stateBefore lim (opened lim c) ts j) q b .value) (took .processor) (took .action)
+
+  -- and to an accepted read
   pub read-answer : (j p w : ℕ) → Took (eventsOf lim (opened lim c) ts) j p (Read w)
       → valueAt (answersInOrder lim (opened lim c) ts) j ≡ read lim (timeline .state j) p w .value
-  unfolding effect timeline stateInOrder
-  read-answer j p w took =
-      value-of lim (opened lim c) ts j (took .accepted)
-      ∙ ap₂ (λ (q : ℕ) (a : Action). effect lim (stateBefore lim (opened lim c) ts j) q a .value) (took .processor) (took .action)
+  unfolding effect
+  read-answer j p w took = step-answer j p (Read w) took

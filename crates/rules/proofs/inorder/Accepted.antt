@@ -11,7 +11,7 @@ use Rattle.rules.specs.State.{Limits, State, own, holder, hasArrived}
 use Rattle.rules.specs.Lines.{waits}
 use Rattle.rules.specs.InOrder.{present}
 use Rattle.rules.specs.Steps.{pageOfWord}
-use Rattle.rules.specs.Refusals.{Step, Action, Read, Write, Acquire, Release, actionOf, knownKind, objectBound, usesValue, fits, lateRefusal, refusalBy, refusalInOrder}
+use Rattle.rules.specs.Refusals.{TallyAdd, Step, Action, Read, Write, Acquire, Release, actionOf, knownKind, objectBound, usesValue, fits, lateRefusal, refusalBy, refusalInOrder}
 use Rattle.rules.proofs.inorder.KindsOfSteps.{objectIn, object-in}
 use Rattle.rules.proofs.inorder.KeptParts.{among-says, among-when}
 
@@ -88,3 +88,8 @@ acquire-there lim s t x e a = object-there lim s t (Acquire x) e (a .fields-fit)
 pub release-there : (lim : Limits) (s : State) (t : Step) (x : ℕ) → actionOf t ≡ Release x → Accepted lim s t → x < s .counts .locks
 unfolding objectBound objectIn
 release-there lim s t x e a = object-there lim s t (Release x) e (a .fields-fit)
+
+-- the tally of an add is present
+pub add-there : (lim : Limits) (s : State) (t : Step) (x v : ℕ) → actionOf t ≡ TallyAdd x v → Accepted lim s t → x < lim .tallies
+unfolding objectBound objectIn
+add-there lim s t x v e a = object-there lim s t (TallyAdd x v) e (a .fields-fit)

@@ -33,6 +33,8 @@ sizedTests lim s =
     ∷ eqb (length (s .marks .arrived)) (suc (lim .processors))
     ∷ eqb (length (s .marks .awaited)) (suc (lim .processors))
     ∷ eqb (length (s .marks .turns)) (suc (lim .processors))
+    ∷ eqb (length (s .shared .posted)) (lim .tallies)
+    ∷ rowsSized lim (lim .tallies) (s .shared .adds)
     ∷ []
 
 -- the test is the conjunction of the list
@@ -52,6 +54,7 @@ absentTests lim s =
     ∷ every (lim .locks) (λ l. presentHolder s (Lock l) || eqb (holder s l) 0)
     ∷ everyProcessor lim (λ p. present s p || not (waits (s .marks) p))
     ∷ everyProcessor lim (λ p. present s p || eqb (turnOf (s .marks) p) 0)
+    ∷ everyProcessor lim (λ p. present s p || allZero (getD (s .shared .adds) p []))
     ∷ []
 
 -- the test is the conjunction of the list

@@ -11,7 +11,7 @@ use Rattle.lists.proofs.Tables.{Passes}
 use Rattle.limits.specs.Limits.{slotHead}
 use Rattle.clock.specs.Clocks.{entryOf}
 use Rattle.diff.specs.Reading.{readRefusal}
-use Rattle.rules.specs.State.{Limits, Counts, Holder, Processor, Lock, Barrier, Applied, Interval, clockOf, copyOf, twinOf, dirtyAt, Marks, State, clock, own, holder, hasArrived}
+use Rattle.rules.specs.State.{Limits, Counts, Holder, Processor, Lock, Barrier, Applied, Interval, clockOf, copyOf, twinOf, dirtyAt, Marks, addsOf, State, clock, own, holder, hasArrived}
 use Rattle.rules.specs.Lines.{waits, turnOf}
 use Rattle.rules.specs.InOrder.{present, slotSize, presentHolder, recordAt, sameNotice, dirtyPages}
 use Rattle.rules.proofs.state.Lines.{Lines}
@@ -56,6 +56,10 @@ pub record Sized (lim : Limits) (s : State) : Type 0 where
   pub arrived : length (s .marks .arrived) ≡ suc (lim .processors)
   pub awaited : length (s .marks .awaited) ≡ suc (lim .processors)
   pub turns : length (s .marks .turns) ≡ suc (lim .processors)
+  pub posted : length (s .shared .posted) ≡ lim .tallies
+  pub adds : length (s .shared .adds) ≡ suc (lim .processors)
+  pub nobody-adds : length (getD (s .shared .adds) 0 []) ≡ 0
+  pub adds-row : (p : ℕ) → 1 ≤ p → p ≤ lim .processors → length (getD (s .shared .adds) p []) ≡ lim .tallies
 
 -- a record that stands: a present processor and page, a made interval, a legal diff that fits its slot
 pub record RecordSound (lim : Limits) (s : State) (i : ℕ) : Type 0 where
@@ -92,6 +96,7 @@ pub record InOrder (lim : Limits) (s : State) : Type 0 where
   pub absent-not-held : (l : ℕ) → presentHolder s (Lock l) ≡ false → holder s l ≡ 0
   pub absent-awake : (p : ℕ) → 1 ≤ p → present s p ≡ false → waits (s .marks) p ≡ false
   pub absent-turn : (p : ℕ) → 1 ≤ p → present s p ≡ false → turnOf (s .marks) p ≡ 0
+  pub absent-adds : (p t : ℕ) → 1 ≤ p → present s p ≡ false → addsOf (s .shared) p t ≡ 0
   pub later-interval : (p i q : ℕ) → own s p < i → entryOf (clockOf (s .clocks) (Interval p i)) q ≡ 0
   pub known : (h : Holder) (q : ℕ) → entryOf (clockOf (s .clocks) h) q ≤ own s q
   pub own-fits : (p : ℕ) → own s p ≤ lim .intervals

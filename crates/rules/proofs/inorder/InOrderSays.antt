@@ -16,7 +16,7 @@ use Rattle.lists.proofs.Conditions.{and-left, and-right, conjoined, conjoined-a
 use Rattle.limits.specs.Limits.{slotHead}
 use Rattle.clock.specs.Clocks.{entryOf}
 use Rattle.diff.specs.Reading.{readRefusal}
-use Rattle.rules.specs.State.{Limits, Holder, Processor, Lock, Applied, Interval, clockOf, copyOf, twinOf, dirtyAt, State, clock, own, holder, hasArrived}
+use Rattle.rules.specs.State.{addsOf, Limits, Holder, Processor, Lock, Applied, Interval, clockOf, copyOf, twinOf, dirtyAt, State, clock, own, holder, hasArrived}
 use Rattle.rules.specs.Lines.{waits, waitsFor, turnOf}
 use Rattle.rules.specs.InOrder.{present, everyProcessor, everyPage, everyHolder, slotSize, sized, inRange, presentHolder, allZero, absentZero, laterIntervalsZero, entriesKnown, appliedKnown, recordAt, diffLegal, recordSound, sameNotice, recordsSound, roomKept, dirtyHaveInterval, holdersPresent, someoneMissing, standBefore, waiterSound, apartInLine, inOrder}
 use Rattle.rules.proofs.state.Lines.{ahead, Lines}
@@ -24,7 +24,7 @@ use Rattle.rules.proofs.state.Waiters.{awaits, turnAt, waits-for-when, 
 use Rattle.rules.proofs.inorder.Facts.{Within, Sized, RecordSound, LinesInOrder, InOrder}
 use Rattle.rules.proofs.inorder.Everywhere.{every-processor-at, every-page-at, every-interval-at, every-holder-at, by-place, all-zero-at, entry-all-zero, covered-entries}
 use Rattle.rules.proofs.inorder.Rows.{rows-sized-says}
-use Rattle.rules.proofs.inorder.Outside.{entry-outside, entry-absent-place, copy-outside, twin-outside, clean-outside, not-arrived-outside, not-held-outside, awake-outside, no-turn-outside}
+use Rattle.rules.proofs.inorder.Outside.{entry-outside, entry-absent-place, copy-outside, twin-outside, clean-outside, not-arrived-outside, not-held-outside, awake-outside, no-turn-outside, no-adds-outside}
 use Rattle.rules.proofs.inorder.Conditions.{sizedTests, sized-tests, absentTests, absent-tests, countsTests, counts-tests, recordTests, record-tests, waiterTests, waiter-tests, lineTests, line-tests, orderTests, order-tests}
 
 module _ (lim : Limits) (s : State) where
@@ -41,6 +41,7 @@ module _ (lim : Limits) (s : State) where
           let copies = rows-sized-says lim (lim .pages) (s .pages .copies) (part 6) in
           let twins = rows-sized-says lim (lim .pages) (s .pages .twins) (part 8) in
           let dirty = rows-sized-says lim (lim .pages) (s .pages .dirty) (part 10) in
+          let adds = rows-sized-says lim (lim .tallies) (s .shared .adds) (part 19) in
           record {
             processors = processors .processors;
             nobody-clock = processors .nobody;
@@ -71,6 +72,10 @@ module _ (lim : Limits) (s : State) where
             arrived = eqb-true _ _ (part 15);
             awaited = eqb-true _ _ (part 16);
             turns = eqb-true _ _ (part 17);
+            posted = eqb-true _ _ (part 18);
+            adds = adds .processors;
+            nobody-adds = adds .nobody;
+            adds-row = adds .row;
           }
 
   -- what is absent is 0
@@ -84,6 +89,7 @@ module _ (lim : Limits) (s : State) where
     pub not-held : (l : ℕ) → presentHolder s (Lock l) ≡ false → holder s l ≡ 0
     pub awake : (p : ℕ) → 1 ≤ p → present s p ≡ false → waits (s .marks) p ≡ false
     pub turn : (p : ℕ) → 1 ≤ p → present s p ≡ false → turnOf (s .marks) p ≡ 0
+    pub adds : (p t : ℕ) → 1 ≤ p → present s p ≡ false → addsOf (s .shared) p t ≡ 0
 
   -- the words of absent pages, in a table of copies or of twins that has none outside its places
   absent-words : (page : ℕ → ℕ → List ℕ) → everyPage lim (λ p g. presentHolder s (Applied p g) || allZero (page p g)) ≡ true
@@ -133,6 +139,10 @@ module _ (lim : Limits) (s : State) where
                 by-place lim (Processor p)
                 (λ w. eqb-true _ _ (or-says (present s p) (eqb (turnOf (s .marks) p) 0) (every-processor-at lim _ p (part 8) (w .0) (w .1)) a))
                 (λ n. no-turn-outside lim s z p (lt-of-not-le (λ k. n (l, k))));
+            adds = λ p t l a.
+                by-place lim (Processor p)
+                (λ w. unfold addsOf in all-zero-at (getD (s .shared .adds) p []) t (or-says (present s p) (allZero (getD (s .shared .adds) p [])) (every-processor-at lim _ p (part 9) (w .0) (w .1)) a))
+                (λ n. no-adds-outside lim s z p t (lt-of-not-le (λ k. n (l, k))));
           }
 
   later-interval-says : Sized lim s → laterIntervalsZero lim s ≡ true → (p i q : ℕ) → own s p < i → entryOf (clockOf (s .clocks) (Interval p i)) q ≡ 0
@@ -304,6 +314,7 @@ in-order-says lim s e = go (λ i. conjoined-at (orderTests lim s) i (sym (order-
           absent-not-held = absent .not-held;
           absent-awake = absent .awake;
           absent-turn = absent .turn;
+          absent-adds = absent .adds;
           later-interval = later-interval-says lim s z (part 3);
           known = known-says lim s z (part 4);
           own-fits = own-fits-says lim s z (part 4);

@@ -14,7 +14,7 @@ use Rattle.lists.proofs.Conditions.{and-both, Given, conjoined-holds, or-when, 
 use Rattle.limits.specs.Limits.{slotHead}
 use Rattle.clock.specs.Clocks.{entryOf}
 use Rattle.diff.specs.Reading.{readRefusal}
-use Rattle.rules.specs.State.{Limits, Holder, Lock, Applied, Interval, clockOf, copyOf, twinOf, dirtyAt, State, clock, own, holder, hasArrived}
+use Rattle.rules.specs.State.{Limits, Holder, Lock, Applied, Interval, clockOf, copyOf, twinOf, dirtyAt, addsOf, State, clock, own, holder, hasArrived}
 use Rattle.rules.specs.Lines.{waits, waitsFor, turnOf}
 use Rattle.rules.specs.InOrder.{present, everyProcessor, everyHolder, slotSize, sized, inRange, countsInRange, presentHolder, allZero, absentZero, laterIntervalsZero, entriesKnown, appliedKnown, recordAt, diffLegal, recordSound, sameNotice, recordsSound, roomKept, dirtyHaveInterval, holdersPresent, someoneMissing, standBefore, waiterSound, apartInLine, linesSound, inOrder}
 use Rattle.rules.proofs.state.Lines.{ahead}
@@ -22,7 +22,7 @@ use Rattle.rules.proofs.state.Waiters.{awaits, turnAt, waits-for-says}
 use Rattle.rules.proofs.inorder.Facts.{Sized, RecordSound, LinesInOrder, InOrder}
 use Rattle.rules.proofs.inorder.Everywhere.{every-processor-holds, every-page-holds, every-interval-holds, every-holder-holds, all-zero-holds, entries-all-zero, entries-covered}
 use Rattle.rules.proofs.inorder.Rows.{rows-sized-when}
-use Rattle.rules.proofs.inorder.Outside.{processors-rows, applied-rows, interval-rows, copies-rows, twins-rows, dirty-rows}
+use Rattle.rules.proofs.inorder.Outside.{processors-rows, applied-rows, interval-rows, copies-rows, twins-rows, dirty-rows, adds-rows}
 use Rattle.rules.proofs.inorder.Conditions.{sizedTests, sized-tests, absentTests, absent-tests, countsTests, counts-tests, recordTests, record-tests, waiterTests, waiter-tests, lineTests, line-tests, orderTests, order-tests}
 
 module _ (lim : Limits) (s : State) where
@@ -50,6 +50,8 @@ module _ (lim : Limits) (s : State) where
       (eq-eqb _ _ (z .arrived))
       (eq-eqb _ _ (z .awaited))
       (eq-eqb _ _ (z .turns))
+      (eq-eqb _ _ (z .posted))
+      (rows-sized-when lim (lim .tallies) (s .shared .adds) (adds-rows lim s z))
 
 in-range-when : (most n : ℕ) → 1 ≤ n → n ≤ most → inRange most n ≡ true
 unfolding inRange
@@ -69,7 +71,7 @@ module _ (lim : Limits) (s : State) (o : InOrder lim s) where
       (in-range-when _ _ (o .some-lock) (o .locks-fit))
 
   absent-when : absentZero lim s ≡ true
-  unfolding absentTests Given
+  unfolding absentTests Given addsOf
   absent-when =
       absent-tests lim s
       ∙ conjoined-holds (absentTests lim s)
@@ -82,6 +84,7 @@ module _ (lim : Limits) (s : State) (o : InOrder lim s) where
       (every-holds (lim .locks) _ (λ l k. or-when (presentHolder s (Lock l)) _ (λ a. eq-eqb _ _ (o .absent-not-held l a))))
       (every-processor-holds lim _ (λ p k l. or-when (present s p) _ (λ a. not-when (waits (s .marks) p) (o .absent-awake p k a))))
       (every-processor-holds lim _ (λ p k l. or-when (present s p) _ (λ a. eq-eqb _ _ (o .absent-turn p k a))))
+      (every-processor-holds lim _ (λ p k l. or-when (present s p) _ (λ a. all-zero-holds (getD (s .shared .adds) p []) (λ t. o .absent-adds p t k a))))
 
   later-intervals-when : laterIntervalsZero lim s ≡ true
   unfolding laterIntervalsZero

@@ -9,10 +9,12 @@ use borrow.Author.Tests.{eqb-true, eqb-false}
 use Rattle.rules.specs.State.{Limits, dirtyAt, State, clock, own, holder, hasArrived}
 use Rattle.rules.specs.InOrder.{present, dirtyPages}
 use Rattle.rules.specs.Steps.{pageOfWord, read}
-use Rattle.rules.specs.Refusals.{Step, Action, Read, Write, Acquire, Release, Arrive, Want, Unknown, actionOf, lateRefusal, refusalInOrder, effect, nextInOrder}
+use Rattle.rules.specs.Refusals.{Step, Action, Read, Write, Acquire, Release, Arrive, Want, TallyAdd, TallyRead, Unknown, actionOf, lateRefusal, refusalInOrder, effect, nextInOrder}
 use Rattle.rules.proofs.inorder.Facts.{InOrder}
 use Rattle.rules.proofs.inorder.KeptParts.{Parts, parts-of, in-order-of}
-use Rattle.rules.proofs.inorder.Accepted.{Accepted, accepted-says, read-on-page, write-on-page, acquire-there, release-there, late-acquire}
+use Rattle.rules.proofs.inorder.Accepted.{add-there, Accepted, accepted-says, read-on-page, write-on-page, acquire-there, release-there, late-acquire}
+use Rattle.rules.specs.Tallies.{tallyAdded}
+use Rattle.rules.proofs.inorder.KeptShared.{shared-changed, added-in-order}
 use Rattle.rules.proofs.inorder.KeptFetch.{fetched-parts, MayDirty, write-parts}
 use Rattle.rules.proofs.inorder.KeptLocks.{acquire-parts, release-parts, want-parts}
 use Rattle.rules.proofs.inorder.KeptBarrier.{arrive-parts}
@@ -54,6 +56,10 @@ effect-parts lim s t (Acquire i) e f acc =
 effect-parts lim s t (Release i) e f acc = release-parts lim s (t .processor) i f (acc .processor-present) (release-there lim s t i e acc)
 effect-parts lim s t Arrive e f acc = arrive-parts lim s (t .processor) f (acc .processor-present) (acc .not-waiting)
 effect-parts lim s t Want e f acc = want-parts lim s f
+effect-parts lim s t (TallyAdd j v) e f acc =
+    shared-changed lim s (tallyAdded (s .shared) (t .processor) j v) f
+    (added-in-order lim (s .counts) (s .shared) (t .processor) j v (f .counts) (f .shared) (acc .processor-present) (add-there lim s t j v e acc))
+effect-parts lim s t (TallyRead j) e f acc = f
 effect-parts lim s t Unknown e f acc = f
 
 -- what an accepted step does keeps order

@@ -9,7 +9,7 @@ use lib.ListN.{length, getD, length-map}
 use lib.Dec.{eqb}
 use Rattle.lists.specs.Tables.{put}
 use Rattle.lists.proofs.Tables.{get-put-other, length-put-within, get-map, Passes, every-fails}
-use Rattle.rules.specs.State.{Limits, Counts, Processor, Barrier, Clocks, withClock, cleared, Marks, withArrived, State, hasArrived}
+use Rattle.rules.specs.State.{Limits, Counts, Processor, Barrier, Clocks, withClock, cleared, Marks, withArrived, State, hasArrived, withClocks, withMarks}
 use Rattle.rules.specs.Lines.{waits, turnOf}
 use Rattle.rules.specs.Close.{closed}
 use Rattle.rules.specs.Fetch.{fetched}
@@ -22,6 +22,8 @@ use Rattle.rules.proofs.inorder.KeptLines.{arrived-lines, cleared-lines
 use Rattle.rules.proofs.inorder.KeptMoves.{OwnKept, kept-again}
 use Rattle.rules.proofs.inorder.KeptRounds.{carrier-learned, round-clocks, entry-all-cleared, all-cleared-in-order}
 use Rattle.rules.proofs.inorder.KeptClose.{closed-parts}
+use Rattle.rules.specs.Tallies.{posting}
+use Rattle.rules.proofs.inorder.KeptShared.{shared-changed, posted-in-order}
 use Rattle.rules.proofs.inorder.KeptFetch.{moved-parts, fetched-parts}
 use Rattle.rules.proofs.inorder.KeptLocks.{wish-set}
 
@@ -94,10 +96,12 @@ round-parts lim s p f a =
     let c : Clocks = learned (closed s p .clocks) Barrier (Processor p) in
     let told : OwnKept lim (s .counts) (closed s p .clocks) c = barrier-learned lim s p f a in
     let marks : List ℕ = put 0 (s .marks .arrived) p 1 in
-    moved-parts lim (closed s p) (withClock (allLearned c (s .counts .processors)) Barrier (cleared (c .barrier))) (withArrived (s .marks) (map (λ mark. 0) marks)) (closed-parts lim s p f a)
+    let turned = moved-parts lim (closed s p) (withClock (allLearned c (s .counts .processors)) Barrier (cleared (c .barrier))) (withArrived (s .marks) (map (λ mark. 0) marks)) (closed-parts lim s p f a)
     (kept-again told (round-clocks lim (s .counts) c (f .counts) (told .in-order)))
     (arrived-cleared lim (s .counts) (s .marks) marks (f .counts) (f .marks)
-    (length-put-within 0 (s .marks .arrived) p 1 (omega (arith, f .marks .arrived, b .1, f .counts .processors-fit)) ∙ f .marks .arrived))
+    (length-put-within 0 (s .marks .arrived) p 1 (omega (arith, f .marks .arrived, b .1, f .counts .processors-fit)) ∙ f .marks .arrived)) in
+    shared-changed lim (withMarks (withClocks (closed s p) (withClock (allLearned c (s .counts .processors)) Barrier (cleared (c .barrier)))) (withArrived (s .marks) (map (λ mark. 0) marks)))
+    (posting (s .shared) (s .counts .processors)) turned (posted-in-order lim (s .counts) (s .shared) (s .counts .processors) (f .shared))
 
 -- ---- collection
 
@@ -137,6 +141,7 @@ emptied-parts lim s f =
             distinct = λ i j l m. absurd (omega (arith, l));
           };
       marks = wish-set lim (s .counts) (s .marks) 0 (f .marks);
+      shared = f .shared;
       room = omega (arith, f .room);
       dirty-has-interval = λ p g d. omega (arith, entry-all-cleared (s .clocks) (Processor p) p, f .dirty-has-interval p g d);
     }

@@ -64,6 +64,7 @@ closed-parts lim s p f a = go (anyDirty s p) refl
           pages = pages-after;
           records = r .in-order;
           marks = f .marks;
+          shared = f .shared;
           room = omega (arith, r .standing-grown, f .room, dirty-pages-cleaned (s .counts) (s .pages) p a);
           dirty-has-interval = λ q g d.
               let c = dirty-after-cleaning (s .pages) p q g d in
@@ -78,6 +79,7 @@ closed-parts lim s p f a = go (anyDirty s p) refl
           pages = pages-after;
           records = rw is (f .records);
           marks = f .marks;
+          shared = f .shared;
           room = omega (arith, same, f .room, dirty-pages-cleaned (s .counts) (s .pages) p a);
           dirty-has-interval = λ q g d. f .dirty-has-interval q g (dirty-after-cleaning (s .pages) p q g d .0);
         }

@@ -27,6 +27,7 @@ clocks-moved lim s c f k =
       pages = f .pages;
       records = records-with-more-intervals lim (s .counts) (ownIn (s .clocks)) (ownIn c) (s .records) (λ q. omega (arith, k .own-kept q)) (f .records);
       marks = f .marks;
+      shared = f .shared;
       room = f .room;
       dirty-has-interval = λ p g d. omega (arith, k .own-kept p, f .dirty-has-interval p g d);
     }
@@ -40,6 +41,7 @@ marks-changed lim s k f h =
       pages = f .pages;
       records = f .records;
       marks = h;
+      shared = f .shared;
       room = f .room;
       dirty-has-interval = f .dirty-has-interval;
     }
@@ -59,6 +61,7 @@ copy-changed lim s p g page f a l =
       pages = copy-replaced lim (s .counts) (s .pages) p g page a l (f .pages);
       records = f .records;
       marks = f .marks;
+      shared = f .shared;
       room = unfold withCopy dirtyAt in f .room;
       dirty-has-interval = unfold withCopy dirtyAt in f .dirty-has-interval;
     }
@@ -106,6 +109,7 @@ twin-taken-parts lim s p g f a m = go (dirtyAt (s .pages) p g) refl
           pages = new-twin-in-order lim (s .counts) (s .pages) p g a (f .pages);
           records = f .records;
           marks = f .marks;
+          shared = f .shared;
           room = omega (arith, dirty-pages-new-twin (s .counts) (s .pages) p g (a .processor) (a .page) e, m .room-left e);
           dirty-has-interval = λ q h d. dirtied q h d (ℕ-discrete q p);
         })

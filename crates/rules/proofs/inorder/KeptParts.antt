@@ -13,12 +13,12 @@ use Rattle.lists.proofs.Tables.{Passes}
 use Rattle.limits.specs.Limits.{slotHead}
 use Rattle.clock.specs.Clocks.{entryOf}
 use Rattle.diff.specs.Reading.{readRefusal}
-use Rattle.rules.specs.State.{Limits, Counts, Holder, Processor, Lock, Barrier, Applied, Interval, Clocks, clockOf, Pages, copyOf, twinOf, dirtyAt, Records, recordIn, Marks, State, clock, own, holder, hasArrived}
+use Rattle.rules.specs.State.{Limits, Counts, Holder, Processor, Lock, Barrier, Applied, Interval, Clocks, clockOf, Pages, copyOf, twinOf, dirtyAt, Records, recordIn, Marks, Shared, addsOf, State, clock, own, holder, hasArrived}
 use Rattle.rules.specs.Lines.{waits, turnOf}
 use Rattle.rules.specs.InOrder.{present, slotSize, presentHolder, recordAt, sameNotice, dirtyPages}
 use Rattle.rules.proofs.inorder.Facts.{Within, LinesInOrder, InOrder}
 use Rattle.rules.proofs.inorder.Rows.{Rows}
-use Rattle.rules.proofs.inorder.Outside.{applied-rows, interval-rows, copies-rows, twins-rows, dirty-rows}
+use Rattle.rules.proofs.inorder.Outside.{applied-rows, interval-rows, copies-rows, twins-rows, dirty-rows, adds-rows}
 
 -- a present processor, by the counts alone
 abbrev pub presentAmong : Counts → ℕ → Bool
@@ -129,6 +129,12 @@ pub record MarksInOrder (lim : Limits) (n : Counts) (k : Marks) : Type 0 where
   pub someone-missing : Passes (n .processors) (λ i. not (arrivedIn k (suc i)))
   pub lines : LinesInOrder n k
 
+-- the shared values, with the counts
+pub record SharedInOrder (lim : Limits) (n : Counts) (h : Shared) : Type 0 where
+  pub posted : length (h .posted) ≡ lim .tallies
+  pub adds : Rows lim (lim .tallies) (h .adds)
+  pub absent-adds : (p t : ℕ) → 1 ≤ p → presentAmong n p ≡ false → addsOf h p t ≡ 0
+
 -- the parts of a state in order, and what holds between them
 pub record Parts (lim : Limits) (s : State) : Type 0 where
   pub counts : CountsInOrder lim (s .counts)
@@ -136,6 +142,7 @@ pub record Parts (lim : Limits) (s : State) : Type 0 where
   pub pages : PagesInOrder lim (s .counts) (s .pages)
   pub records : RecordsInOrder lim (s .counts) (ownIn (s .clocks)) (s .records)
   pub marks : MarksInOrder lim (s .counts) (s .marks)
+  pub shared : SharedInOrder lim (s .counts) (s .shared)
   pub room : s .records .standing + dirtyIn (s .counts) (s .pages) ≤ lim .records
   pub dirty-has-interval : (p g : ℕ) → dirtyAt (s .pages) p g ≡ true → ownIn (s .clocks) p < lim .intervals
 
@@ -223,6 +230,7 @@ parts-of lim s f =
             someone-missing = f .someone-missing;
             lines = f .lines;
           };
+      shared = record { posted = f .sized .posted; adds = adds-rows lim s (f .sized); absent-adds = f .absent-adds };
       room = f .room;
       dirty-has-interval = f .dirty-has-interval;
     }
@@ -263,6 +271,10 @@ in-order-of lim s f =
             arrived = f .marks .arrived;
             awaited = f .marks .awaited;
             turns = f .marks .turns;
+            posted = f .shared .posted;
+            adds = f .shared .adds .processors;
+            nobody-adds = f .shared .adds .nobody;
+            adds-row = f .shared .adds .row;
           };
       some-processor = f .counts .some-processor;
       processors-fit = f .counts .processors-fit;
@@ -279,6 +291,7 @@ in-order-of lim s f =
       absent-not-held = f .marks .absent-not-held;
       absent-awake = f .marks .absent-awake;
       absent-turn = f .marks .absent-turn;
+      absent-adds = f .shared .absent-adds;
       later-interval = f .clocks .later-interval;
       known = f .clocks .known;
       own-fits = f .clocks .own-fits;

@@ -12,10 +12,10 @@ use Rattle.lists.proofs.Tables.{total-zero}
 use Rattle.lists.proofs.Conditions.{conjoined-at}
 use Rattle.clock.specs.Clocks.{zeros, entryOf}
 use Rattle.clock.proofs.Laws.{entryOf-zeros}
-use Rattle.rules.specs.State.{Limits, Counts, Holder, Processor, Lock, Barrier, Applied, Interval, clockOf, copyOf, twinOf, dirtyAt, clock, own, holder, hasArrived}
+use Rattle.rules.specs.State.{postedOf, addsOf, Limits, Counts, Holder, Processor, Lock, Barrier, Applied, Interval, clockOf, copyOf, twinOf, dirtyAt, clock, own, holder, hasArrived}
 use Rattle.rules.specs.Lines.{waits, turnOf}
 use Rattle.rules.specs.InOrder.{slotSize, countsInRange, dirtyPages, inOrder}
-use Rattle.rules.specs.Opening.{Opening, openingRefusal, rows, zeroClocks, zeroPages, zeroMarks, opened}
+use Rattle.rules.specs.Opening.{zeroShared, Opening, openingRefusal, rows, zeroClocks, zeroPages, zeroMarks, opened}
 use Rattle.rules.proofs.state.Waiters.{awaits}
 use Rattle.rules.proofs.inorder.Facts.{Within, Sized, LinesInOrder, InOrder}
 use Rattle.rules.proofs.inorder.Everywhere.{entry-none}
@@ -133,6 +133,18 @@ opened-clean lim p g =
     (rows-all (λ (row : List ℕ). getD row g 0 ≡ 0) (lim .processors) (replicate {A = ℕ} (lim .pages) 0) p
     (replicated (λ (n : ℕ). n ≡ 0) (lim .pages) g 0 0 refl refl) refl)
 
+-- nothing is posted
+pub opened-none-posted : (lim : Limits) (t : ℕ) → postedOf (zeroShared lim) t ≡ 0
+unfolding postedOf zeroShared
+opened-none-posted lim t = replicated (λ (n : ℕ). n ≡ 0) (lim .tallies) t 0 0 refl refl
+
+-- nothing is added
+pub opened-no-adds : (lim : Limits) (p t : ℕ) → addsOf (zeroShared lim) p t ≡ 0
+unfolding addsOf zeroShared
+opened-no-adds lim p t =
+    rows-all (λ (row : List ℕ). getD row t 0 ≡ 0) (lim .processors) (replicate {A = ℕ} (lim .tallies) 0) p
+    (replicated (λ (n : ℕ). n ≡ 0) (lim .tallies) t 0 0 refl refl) refl
+
 -- ---- the state
 
 module _ (lim : Limits) (c : Counts) where
@@ -182,13 +194,14 @@ module _ (lim : Limits) (c : Counts) where
 
   -- the size is the fixed one
   pub opened-sized : Sized lim (opened lim c)
-  unfolding opened zeroClocks zeroPages zeroMarks clockOf copyOf twinOf
+  unfolding opened zeroClocks zeroPages zeroMarks zeroShared clockOf copyOf twinOf
   opened-sized =
       let processors = rows-sized lim (lim .processors) (zeros (lim .processors)) (length-zeros (lim .processors)) in
       let applied = rows-sized lim (lim .pages) (replicate (lim .pages) (zeros (lim .processors))) (length-replicate (lim .pages) (zeros (lim .processors))) in
       let intervals = rows-sized lim (suc (lim .intervals)) ([] ∷ replicate (lim .intervals) (zeros (lim .processors))) (ap suc (length-replicate (lim .intervals) (zeros (lim .processors)))) in
       let pages = rows-sized lim (lim .pages) (replicate (lim .pages) (replicate {A = ℕ} (lim .words) 0)) (length-replicate (lim .pages) (replicate {A = ℕ} (lim .words) 0)) in
       let dirty = rows-sized lim (lim .pages) (replicate {A = ℕ} (lim .pages) 0) (length-replicate (lim .pages) 0) in
+      let adds = rows-sized lim (lim .tallies) (replicate {A = ℕ} (lim .tallies) 0) (length-replicate (lim .tallies) 0) in
       record {
         processors = processors .processors;
         nobody-clock = processors .nobody;
@@ -220,6 +233,10 @@ module _ (lim : Limits) (c : Counts) where
         arrived = length-replicate (suc (lim .processors)) 0;
         awaited = length-replicate (suc (lim .processors)) 0;
         turns = length-replicate (suc (lim .processors)) 0;
+        posted = length-replicate (lim .tallies) 0;
+        adds = adds .processors;
+        nobody-adds = adds .nobody;
+        adds-row = adds .row;
       }
 
   -- counts in range make the opened state one in order
@@ -249,6 +266,7 @@ module _ (lim : Limits) (c : Counts) where
             absent-not-held = λ l a. opened-not-held l;
             absent-awake = λ p h a. unfold waits in ap (λ (n : ℕ). not (eqb n 0)) (opened-nobody-waits p);
             absent-turn = λ p h a. unfold turnOf in opened-no-turn p;
+            absent-adds = λ p t h a. opened-no-adds lim p t;
             later-interval = λ p i q h. opened-entry lim (Interval p i) q;
             known = λ h q. omega (arith, opened-entry lim h q);
             own-fits = λ p. omega (arith, opened-own p);

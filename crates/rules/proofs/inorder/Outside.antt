@@ -9,7 +9,7 @@ use lib.ListN.{length, List·getD-eq-default}
 use lib.Dec.{eqb}
 use Rattle.lists.specs.Tables.{cell}
 use Rattle.clock.specs.Clocks.{entryOf}
-use Rattle.rules.specs.State.{Limits, Holder, Processor, Lock, Barrier, Applied, Interval, clockOf, copyOf, twinOf, dirtyAt, State, holder, hasArrived}
+use Rattle.rules.specs.State.{addsOf, Limits, Holder, Processor, Lock, Barrier, Applied, Interval, clockOf, copyOf, twinOf, dirtyAt, State, holder, hasArrived}
 use Rattle.rules.specs.Lines.{waits, turnOf}
 use Rattle.rules.proofs.inorder.Facts.{Within, Sized}
 use Rattle.rules.proofs.inorder.Everywhere.{has-place, entry-past, entry-none}
@@ -35,6 +35,9 @@ module _ (lim : Limits) (s : State) (z : Sized lim s) where
 
   pub dirty-rows : Rows lim (lim .pages) (s .pages .dirty)
   dirty-rows = record { processors = z .dirty; nobody = z .nobody-dirty; row = z .dirty-row }
+
+  pub adds-rows : Rows lim (lim .tallies) (s .shared .adds)
+  adds-rows = record { processors = z .adds; nobody = z .nobody-adds; row = z .adds-row }
 
   -- a holder for which there is no place has an empty clock
   pub clock-outside : (h : Holder) → (Within lim h → ⊥) → clockOf (s .clocks) h ≡ []
@@ -105,3 +108,8 @@ module _ (lim : Limits) (s : State) (z : Sized lim s) where
   pub no-turn-outside : (p : ℕ) → lim .processors < p → turnOf (s .marks) p ≡ 0
   unfolding turnOf
   no-turn-outside p h = List·getD-eq-default (s .marks .turns) 0 (omega (arith, z .turns))
+
+  -- a processor outside has added nothing
+  pub no-adds-outside : (p t : ℕ) → lim .processors < p → addsOf (s .shared) p t ≡ 0
+  unfolding addsOf
+  no-adds-outside p t h = cell-outside 0 lim (lim .tallies) (s .shared .adds) adds-rows p t (λ w. omega (arith, h, w .1))

@@ -17,7 +17,8 @@ use Rattle.rules.specs.Opening.{opened}
 use Rattle.rules.specs.Close.{closed}
 use Rattle.rules.specs.Fetch.{fetched}
 use Rattle.rules.specs.Steps.{pageOfWord, offsetOfWord, read, write, want}
-use Rattle.rules.specs.Refusals.{Action, Read, Write, Acquire, Release, Arrive, Want, Unknown, effect}
+use Rattle.rules.specs.Tallies.{tallyAdded}
+use Rattle.rules.specs.Refusals.{Action, Read, Write, Acquire, Release, Arrive, Want, Unknown, effect, TallyAdd, TallyRead}
 use Rattle.rules.specs.Order.{Event, eventAt, Took, Before, program, Ordered}
 use Rattle.rules.specs.Demand.{valueField, EarlierWrite}
 use Rattle.rules.proofs.inorder.KindsOfSteps.{known-action}
@@ -35,6 +36,7 @@ use Rattle.rules.proofs.order.NumbersFollow.{knows-all-writes}
 use Rattle.rules.proofs.word.FetchedWord.{fetched-length, fetched-current}
 use Rattle.rules.proofs.word.WordsFit.{copy-words-fit}
 use Rattle.rules.proofs.invariant.Invariant.{Inv}
+use Rattle.rules.proofs.invariant.InvSame.{shared-aside}
 use Rattle.rules.proofs.invariant.InvEmpty.{inv-without-records}
 use Rattle.rules.proofs.invariant.InvFetch.{fetch-keeps}
 use Rattle.rules.proofs.invariant.InvWrite.{store-elsewhere-keeps, store-there-keeps}
@@ -160,6 +162,8 @@ module _ (lim : Limits) (c : Counts) (es : List Event) (r : Timeline lim c es) (
   by-action j t p (Release x) ordered l less took acc ok ih = release-kept t p (ok .from) (ok .to) ih l x (release-there lim (r .state t) (eventAt es t .step) x (took .action) acc)
   by-action j t p Arrive ordered l less took acc ok ih = arrive-kept t p (ok .from) (ok .to) ih l
   by-action j t p Want ordered l less took acc ok ih = want-keeps t p (ok .from) (ok .to) ih
+  by-action j t p (TallyAdd x v) ordered l less took acc ok ih = unfold effect ghostAfter in shared-aside (lim .words) g o (r .state t) (ghost t) (tallyAdded (r .state t .shared) p x v) ih
+  by-action j t p (TallyRead x) ordered l less took acc ok ih = unfold effect ghostAfter in ih
   by-action j t p Unknown ordered l less took acc ok ih = absurd (known-action (eventAt es t .step) (acc .known-kind) (took .action))
 
   pub inv-at : (j : ℕ) → WritesOrdered j → g < c .pages → (t : ℕ) → t ≤ j → InvAt t

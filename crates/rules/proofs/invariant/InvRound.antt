@@ -9,7 +9,7 @@ use lib.ListN.{length}
 use lib.Dec.{eqb}
 use borrow.Author.Tests.{eqb-true, eq-eqb, ne-eqb}
 use Rattle.lists.proofs.Tables.{every-at}
-use Rattle.rules.specs.State.{Limits, Counts, Holder, Processor, Lock, Barrier, Applied, Interval, cleared, dirtyAt, State, withClocks, standing, hasArrived}
+use Rattle.rules.specs.State.{Limits, Counts, Holder, Processor, Lock, Barrier, Applied, Interval, cleared, dirtyAt, State, withClocks, standing, hasArrived, Shared, withShared, withMarks, withClock}
 use Rattle.rules.specs.Close.{closed}
 use Rattle.rules.specs.Steps.{atBarrier, allArrived, allLearned, roundDone}
 use Rattle.rules.proofs.state.Holders.{sameHolder, Knows, barrier-carries}
@@ -22,7 +22,7 @@ use Rattle.rules.proofs.order.NumbersAfter.{learned-at-most, Knowing}
 use Rattle.rules.proofs.word.WordOfRecords.{nth}
 use Rattle.rules.proofs.invariant.Invariant.{Inv}
 use Rattle.rules.proofs.invariant.InvClocks.{informed-when-cleared}
-use Rattle.rules.proofs.invariant.InvSame.{interval-made}
+use Rattle.rules.proofs.invariant.InvSame.{interval-made, shared-aside}
 use Rattle.rules.proofs.invariant.InvMoves.{withKnown, clean-carrier, clean-processor, inv-same-numbers, clock-move-keeps, learn-keeps}
 use Rattle.rules.proofs.invariant.InvBarrier.{arrivedGhost, at-barrier-keeps}
 
@@ -98,10 +98,11 @@ module _ (words g o : ℕ) (s : State) (γ : Ghost) (inv : Inv words g o s γ) (
       let all : Inv words g o (withClocks s (allLearned (s .clocks) n)) (withKnown γ (allLearnedNumbers (γ .known) n)) = learned-keeps n (omega arith) in
       inv-same-numbers words g o (roundDone s) (withKnown γ (withNumber (allLearnedNumbers (γ .known) n) Barrier 0)) (roundNumbers (γ .known))
       (round-number (γ .known) (s .counts))
+      (shared-aside words g o (withMarks (withClocks s (withClock (allLearned (s .clocks) n) Barrier (cleared (s .clocks .barrier)))) (roundDone s .marks)) (withKnown γ (withNumber (allLearnedNumbers (γ .known) n) Barrier 0)) (roundDone s .shared)
       (clock-move-keeps words g o (withClocks s (allLearned (s .clocks) n)) (withKnown γ (allLearnedNumbers (γ .known) n)) all Barrier (cleared (s .clocks .barrier)) 0
       (roundDone s .marks) (clean-carrier g (withClocks s (allLearned (s .clocks) n)) (barrier-carries (s .counts)))
       (informed-when-cleared words g o (allLearned (s .clocks) n) (standing s) (γ .writes) (s .clocks .barrier) (inv .clocks .none-yet) made)
-      (λ e. absurd (e no-writer)) (λ q h k e. clean q h k))
+      (λ e. absurd (e no-writer)) (λ q h k e. clean q h k)))
 
 -- ---- the arrival that completes the round
 

@@ -9,15 +9,17 @@ use lib.ListN.{length, getD}
 use lib.Dec.{ltb, eqb}
 use borrow.Author.Tests.{ltb-true, eqb-false, not-true, lt-ltb, ne-eqb}
 use Rattle.clock.specs.Clocks.{entryOf}
-use Rattle.rules.specs.State.{Limits, Counts, Holder, Processor, Applied, Clocks, clockOf, Pages, copyOf, twinOf, dirtyAt, Record, State, own, standing}
+use Rattle.rules.specs.State.{Limits, Counts, Holder, Processor, Applied, Clocks, clockOf, Pages, copyOf, twinOf, dirtyAt, Record, Shared, State, withShared, own, standing}
 use Rattle.rules.specs.InOrder.{recordAt}
 use Rattle.rules.specs.Fetch.{sumAt}
 use Rattle.rules.proofs.state.Holders.{Knows}
 use Rattle.rules.proofs.state.Slots.{standing-at, length-standing}
 use Rattle.rules.proofs.inorder.Facts.{InOrder, slots-enough}
+use Rattle.rules.proofs.order.MarksAfter.{rests}
+use Rattle.rules.proofs.order.Ghosts.{Ghost}
 use Rattle.rules.proofs.word.WordOfRecords.{noRecord, nth, FreshUp}
 use Rattle.rules.proofs.word.FetchedWord.{above}
-use Rattle.rules.proofs.invariant.Invariant.{ClockInv, seen, PageInv}
+use Rattle.rules.proofs.invariant.Invariant.{ClockInv, seen, PageInv, Inv}
 use Rattle.rules.proofs.invariant.InvClocks.{informed-same-sums}
 
 -- ---- records that stand in a state in order
@@ -88,3 +90,8 @@ module _ (words g o : ℕ) where
         writer-dirty = λ e. ed ∙ inv .writer-dirty e;
         writer-copy = λ e. ec ∙ inv .writer-copy e;
       }
+
+-- the shared values are aside
+pub shared-aside : (words g o : ℕ) (s : State) (γ : Ghost) (h : Shared) → Inv words g o s γ → Inv words g o (withShared s h) γ
+unfolding standing rests
+shared-aside words g o s γ h i = record { clocks = i .clocks; page = i .page; closed-value = i .closed-value; resting-clean = i .resting-clean }

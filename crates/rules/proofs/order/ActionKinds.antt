@@ -7,7 +7,7 @@ use mathlib.Core.Bool.{Bool, true, false, cond, _&&_, false≢true}
 use mathlib.Core.List.{List}
 use lib.Dec.{eqb}
 use borrow.Author.Tests.{eqb-true, ne-eqb}
-use Rattle.rules.specs.Refusals.{Action, Read, Write, Acquire, Release, Arrive, Want, Unknown, actionOf}
+use Rattle.rules.specs.Refusals.{Action, Read, Write, Acquire, Release, Arrive, Want, TallyAdd, TallyRead, Unknown, actionOf}
 use Rattle.rules.specs.Order.{Event, eventAt, Took, isArrival, isAcquireOf, isReleaseOf}
 use Rattle.rules.specs.Demand.{isWriteTo}
 
@@ -19,6 +19,8 @@ arrivesBy (Acquire l) = false
 arrivesBy (Release l) = false
 arrivesBy Arrive = true
 arrivesBy Want = false
+arrivesBy (TallyAdd j x) = false
+arrivesBy (TallyRead j) = false
 arrivesBy Unknown = false
 
 unfoldable pub writesTo : ℕ → Action → Bool
@@ -28,6 +30,8 @@ writesTo w (Acquire l) = false
 writesTo w (Release l) = false
 writesTo w Arrive = false
 writesTo w Want = false
+writesTo w (TallyAdd j x) = false
+writesTo w (TallyRead j) = false
 writesTo w Unknown = false
 
 -- the value that an action stores
@@ -38,6 +42,8 @@ storedBy (Acquire l) = 0
 storedBy (Release l) = 0
 storedBy Arrive = 0
 storedBy Want = 0
+storedBy (TallyAdd j x) = 0
+storedBy (TallyRead j) = 0
 storedBy Unknown = 0
 
 -- whether it is an acquire of lock l, and whether it is a release of it
@@ -48,6 +54,8 @@ acquiresLock l (Acquire x) = eqb x l
 acquiresLock l (Release x) = false
 acquiresLock l Arrive = false
 acquiresLock l Want = false
+acquiresLock l (TallyAdd j x) = false
+acquiresLock l (TallyRead j) = false
 acquiresLock l Unknown = false
 
 unfoldable pub releasesLock : ℕ → Action → Bool
@@ -57,6 +65,8 @@ releasesLock l (Acquire x) = false
 releasesLock l (Release x) = eqb x l
 releasesLock l Arrive = false
 releasesLock l Want = false
+releasesLock l (TallyAdd j x) = false
+releasesLock l (TallyRead j) = false
 releasesLock l Unknown = false
 
 pub releases-is : (l : ℕ) (a : Action) → releasesLock l a ≡ true → a ≡ Release l
@@ -67,6 +77,8 @@ releases-is l (Acquire x) e = absurd (false≢true e)
 releases-is l (Release x) e = ap Release (eqb-true x l e)
 releases-is l Arrive e = absurd (false≢true e)
 releases-is l Want e = absurd (false≢true e)
+releases-is l (TallyAdd j x) e = absurd (false≢true e)
+releases-is l (TallyRead j) e = absurd (false≢true e)
 releases-is l Unknown e = absurd (false≢true e)
 
 -- an action that arrivesBy is an arrival
@@ -78,6 +90,8 @@ arrives-is (Acquire l) e = absurd (false≢true e)
 arrives-is (Release l) e = absurd (false≢true e)
 arrives-is Arrive e = refl
 arrives-is Want e = absurd (false≢true e)
+arrives-is (TallyAdd j x) e = absurd (false≢true e)
+arrives-is (TallyRead j) e = absurd (false≢true e)
 arrives-is Unknown e = absurd (false≢true e)
 
 -- an action that writes to w is a write to w of the value that it stores
@@ -89,6 +103,8 @@ writes-to-is w (Acquire l) e = absurd (false≢true e)
 writes-to-is w (Release l) e = absurd (false≢true e)
 writes-to-is w Arrive e = absurd (false≢true e)
 writes-to-is w Want e = absurd (false≢true e)
+writes-to-is w (TallyAdd j x) e = absurd (false≢true e)
+writes-to-is w (TallyRead j) e = absurd (false≢true e)
 writes-to-is w Unknown e = absurd (false≢true e)
 
 -- a step's action from its kind
@@ -100,75 +116,85 @@ chosen k x v =
     (cond (eqb k 4) (Release x)
     (cond (eqb k 5) Arrive
     (cond (eqb k 6) Want
-    Unknown)))))
+    (cond (eqb k 8) (TallyAdd x v)
+    (cond (eqb k 9) (TallyRead x)
+    Unknown)))))))
 
 kind-arrives : (k x v : ℕ) → eqb k 5 ≡ arrivesBy (chosen k x v)
 unfolding arrivesBy
 kind-arrives k x v = go (ℕ-discrete k 5)
   where
-    other : (b₁ b₂ b₃ b₄ b₆ : Bool)
-        → false ≡ arrivesBy (cond b₁ (Read x) (cond b₂ (Write x v) (cond b₃ (Acquire x) (cond b₄ (Release x) (cond b₆ Want Unknown)))))
-    other true b₂ b₃ b₄ b₆ = refl
-    other false true b₃ b₄ b₆ = refl
-    other false false true b₄ b₆ = refl
-    other false false false true b₆ = refl
-    other false false false false true = refl
-    other false false false false false = refl
+    other : (b₁ b₂ b₃ b₄ b₆ b₈ b₉ : Bool)
+        → false ≡ arrivesBy (cond b₁ (Read x) (cond b₂ (Write x v) (cond b₃ (Acquire x) (cond b₄ (Release x) (cond b₆ Want (cond b₈ (TallyAdd x v) (cond b₉ (TallyRead x) Unknown)))))))
+    other true b₂ b₃ b₄ b₆ b₈ b₉ = refl
+    other false true b₃ b₄ b₆ b₈ b₉ = refl
+    other false false true b₄ b₆ b₈ b₉ = refl
+    other false false false true b₆ b₈ b₉ = refl
+    other false false false false true b₈ b₉ = refl
+    other false false false false false true b₉ = refl
+    other false false false false false false true = refl
+    other false false false false false false false = refl
 
     go : Dec (k ≡ 5) → eqb k 5 ≡ arrivesBy (chosen k x v)
     go (yes e) = rw e
-    go (no e) = rw (ne-eqb k 5 e) (other (eqb k 1) (eqb k 2) (eqb k 3) (eqb k 4) (eqb k 6))
+    go (no e) = rw (ne-eqb k 5 e) (other (eqb k 1) (eqb k 2) (eqb k 3) (eqb k 4) (eqb k 6) (eqb k 8) (eqb k 9))
 
 kind-writes : (w k x v : ℕ) → (eqb k 2 && eqb x w) ≡ writesTo w (chosen k x v)
 unfolding writesTo
 kind-writes w k x v = go (ℕ-discrete k 2)
   where
-    other : (b₁ b₃ b₄ b₅ b₆ : Bool)
-        → false ≡ writesTo w (cond b₁ (Read x) (cond b₃ (Acquire x) (cond b₄ (Release x) (cond b₅ Arrive (cond b₆ Want Unknown)))))
-    other true b₃ b₄ b₅ b₆ = refl
-    other false true b₄ b₅ b₆ = refl
-    other false false true b₅ b₆ = refl
-    other false false false true b₆ = refl
-    other false false false false true = refl
-    other false false false false false = refl
+    other : (b₁ b₃ b₄ b₅ b₆ b₈ b₉ : Bool)
+        → false ≡ writesTo w (cond b₁ (Read x) (cond b₃ (Acquire x) (cond b₄ (Release x) (cond b₅ Arrive (cond b₆ Want (cond b₈ (TallyAdd x v) (cond b₉ (TallyRead x) Unknown)))))))
+    other true b₃ b₄ b₅ b₆ b₈ b₉ = refl
+    other false true b₄ b₅ b₆ b₈ b₉ = refl
+    other false false true b₅ b₆ b₈ b₉ = refl
+    other false false false true b₆ b₈ b₉ = refl
+    other false false false false true b₈ b₉ = refl
+    other false false false false false true b₉ = refl
+    other false false false false false false true = refl
+    other false false false false false false false = refl
 
     go : Dec (k ≡ 2) → (eqb k 2 && eqb x w) ≡ writesTo w (chosen k x v)
     go (yes e) = rw e
-    go (no e) = rw (ne-eqb k 2 e) (other (eqb k 1) (eqb k 3) (eqb k 4) (eqb k 5) (eqb k 6))
+    go (no e) = rw (ne-eqb k 2 e) (other (eqb k 1) (eqb k 3) (eqb k 4) (eqb k 5) (eqb k 6) (eqb k 8) (eqb k 9))
 
 kind-acquires : (l k x v : ℕ) → (eqb k 3 && eqb x l) ≡ acquiresLock l (chosen k x v)
 unfolding acquiresLock
 kind-acquires l k x v = go (ℕ-discrete k 3)
   where
-    other : (b₁ b₂ b₄ b₅ b₆ : Bool)
-        → false ≡ acquiresLock l (cond b₁ (Read x) (cond b₂ (Write x v) (cond b₄ (Release x) (cond b₅ Arrive (cond b₆ Want Unknown)))))
-    other true b₂ b₄ b₅ b₆ = refl
-    other false true b₄ b₅ b₆ = refl
-    other false false true b₅ b₆ = refl
-    other false false false true b₆ = refl
-    other false false false false true = refl
-    other false false false false false = refl
+    other : (b₁ b₂ b₄ b₅ b₆ b₈ b₉ : Bool)
+        → false ≡ acquiresLock l (cond b₁ (Read x) (cond b₂ (Write x v) (cond b₄ (Release x) (cond b₅ Arrive (cond b₆ Want (cond b₈ (TallyAdd x v) (cond b₉ (TallyRead x) Unknown)))))))
+    other true b₂ b₄ b₅ b₆ b₈ b₉ = refl
+    other false true b₄ b₅ b₆ b₈ b₉ = refl
+    other false false true b₅ b₆ b₈ b₉ = refl
+    other false false false true b₆ b₈ b₉ = refl
+    other false false false false true b₈ b₉ = refl
+    other false false false false false true b₉ = refl
+    other false false false false false false true = refl
+    other false false false false false false false = refl
 
     go : Dec (k ≡ 3) → (eqb k 3 && eqb x l) ≡ acquiresLock l (chosen k x v)
     go (yes e) = rw e
-    go (no e) = rw (ne-eqb k 3 e) (other (eqb k 1) (eqb k 2) (eqb k 4) (eqb k 5) (eqb k 6))
+    go (no e) = rw (ne-eqb k 3 e) (other (eqb k 1) (eqb k 2) (eqb k 4) (eqb k 5) (eqb k 6) (eqb k 8) (eqb k 9))
 
 kind-releases : (l k x v : ℕ) → (eqb k 4 && eqb x l) ≡ releasesLock l (chosen k x v)
 unfolding releasesLock
 kind-releases l k x v = go (ℕ-discrete k 4)
   where
-    other : (b₁ b₂ b₃ b₅ b₆ : Bool)
-        → false ≡ releasesLock l (cond b₁ (Read x) (cond b₂ (Write x v) (cond b₃ (Acquire x) (cond b₅ Arrive (cond b₆ Want Unknown)))))
-    other true b₂ b₃ b₅ b₆ = refl
-    other false true b₃ b₅ b₆ = refl
-    other false false true b₅ b₆ = refl
-    other false false false true b₆ = refl
-    other false false false false true = refl
-    other false false false false false = refl
+    other : (b₁ b₂ b₃ b₅ b₆ b₈ b₉ : Bool)
+        → false ≡ releasesLock l (cond b₁ (Read x) (cond b₂ (Write x v) (cond b₃ (Acquire x) (cond b₅ Arrive (cond b₆ Want (cond b₈ (TallyAdd x v) (cond b₉ (TallyRead x) Unknown)))))))
+    other true b₂ b₃ b₅ b₆ b₈ b₉ = refl
+    other false true b₃ b₅ b₆ b₈ b₉ = refl
+    other false false true b₅ b₆ b₈ b₉ = refl
+    other false false false true b₆ b₈ b₉ = refl
+    other false false false false true b₈ b₉ = refl
+    other false false false false false true b₉ = refl
+    other false false false false false false true = refl
+    other false false false false false false false = refl
 
     go : Dec (k ≡ 4) → (eqb k 4 && eqb x l) ≡ releasesLock l (chosen k x v)
     go (yes e) = rw e
-    go (no e) = rw (ne-eqb k 4 e) (other (eqb k 1) (eqb k 2) (eqb k 3) (eqb k 5) (eqb k 6))
+    go (no e) = rw (ne-eqb k 4 e) (other (eqb k 1) (eqb k 2) (eqb k 3) (eqb k 5) (eqb k 6) (eqb k 8) (eqb k 9))
 
 kind-value : (w k x v : ℕ) → writesTo w (chosen k x v) ≡ true → v ≡ storedBy (chosen k x v)
 unfolding storedBy
@@ -190,6 +216,8 @@ isAcquire (Acquire l) = true
 isAcquire (Release l) = false
 isAcquire Arrive = false
 isAcquire Want = false
+isAcquire (TallyAdd j x) = false
+isAcquire (TallyRead j) = false
 isAcquire Unknown = false
 
 -- a read and a write are none

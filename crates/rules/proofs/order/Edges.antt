@@ -12,7 +12,7 @@ use borrow.Author.Tests.{eqb-true, eq-eqb, ltb-true, lt-ltb, not-true}
 use Rattle.lists.specs.Tables.{every, any}
 use Rattle.lists.proofs.Tables.{every-at, any-at, any-holds}
 use Rattle.lists.proofs.Conditions.{conjoined, conjoined-at, Given, conjoined-holds}
-use Rattle.rules.specs.Refusals.{Action, Read, Write, Acquire, Release, Arrive, Want, Unknown, actionOf}
+use Rattle.rules.specs.Refusals.{Action, Read, Write, Acquire, Release, Arrive, Want, TallyAdd, TallyRead, Unknown, actionOf}
 use Rattle.rules.specs.Order.{Event, noEvent, eventAt, Took, isArrival, countedOff, groupsBefore, rounds, counted, isAcquireOf, isReleaseOf, Serves, Before, program, lock, round, granted, chain}
 use Rattle.rules.proofs.order.ActionKinds.{arrivesBy, arrives-is, isAcquire}
 
@@ -53,6 +53,8 @@ isRelease (Acquire l) = false
 isRelease (Release l) = true
 isRelease Arrive = false
 isRelease Want = false
+isRelease (TallyAdd j x) = false
+isRelease (TallyRead j) = false
 isRelease Unknown = false
 
 -- the lock that an action takes or frees
@@ -63,6 +65,8 @@ lockOf (Acquire l) = l
 lockOf (Release l) = l
 lockOf Arrive = 0
 lockOf Want = 0
+lockOf (TallyAdd j x) = 0
+lockOf (TallyRead j) = 0
 lockOf Unknown = 0
 
 release-is : (a : Action) → isRelease a ≡ true → a ≡ Release (lockOf a)
@@ -73,6 +77,8 @@ release-is (Acquire l) e = absurd (false≢true e)
 release-is (Release l) e = refl
 release-is Arrive e = absurd (false≢true e)
 release-is Want e = absurd (false≢true e)
+release-is (TallyAdd j x) e = absurd (false≢true e)
+release-is (TallyRead j) e = absurd (false≢true e)
 release-is Unknown e = absurd (false≢true e)
 
 acquire-is : (a : Action) → isAcquire a ≡ true → a ≡ Acquire (lockOf a)
@@ -83,6 +89,8 @@ acquire-is (Acquire l) e = refl
 acquire-is (Release l) e = absurd (false≢true e)
 acquire-is Arrive e = absurd (false≢true e)
 acquire-is Want e = absurd (false≢true e)
+acquire-is (TallyAdd j x) e = absurd (false≢true e)
+acquire-is (TallyRead j) e = absurd (false≢true e)
 acquire-is Unknown e = absurd (false≢true e)
 
 -- the processor and the action at a place

@@ -10,7 +10,7 @@ use borrow.Author.Tests.{eqb-false, ne-eqb}
 use Rattle.rules.specs.State.{Limits, Counts, Holder, Processor, Lock, Barrier, Applied, Interval, State, holder}
 use Rattle.rules.specs.Lines.{firstInLine}
 use Rattle.rules.specs.Steps.{atBarrier, allArrived, wantsCollection}
-use Rattle.rules.specs.Refusals.{Action, Read, Write, Acquire, Release, Arrive, Want, Unknown, actionOf}
+use Rattle.rules.specs.Refusals.{Action, Read, Write, Acquire, Release, Arrive, Want, TallyAdd, TallyRead, Unknown, actionOf}
 use Rattle.rules.specs.Order.{Event, eventAt, Took}
 use Rattle.rules.specs.Demand.{valueField}
 use Rattle.rules.proofs.state.Holders.{sameHolder}
@@ -94,6 +94,8 @@ ghostAfter w s p Arrive γ =
       known = cond (completes s p) (roundNumbers (arrivedNumbers γ p)) (arrivedNumbers γ p);
     }
 ghostAfter w s p Want γ = γ
+ghostAfter w s p (TallyAdd j x) γ = γ
+ghostAfter w s p (TallyRead j) γ = γ
 ghostAfter w s p Unknown γ = γ
 
 module _ (lim : Limits) (c : Counts) (es : List Event) (r : Timeline lim c es) (w : ℕ) where

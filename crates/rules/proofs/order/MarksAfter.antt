@@ -13,7 +13,7 @@ use Rattle.rules.specs.Lines.{waits, lockAsked, lockHanded}
 use Rattle.rules.specs.Close.{closed}
 use Rattle.rules.specs.Fetch.{fetched}
 use Rattle.rules.specs.Steps.{read, write, acquire, release, atBarrier, allArrived, roundDone, allFetched, emptied, collected, wantsCollection, arrive, want}
-use Rattle.rules.specs.Refusals.{Action, Read, Write, Acquire, Release, Arrive, Want, Unknown, effect}
+use Rattle.rules.specs.Refusals.{Action, Read, Write, Acquire, Release, Arrive, Want, TallyAdd, TallyRead, Unknown, effect}
 use Rattle.rules.proofs.state.Fetches.{all-fetched-marks}
 use Rattle.rules.proofs.state.Waiters.{awaits, turnAt, holderIn, asked-arrived, handed-arrived}
 use Rattle.rules.proofs.inorder.KeptParts.{arrivedIn}
@@ -143,6 +143,8 @@ linesAfter s p (Acquire l) = lockAsked (s .counts .processors) (s .marks) l p
 linesAfter s p (Release l) = lockHanded (s .counts .processors) (s .marks) l
 linesAfter s p Arrive = s .marks
 linesAfter s p Want = s .marks
+linesAfter s p (TallyAdd j x) = s .marks
+linesAfter s p (TallyRead j) = s .marks
 linesAfter s p Unknown = s .marks
 
 -- the same holders, waiters and turns
@@ -165,6 +167,8 @@ lines-after lim s p Arrive =
       turns = arrive-keeps (λ m. m .turns) (λ m l. refl) (λ m w. refl) lim s p;
     }
 lines-after lim s p Want = record { holders = refl; awaited = refl; turns = refl }
+lines-after lim s p (TallyAdd j x) = record { holders = refl; awaited = refl; turns = refl }
+lines-after lim s p (TallyRead j) = record { holders = refl; awaited = refl; turns = refl }
 lines-after lim s p Unknown = record { holders = refl; awaited = refl; turns = refl }
 
 module _ (lim : Limits) (s : State) (p : ℕ) (a : Action) where
@@ -190,6 +194,8 @@ arrivedAfter s p (Acquire k) q = hasArrived s q
 arrivedAfter s p (Release k) q = hasArrived s q
 arrivedAfter s p Arrive q = cond (completes s p) false (cond (eqb q p) true (hasArrived s q))
 arrivedAfter s p Want q = hasArrived s q
+arrivedAfter s p (TallyAdd j x) q = hasArrived s q
+arrivedAfter s p (TallyRead j) q = hasArrived s q
 arrivedAfter s p Unknown q = hasArrived s q
 
 arrived-after-arrive : (lim : Limits) (s : State) (p q : ℕ) → hasArrived (arrive lim s p .after) q ≡ arrivedAfter s p Arrive q
@@ -209,4 +215,6 @@ arrived-after lim s p (Acquire k) q = ap (λ (l : List ℕ). not (eqb (getD l q 
 arrived-after lim s p (Release k) q = ap (λ (l : List ℕ). not (eqb (getD l q 0) 0)) (handed-arrived (s .counts .processors) (s .marks) k)
 arrived-after lim s p Arrive q = arrived-after-arrive lim s p q
 arrived-after lim s p Want q = refl
+arrived-after lim s p (TallyAdd j x) q = refl
+arrived-after lim s p (TallyRead j) q = refl
 arrived-after lim s p Unknown q = refl

@@ -12,7 +12,7 @@ use Rattle.lists.proofs.Tables.{get-put, get-put-other}
 use Rattle.rules.specs.State.{Limits, Counts, Marks, withHolder, State, hasArrived}
 use Rattle.rules.specs.Lines.{inLine, firstInLine, withWaiter, lockAsked, withoutWaiter, lockHanded}
 use Rattle.rules.specs.Opening.{zeroMarks, opened}
-use Rattle.rules.specs.Refusals.{Step, Action, Read, Write, Acquire, Release, Arrive, Want, Unknown, actionOf, refusalInOrder, effect, nextInOrder}
+use Rattle.rules.specs.Refusals.{Step, Action, Read, Write, Acquire, Release, Arrive, Want, TallyAdd, TallyRead, Unknown, actionOf, refusalInOrder, effect, nextInOrder}
 use Rattle.rules.proofs.state.Waiters.{holderIn, moved-up-at}
 use Rattle.rules.proofs.inorder.Accepted.{accepted-says, present-says}
 use Rattle.rules.proofs.order.Ghosts.{completes}
@@ -46,6 +46,8 @@ not-marked-after s p Arrive h e = rw (ne-eqb 0 p (λ z. omega arith), e) (go (co
     go true = refl
     go false = refl
 not-marked-after s p Want h e = e
+not-marked-after s p (TallyAdd j x) h e = e
+not-marked-after s p (TallyRead j) h e = e
 not-marked-after s p Unknown h e = e
 
 -- ---- the marks of waiting
@@ -82,6 +84,8 @@ awake-after s p (Acquire l) h f = asked-awake (s .counts .processors) (s .marks)
 awake-after s p (Release l) h f = handed-awake (s .counts .processors) (s .marks) l f
 awake-after s p Arrive h f = f
 awake-after s p Want h f = f
+awake-after s p (TallyAdd j x) h f = f
+awake-after s p (TallyRead j) h f = f
 awake-after s p Unknown h f = f
 
 -- ---- runs

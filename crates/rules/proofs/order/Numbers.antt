@@ -9,7 +9,7 @@ use mathlib.Core.List.{List}
 use lib.Dec.{eqb}
 use Rattle.rules.specs.State.{Limits, Counts, Holder, Processor, Lock, Barrier, State, holder}
 use Rattle.rules.specs.Lines.{firstInLine}
-use Rattle.rules.specs.Refusals.{Action, Read, Write, Acquire, Release, Arrive, Want, Unknown}
+use Rattle.rules.specs.Refusals.{Action, Read, Write, Acquire, Release, Arrive, Want, TallyAdd, TallyRead, Unknown}
 use Rattle.rules.specs.Order.{Event, Took, rounds}
 use Rattle.rules.proofs.state.Holders.{sameHolder}
 use Rattle.rules.proofs.order.Timeline.{Timeline, Moment, Refused, Taken, moment, counts-stay}
@@ -40,6 +40,8 @@ module _ (w : ℕ) (s : State) (p : ℕ) (γ : Ghost) where
   barrier-grows (Release l) e = granted-grows (freedNumbers γ p l) (firstInLine (s .counts .processors) (s .marks) l) l Barrier
   barrier-grows Arrive e = rw e (omega arith)
   barrier-grows Want e = omega arith
+  barrier-grows (TallyAdd j x) e = omega arith
+  barrier-grows (TallyRead j) e = omega arith
   barrier-grows Unknown e = omega arith
 
   -- a completed round hands on what the barrier knew and what its last processor knew

@@ -8,7 +8,7 @@ use lib.Dec.{eqb}
 use borrow.Author.Tests.{eqb-true, eqb-false, ne-eqb}
 use Rattle.rules.specs.State.{Limits, Holder, Processor, Lock, Barrier, Applied, Interval, State, holder, hasArrived}
 use Rattle.rules.specs.Lines.{firstInLine}
-use Rattle.rules.specs.Refusals.{Action, Read, Write, Acquire, Release, Arrive, Want, Unknown, effect}
+use Rattle.rules.specs.Refusals.{Action, Read, Write, Acquire, Release, Arrive, Want, TallyAdd, TallyRead, Unknown, effect}
 use Rattle.rules.proofs.state.Holders.{sameHolder, same-holder-refl, same-holder}
 use Rattle.rules.proofs.state.Waiters.{holderIn, found-stands, asked-holder, handed-holder}
 use Rattle.rules.proofs.inorder.Facts.{LinesInOrder}
@@ -170,6 +170,8 @@ module _ (n w : ℕ) (s : State) (p : ℕ) (γ : Ghost) where
       go true = round-numbers-at-most (arrivedNumbers γ p) (γ .writes) arrived h
       go false = arrived h
   at-most-after k Want h = k .at-most h
+  at-most-after k (TallyAdd j x) h = k .at-most h
+  at-most-after k (TallyRead j) h = k .at-most h
   at-most-after k Unknown h = k .at-most h
 
   -- no processor's number falls
@@ -193,6 +195,8 @@ module _ (n w : ℕ) (s : State) (p : ℕ) (γ : Ghost) where
       go true = omega arith
       go false = omega arith
   processor-grows k Want q = omega arith
+  processor-grows k (TallyAdd j x) q = omega arith
+  processor-grows k (TallyRead j) q = omega arith
   processor-grows k Unknown q = omega arith
 
   -- nor a lock's
@@ -222,6 +226,8 @@ module _ (n w : ℕ) (s : State) (p : ℕ) (γ : Ghost) where
       go true = omega arith
       go false = omega arith
   lock-grows k Want al i = omega arith
+  lock-grows k (TallyAdd j x) al i = omega arith
+  lock-grows k (TallyRead j) al i = omega arith
   lock-grows k Unknown al i = omega arith
 
   holder-knows-after : Knowing n s γ → (a : Action) (l : ℕ) → (holderIn (linesAfter s p a) l ≡ 0 → ⊥)
@@ -270,6 +276,8 @@ module _ (n w : ℕ) (s : State) (p : ℕ) (γ : Ghost) where
       go true below = omega arith
       go false below = below
   holder-knows-after k Want l h = k .holder-knows l h
+  holder-knows-after k (TallyAdd j x) l h = k .holder-knows l h
+  holder-knows-after k (TallyRead j) l h = k .holder-knows l h
   holder-knows-after k Unknown l h = k .holder-knows l h
 
   -- who has arrived does not act, so a step leaves its number
@@ -323,6 +331,8 @@ module _ (n w : ℕ) (s : State) (p : ℕ) (γ : Ghost) where
       go false true e h = rw (eqb-true q p e) (omega arith)
       go false false e h = omega (arith, k .arrived-knows q h)
   arrived-knows-after f k Want al q h = k .arrived-knows q h
+  arrived-knows-after f k (TallyAdd j x) al q h = k .arrived-knows q h
+  arrived-knows-after f k (TallyRead j) al q h = k .arrived-knows q h
   arrived-knows-after f k Unknown al q h = k .arrived-knows q h
 
   -- a step that is no write to w leaves the number of writes
@@ -334,6 +344,8 @@ module _ (n w : ℕ) (s : State) (p : ℕ) (γ : Ghost) where
   writes-after (Release l) e = refl
   writes-after Arrive e = refl
   writes-after Want e = refl
+  writes-after (TallyAdd j x) e = refl
+  writes-after (TallyRead j) e = refl
   writes-after Unknown e = refl
 
   -- and after a write to w its processor knows them all
@@ -345,6 +357,8 @@ module _ (n w : ℕ) (s : State) (p : ℕ) (γ : Ghost) where
   writer-knows (Release l) e = absurd (false≢true e)
   writer-knows Arrive e = absurd (false≢true e)
   writer-knows Want e = absurd (false≢true e)
+  writer-knows (TallyAdd j x) e = absurd (false≢true e)
+  writer-knows (TallyRead j) e = absurd (false≢true e)
   writer-knows Unknown e = absurd (false≢true e)
 
   -- all of it stays

@@ -13,7 +13,7 @@ use borrow.Author.Tests.{eq-eqb}
 use Rattle.lists.proofs.Tables.{get-put}
 use Rattle.rules.specs.State.{Limits, Counts, Processor, Lock, Marks, withHolder, State, holder}
 use Rattle.rules.specs.Lines.{waits, firstInLine, withoutWaiter, lockHanded}
-use Rattle.rules.specs.Refusals.{Action, Read, Write, Acquire, Release, Arrive, Want, Unknown}
+use Rattle.rules.specs.Refusals.{Action, Read, Write, Acquire, Release, Arrive, Want, TallyAdd, TallyRead, Unknown}
 use Rattle.rules.specs.Order.{Event, eventAt, Took, Serves, Before}
 use Rattle.rules.specs.Demand.{valueField, lastWritten, EarlierWrite}
 use Rattle.rules.proofs.state.Holders.{sameHolder}
@@ -51,6 +51,8 @@ awake-after s p (Release l) e h = rw (get-put 0 (s .marks .awaited) (firstInLine
     go false = h
 awake-after s p Arrive e h = h
 awake-after s p Want e h = h
+awake-after s p (TallyAdd j x) e h = h
+awake-after s p (TallyRead j) e h = h
 awake-after s p Unknown e h = h
 
 -- ---- what a release and an acquire hand on
@@ -81,6 +83,8 @@ module _ (w : ℕ) (s : State) (p : ℕ) (γ : Ghost) where
   last-after (Release l) = refl
   last-after Arrive = refl
   last-after Want = refl
+  last-after (TallyAdd j x) = refl
+  last-after (TallyRead j) = refl
   last-after Unknown = refl
 
 module _ (lim : Limits) (c : Counts) (es : List Event) (r : Timeline lim c es) (w : ℕ) where

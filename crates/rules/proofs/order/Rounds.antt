@@ -12,7 +12,7 @@ use Rattle.lists.proofs.Tables.{total-same, total-zero, total-change}
 use Rattle.rules.specs.State.{Limits, Counts, State, hasArrived}
 use Rattle.rules.specs.Close.{closed}
 use Rattle.rules.specs.Steps.{atBarrier, allArrived}
-use Rattle.rules.specs.Refusals.{Action, Read, Write, Acquire, Release, Arrive, Want, Unknown, effect}
+use Rattle.rules.specs.Refusals.{Action, Read, Write, Acquire, Release, Arrive, Want, TallyAdd, TallyRead, Unknown, effect}
 use Rattle.rules.specs.Order.{Event, eventAt, Took, isArrival, Groups, countedOff, groupsBefore, rounds}
 use Rattle.rules.proofs.inorder.OpenedInOrder.{opened-not-arrived}
 use Rattle.rules.proofs.order.Timeline.{Timeline, Moment, Refused, Taken, moment, counts-stay}
@@ -106,6 +106,8 @@ arrivals-after n lim s p (Acquire l) al = arrivals-same n s (effect lim s p (Acq
 arrivals-after n lim s p (Release l) al = arrivals-same n s (effect lim s p (Release l) .after) (arrived-after lim s p (Release l))
 arrivals-after n lim s p Arrive al = arrivals-arrive n lim s p al
 arrivals-after n lim s p Want al = arrivals-same n s (effect lim s p Want .after) (arrived-after lim s p Want)
+arrivals-after n lim s p (TallyAdd j x) al = arrivals-same n s (effect lim s p (TallyAdd j x) .after) (arrived-after lim s p (TallyAdd j x))
+arrivals-after n lim s p (TallyRead j) al = arrivals-same n s (effect lim s p (TallyRead j) .after) (arrived-after lim s p (TallyRead j))
 arrivals-after n lim s p Unknown al = arrivals-same n s (effect lim s p Unknown .after) (arrived-after lim s p Unknown)
 
 -- ---- the groups

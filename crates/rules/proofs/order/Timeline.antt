@@ -11,7 +11,7 @@ use Rattle.rules.specs.Opening.{opened}
 use Rattle.rules.specs.Close.{closed}
 use Rattle.rules.specs.Fetch.{fetched}
 use Rattle.rules.specs.Steps.{read, write, acquire, release, atBarrier, allArrived, roundDone, emptied, collected, wantsCollection, arrive, want}
-use Rattle.rules.specs.Refusals.{Action, Read, Write, Acquire, Release, Arrive, Want, Unknown, actionOf, refusalInOrder, effect, nextInOrder}
+use Rattle.rules.specs.Refusals.{Action, Read, Write, Acquire, Release, Arrive, Want, TallyAdd, TallyRead, Unknown, actionOf, refusalInOrder, effect, nextInOrder}
 use Rattle.rules.specs.Order.{Event, eventAt, Took}
 use Rattle.rules.proofs.state.Fetches.{all-fetched-counts}
 use Rattle.rules.proofs.inorder.Facts.{InOrder}
@@ -92,6 +92,8 @@ effect-keeps-counts lim s p (Acquire l) = refl
 effect-keeps-counts lim s p (Release l) = refl
 effect-keeps-counts lim s p Arrive = arrive-counts lim s p
 effect-keeps-counts lim s p Want = refl
+effect-keeps-counts lim s p (TallyAdd j x) = refl
+effect-keeps-counts lim s p (TallyRead j) = refl
 effect-keeps-counts lim s p Unknown = refl
 
 pub counts-kept : (lim : Limits) (es : List Event) (state : ℕ → State) → Course lim es state → (t : ℕ) → state t .counts ≡ state 0 .counts

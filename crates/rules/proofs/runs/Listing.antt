@@ -2,21 +2,22 @@
 use Prim.Native.Nat.{ℕ}
 use mathlib.Core.Path.{_≡_, refl}
 use mathlib.Core.List.{List, [], _∷_}
-use Rattle.lists.specs.Tables.{put, putCell, every, any, total, firstOf, select, insertBy, sortBy}
+use Rattle.lists.specs.Tables.{tabulate, put, putCell, every, any, total, firstOf, select, insertBy, sortBy}
 use Rattle.clock.specs.Clocks.{zeros, joined, entryOf, sumOf}
 use Rattle.diff.specs.Format.{setting, difference, ended, runsFrom, runs, setWords, pairBytes, wordBytes, wordsBytes, bytesOf, written}
 use Rattle.diff.specs.Reading.{runCount, runsAt, runsIn, wordsPlace, wordAt, wordsAt, wordCount, settingsOf, settings, overlay, applied}
-use Rattle.rules.specs.State.{mainframe, clockOf, withClock, cleared, copyOf, twinOf, dirtyAt, slotBytes, recordIn, recordsOf, laidOver, appended, State, clock, own, standing, holder, hasArrived, withHolder}
+use Rattle.rules.specs.State.{mainframe, clockOf, withClock, cleared, copyOf, twinOf, dirtyAt, slotBytes, recordIn, recordsOf, laidOver, appended, State, clock, own, standing, holder, hasArrived, withHolder, postedOf, addsOf}
 use Rattle.rules.specs.Lines.{waits, waitsFor, turnOf, inLine, waiterAt, firstInLine, withWaiter, lockAsked, movedUp, withoutWaiter, lockHanded}
 use Rattle.rules.specs.InOrder.{present, slotSize, dirtyPages}
-use Rattle.rules.specs.Opening.{rows, zeroClocks, zeroPages, zeroMarks, opened}
+use Rattle.rules.specs.Opening.{rows, zeroClocks, zeroPages, zeroMarks, zeroShared, opened}
 use Rattle.rules.specs.Close.{anyDirty, raised, ticked, newRecord, recorded, cleaned, closed}
 use Rattle.rules.specs.Fetch.{isPending, sumAt, earlier, due, appliedAll, withCopy, fetched, fetchCount}
 use Rattle.rules.specs.Steps.{pageOfWord, offsetOfWord, wordOf, read, newTwin, twinTaken, stored, write, learned, acquire, lockTold, waiterTold, release, atBarrier, allArrived, allLearned, roundDone, pagesFetched, allFetched, allCleared, emptied, collected, wantsCollection, arrive, want}
+use Rattle.rules.specs.Tallies.{tallyAdded, tallyTotal, totalAfter, posting}
 use Rattle.rules.specs.Refusals.{Step, actionOf, knownKind, objectBound, usesValue, fits, lateRefusal, refusalBy, refusalInOrder, effect, Answer, refusedAs, answerInOrder, nextInOrder}
 use Rattle.rules.specs.Runs.{answersInOrder, stateInOrder}
 
--- the six kinds of step: a processor, then the word or lock, then the value
+-- the kinds of step: a processor, then the word, lock or tally, then the value
 abbrev pub reads : ℕ → ℕ → Step
 reads p w = record { kind = 1; processor = p; object = w; value = 0 }
 
@@ -35,9 +36,15 @@ arrives p = record { kind = 5; processor = p; object = 0; value = 0 }
 abbrev pub wants : ℕ → Step
 wants p = record { kind = 6; processor = p; object = 0; value = 0 }
 
+abbrev pub adds : ℕ → ℕ → ℕ → Step
+adds p t v = record { kind = 8; processor = p; object = t; value = v }
+
+abbrev pub totals : ℕ → ℕ → Step
+totals p t = record { kind = 9; processor = p; object = t; value = 0 }
+
 -- the mainframe opened with so many processors, pages and locks; who unfolds it unfolds the rules that a run computes with
 unfoldable pub start : ℕ → ℕ → ℕ → State
-unfolding mainframe zeros joined entryOf sumOf setting difference ended runsFrom runs setWords pairBytes wordBytes wordsBytes bytesOf written runCount runsAt runsIn wordsPlace wordAt wordsAt wordCount settingsOf settings overlay applied anyDirty raised ticked newRecord recorded cleaned closed isPending sumAt earlier due appliedAll withCopy fetched fetchCount present slotSize dirtyPages rows zeroClocks zeroPages zeroMarks opened actionOf knownKind objectBound usesValue fits lateRefusal refusalBy refusalInOrder effect refusedAs answerInOrder nextInOrder answersInOrder stateInOrder clockOf withClock cleared copyOf twinOf dirtyAt slotBytes recordIn recordsOf laidOver appended clock own standing holder hasArrived pageOfWord offsetOfWord wordOf read newTwin twinTaken stored write withHolder waits waitsFor turnOf inLine waiterAt firstInLine withWaiter lockAsked movedUp withoutWaiter lockHanded learned acquire lockTold waiterTold release atBarrier allArrived allLearned roundDone pagesFetched allFetched allCleared emptied collected wantsCollection arrive want put putCell every any total firstOf select insertBy sortBy
+unfolding mainframe zeros joined entryOf sumOf setting difference ended runsFrom runs setWords pairBytes wordBytes wordsBytes bytesOf written runCount runsAt runsIn wordsPlace wordAt wordsAt wordCount settingsOf settings overlay applied anyDirty raised ticked newRecord recorded cleaned closed isPending sumAt earlier due appliedAll withCopy fetched fetchCount present slotSize dirtyPages rows zeroClocks zeroPages zeroMarks zeroShared opened actionOf knownKind objectBound usesValue fits lateRefusal refusalBy refusalInOrder effect refusedAs answerInOrder nextInOrder answersInOrder stateInOrder clockOf withClock cleared copyOf twinOf dirtyAt slotBytes recordIn recordsOf laidOver appended clock own standing holder hasArrived pageOfWord offsetOfWord wordOf read newTwin twinTaken stored write withHolder waits waitsFor turnOf inLine waiterAt firstInLine withWaiter lockAsked movedUp withoutWaiter lockHanded learned acquire lockTold waiterTold release atBarrier allArrived allLearned roundDone pagesFetched allFetched allCleared emptied collected wantsCollection arrive want postedOf addsOf tallyAdded tallyTotal totalAfter posting tabulate put putCell every any total firstOf select insertBy sortBy
 start processors pages locks = opened mainframe (record { processors = processors; pages = pages; locks = locks })
 
 -- an answer: refusal, value and count

@@ -1,4 +1,4 @@
--- Fetching every page for every processor: what each fetch keeps is kept, the counts and the marks among it. Rests on the definitions
+-- Fetching every page for every processor: what each fetch keeps is kept, the counts, the marks and the tallies among it. Rests on the definitions
 -- alone. Assumes nothing.
 use Prim.Native.Nat.{ℕ, zero, suc, _≤_, _<_}
 use native.Mathlib.Omega.{arith}
@@ -35,3 +35,8 @@ all-fetched-counts lim s = all-fetched-keep lim s (λ u. u .counts ≡ s .counts
 pub all-fetched-marks : (lim : Limits) (s : State) → allFetched lim s (s .counts .processors) .after .marks ≡ s .marks
 unfolding fetched
 all-fetched-marks lim s = all-fetched-keep lim s (λ u. u .marks ≡ s .marks) (λ u p g h k l e. e) refl
+
+-- the tallies
+pub all-fetched-shared : (lim : Limits) (s : State) → allFetched lim s (s .counts .processors) .after .shared ≡ s .shared
+unfolding fetched
+all-fetched-shared lim s = all-fetched-keep lim s (λ u. u .shared ≡ s .shared) (λ u p g h k l e. e) refl

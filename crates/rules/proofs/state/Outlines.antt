@@ -13,7 +13,7 @@ use Rattle.rules.specs.Lines.{firstInLine, lockAsked, lockHanded}
 use Rattle.rules.specs.Close.{anyDirty, ticked, newRecord, recorded, cleaned, closed}
 use Rattle.rules.specs.Fetch.{withCopy, fetched}
 use Rattle.rules.specs.Steps.{pageOfWord, read, newTwin, twinTaken, stored, write, learned, acquire, lockTold, waiterTold, release, atBarrier, allArrived, roundDone, pagesFetched, allFetched, emptied, collected, wantsCollection, arrive, want}
-use Rattle.rules.specs.Refusals.{Step, Action, Read, Write, Acquire, Release, Arrive, Want, Unknown, actionOf, objectBound, usesValue, fits, lateRefusal, refusalBy, refusalInOrder, effect, nextInOrder}
+use Rattle.rules.specs.Refusals.{Step, Action, Read, Write, Acquire, Release, Arrive, Want, TallyAdd, TallyRead, Unknown, actionOf, objectBound, usesValue, fits, lateRefusal, refusalBy, refusalInOrder, effect, nextInOrder}
 
 -- a state without what words, twins and diffs hold: of the pages which are dirty, of the records how many stand
 pub record Outline : Type 0 where
@@ -35,6 +35,7 @@ blank o =
       pages = record { copies = []; twins = []; dirty = o .dirty };
       records = record { standing = o .standing; slots = [] };
       marks = o .marks;
+      shared = record { posted = []; adds = [] };
     }
 
 -- a change of states that reads outlines alone
@@ -163,6 +164,8 @@ effect-by-outline lim p (Acquire l) s = after-acquire l p s
 effect-by-outline lim p (Release l) s = after-release l p s
 effect-by-outline lim p Arrive s = after-arrive lim p s
 effect-by-outline lim p Want s = unfold want wantsCollection outline blank in refl
+effect-by-outline lim p (TallyAdd j x) s = unfold want wantsCollection outline blank in refl
+effect-by-outline lim p (TallyRead j) s = unfold want wantsCollection outline blank in refl
 effect-by-outline lim p Unknown s = unfold outline blank in refl
 
 -- ---- the refusals
@@ -175,6 +178,8 @@ late-by-outline lim s e p (Acquire l) = refl
 late-by-outline lim s e p (Release l) = refl
 late-by-outline lim s e p Arrive = refl
 late-by-outline lim s e p Want = refl
+late-by-outline lim s e p (TallyAdd j x) = refl
+late-by-outline lim s e p (TallyRead j) = refl
 late-by-outline lim s e p Unknown = refl
 
 bound-by-outline : (lim : Limits) (s : State) (a : Action) → objectBound lim s a ≡ objectBound lim (blank (outline s)) a
@@ -185,6 +190,8 @@ bound-by-outline lim s (Acquire l) = refl
 bound-by-outline lim s (Release l) = refl
 bound-by-outline lim s Arrive = refl
 bound-by-outline lim s Want = refl
+bound-by-outline lim s (TallyAdd j x) = refl
+bound-by-outline lim s (TallyRead j) = refl
 bound-by-outline lim s Unknown = refl
 
 refused-by-outline : (lim : Limits) (s : State) (t : Step) → refusalInOrder lim s t ≡ refusalInOrder lim (blank (outline s)) t

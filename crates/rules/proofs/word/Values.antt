@@ -13,12 +13,13 @@ use Rattle.lists.proofs.Selected.{Each, each-append, each-select, each-sort}
 use Rattle.diff.specs.Format.{Below}
 use Rattle.diff.specs.inner.Settings.{settingAt}
 use Rattle.diff.proofs.Theorems.{exactly-the-differing-words}
-use Rattle.rules.specs.State.{dirtyAt, Limits, Clocks, Pages, copyOf, twinOf, Record, recordsOf, Marks, State, withClocks, withPages, withMarks, standing}
+use Rattle.rules.specs.State.{dirtyAt, Limits, Clocks, Pages, copyOf, twinOf, Record, recordsOf, Marks, State, withClocks, withPages, withMarks, standing, Shared, withShared}
 use Rattle.rules.specs.InOrder.{recordAt}
 use Rattle.rules.specs.Close.{newRecord, cleaned, closed}
 use Rattle.rules.specs.Fetch.{isPending, earlier, due, appliedAll, fetched}
 use Rattle.rules.specs.Steps.{pageOfWord, offsetOfWord, read, twinTaken, stored, write, acquire, release, atBarrier, allArrived, roundDone, emptied, collected, wantsCollection, arrive, want}
-use Rattle.rules.specs.Refusals.{Step, Action, Read, Write, Acquire, Release, Arrive, Want, Unknown, actionOf, effect}
+use Rattle.rules.specs.Tallies.{tallyAdded}
+use Rattle.rules.specs.Refusals.{Step, Action, Read, Write, Acquire, Release, Arrive, Want, TallyAdd, TallyRead, Unknown, actionOf, effect}
 use Rattle.rules.proofs.state.Slots.{newRecords, slots-recorded, records-recorded, each-standing, standing-each}
 use Rattle.rules.proofs.state.CopyWords.{length-applied-all, word-applied-all, setting-new, with-copy, word-set, words-below}
 use Rattle.rules.proofs.state.Fetches.{all-fetched-keep}
@@ -181,6 +182,10 @@ module _ (lim : Limits) (Good : ℕ → ℕ → ℕ → Type 0) where
   unfolding standing
   moved s c m h = record { whole = h .whole; copies = h .copies; slots = h .slots; records = h .records }
 
+  shared-aside : (s : State) (k : Shared) → Holding s → Holding (withShared s k)
+  unfolding standing
+  shared-aside s k h = record { whole = h .whole; copies = h .copies; slots = h .slots; records = h .records }
+
   arrived-holding : (s : State) (p : ℕ) → Holding (closed s p) → Holding (arrive lim s p .after)
   unfolding arrive atBarrier roundDone
   arrived-holding s p h = go (allArrived (atBarrier s p)) (wantsCollection (atBarrier s p))
@@ -189,7 +194,7 @@ module _ (lim : Limits) (Good : ℕ → ℕ → ℕ → Type 0) where
       there = moved (closed s p) (atBarrier s p .clocks) (atBarrier s p .marks) h
 
       over : Holding (roundDone (atBarrier s p))
-      over = moved (atBarrier s p) (roundDone (atBarrier s p) .clocks) (roundDone (atBarrier s p) .marks) there
+      over = shared-aside (withMarks (withClocks (atBarrier s p) (roundDone (atBarrier s p) .clocks)) (roundDone (atBarrier s p) .marks)) (roundDone (atBarrier s p) .shared) (moved (atBarrier s p) (roundDone (atBarrier s p) .clocks) (roundDone (atBarrier s p) .marks) there)
 
       go : (a b : Bool)
           → Holding (cond a (cond b (collected lim (roundDone (atBarrier s p))) (record { after = roundDone (atBarrier s p); count = 0 })) (record { after = atBarrier s p; count = 0 }) .after)
@@ -227,6 +232,8 @@ effect-keeps-values lim Good s t bounded new ord acc h =
     go (Release l) e = moved lim Good (closed s p) (release s p l .clocks) (release s p l .marks) shut
     go Arrive e = arrived-holding lim Good s p shut
     go Want e = moved lim Good s (s .clocks) (want s .marks) start
+    go (TallyAdd j v) e = shared-aside lim Good s (tallyAdded (s .shared) p j v) start
+    go (TallyRead j) e = start
     go Unknown e = start
 
 -- so does a fetch by any processor of any page

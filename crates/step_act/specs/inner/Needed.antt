@@ -1,12 +1,16 @@
 -- What the functions that act ask of one another and promise. Assumes nothing.
 use Prim.Native.Nat.{ℕ, _≤_}
 use mathlib.Core.Path.{_≡_}
+use mathlib.Core.Logic.{_⊎_}
 use mathlib.Core.List.{List}
+use lib.ListN.{length}
+use Rattle.limits.specs.inner.Sizes.{wordArea}
 use Rattle.rules.specs.State.{mainframe}
-use Rattle.rules.specs.Refusals.{stepOf, refusalInOrder}
+use Rattle.rules.specs.Refusals.{stepOf, actionOf, refusalInOrder, effect}
 use Rattle.rules.specs.Steps.{Effect}
 use Rattle.layout.specs.Areas.{stateIn}
 use Rattle.layout.specs.inner.Needed.{Ready, Holds}
+use Rattle.step_tally.specs.inner.Needed.{TallyIn}
 use Rattle.fetch_index.specs.inner.Index.{IndexKept}
 use Rattle.step_act.specs.declared.Outcome.{Outcome}
 use Rattle.step_act.specs.Telling.{Tells}
@@ -41,11 +45,17 @@ pub record Locking (c w r m : List ℕ) (kind p object value : ℕ) : Type 0 whe
 pub record Meeting (c w r m : List ℕ) (kind p object value : ℕ) : Type 0 where
   pub acting : Acting c w r m kind p object value
   pub first : 5 ≤ kind
+  pub last : kind ≤ 6
 
 -- with the index
 pub record MeetingKept (c w r m : List ℕ) (kind p object value : ℕ) (x : List ℕ) : Type 0 where
   pub meeting : Meeting c w r m kind p object value
   pub kept : IndexKept c r m x
+
+-- for an add to a tally or a read of one: the words, and the processor and the tally in them
+pub record Tallying (w : List ℕ) (kind p object : ℕ) : Type 0 where
+  pub tally : TallyIn w p object
+  pub kinds : (kind ≡ 8) ⊎ (kind ≡ 9)
 
 -- the outcome is that of an accepted step with the effect e, and the areas hold the state that e leaves
 pub record DoneAs (e : Effect) (o : Outcome) (c w r m : List ℕ) : Type 0 where
@@ -56,3 +66,10 @@ pub record DoneAs (e : Effect) (o : Outcome) (c w r m : List ℕ) : Type 0 where
 pub record DoneKept (e : Effect) (o : Outcome) (c w r m x : List ℕ) : Type 0 where
   pub done : DoneAs e o c w r m
   pub kept : IndexKept c r m x
+
+-- from the words w to w′ an add to a tally or a read of one was done, whatever the other areas hold
+pub record Tallied (w w′ : List ℕ) (kind p object value : ℕ) (o : Outcome) : Type 0 where
+  pub words : length w′ ≡ wordArea
+  pub is : (c r m : List ℕ) → stateIn mainframe c w′ r m ≡ effect mainframe (stateIn mainframe c w r m) p (actionOf (stepOf kind p object value)) .after
+  pub outcome : (c r m : List ℕ)
+      → Tells o (record { refusal = 0; value = effect mainframe (stateIn mainframe c w r m) p (actionOf (stepOf kind p object value)) .value; count = effect mainframe (stateIn mainframe c w r m) p (actionOf (stepOf kind p object value)) .count })

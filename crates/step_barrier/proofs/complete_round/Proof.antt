@@ -6,4 +6,4 @@ use Rattle.step_barrier.proofs.complete_round.Tie as tie
 pub complete-round-spec : {M : Type 1} → statement M
 complete-round-spec =
     tie.close
-    (tie.spec (λ c κs. search complete-laws) (λ c κs. search complete-laws) (λ c. search complete-laws) (λ c. search complete-laws) (λ c. search complete-laws) (λ c κs. search complete-laws) (λ c. search complete-laws) (λ c. search complete-laws) (λ c. search complete-laws) (λ c. search complete-laws) (λ c. search complete-laws))
+    (tie.spec (λ c κs. search complete-laws) (λ c κs. search complete-laws) (λ c. search complete-laws) (λ c. search complete-laws) (λ c. search complete-laws) (λ c. search complete-laws) (λ c κs. search complete-laws) (λ c. search complete-laws) (λ c. search complete-laws) (λ c. search complete-laws) (λ c. search complete-laws) (λ c. search complete-laws))

@@ -7,7 +7,7 @@ use mathlib.Core.List.{List}
 use lib.ListN.{length}
 use lib.Dec.{eqb}
 use Rattle.lists.specs.Tables.{total}
-use Rattle.limits.specs.inner.Sizes.{clockArea, markArea}
+use Rattle.limits.specs.inner.Sizes.{clockArea, markArea, wordArea}
 use Rattle.rules.specs.State.{mainframe, Clocks, State, hasArrived}
 use Rattle.rules.specs.Steps.{roundDone, Fetches, collected, wantsCollection, want}
 use Rattle.layout.specs.Areas.{clocksIn, stateIn}
@@ -27,10 +27,11 @@ pub record OneMissing (m : List ℕ) (b : Bool) : Type 0 where
   pub is : (c w r : List ℕ) → b ≡ eqb (arrivedCount (stateIn mainframe c w r m) + 1) (processorCount m)
 
 -- a round was completed
-pub record RoundDone (c m c′ m′ : List ℕ) : Type 0 where
+pub record RoundDone (c w m c′ w′ m′ : List ℕ) : Type 0 where
   pub clocks : length c′ ≡ clockArea
+  pub words : length w′ ≡ wordArea
   pub marks : length m′ ≡ markArea
-  pub is : (w r : List ℕ) → stateIn mainframe c′ w r m′ ≡ roundDone (stateIn mainframe c w r m)
+  pub is : (r : List ℕ) → stateIn mainframe c′ w′ r m′ ≡ roundDone (stateIn mainframe c w r m)
 
 -- "When the last card arrives": the round is completed, and garbage is collected if that is wanted
 unfoldable pub completed : State → Fetches

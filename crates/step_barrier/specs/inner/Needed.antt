@@ -5,7 +5,7 @@ use mathlib.Core.Bool.{false}
 use mathlib.Core.List.{List}
 use lib.ListN.{length}
 use Rattle.limits.specs.Limits.{processorLimit}
-use Rattle.limits.specs.inner.Sizes.{clockArea, markArea}
+use Rattle.limits.specs.inner.Sizes.{clockArea, markArea, wordArea}
 use Rattle.rules.specs.Lines.{waits}
 use Rattle.rules.specs.State.{mainframe, hasArrived}
 use Rattle.rules.specs.Steps.{roundDone}
@@ -40,21 +40,24 @@ pub record AbsentAway (m : List ℕ) : Type 0 where
 -- the areas have their sizes, and the state in them is in order once its round is completed
 pub record RoundComplete (c w r m : List ℕ) : Type 0 where
   pub lent : Lent c w r m
+  pub some : 1 ≤ processorCount m
   pub few : processorCount m ≤ processorLimit
   pub in-order : InOrder mainframe (roundDone (stateIn mainframe c w r m))
 
 -- the same, and the index is kept once it is
 pub record CompleteKept (c w r m x : List ℕ) : Type 0 where
   pub complete : RoundComplete c w r m
-  pub kept : (c′ m′ : List ℕ) → RoundDone c m c′ m′ → IndexKept c′ r m′ x
+  pub kept : (c′ w′ m′ : List ℕ) → RoundDone c w m c′ w′ m′ → IndexKept c′ r m′ x
 
 -- the area of the clocks, with a row for each of n processors
 pub record ClocksOfFirst (c : List ℕ) (n : ℕ) : Type 0 where
   pub clocks : length c ≡ clockArea
   pub few : n ≤ processorLimit
 
--- the areas of the clocks and of the marks, with a place for each processor
-pub record RoundThere (c m : List ℕ) : Type 0 where
+-- the areas of the clocks, of the words and of the marks, with a place for each processor, of which there is one
+pub record RoundThere (c w m : List ℕ) : Type 0 where
   pub clocks : length c ≡ clockArea
+  pub words : length w ≡ wordArea
   pub marks : length m ≡ markArea
+  pub some : 1 ≤ processorCount m
   pub few : processorCount m ≤ processorLimit
