@@ -181,8 +181,10 @@ want s = withMarks s (withWanted (s .marks) (cond (wantsCollection s) (s .marks 
 
 -- ---- 8 and 9: tallies (L4). "Tallies order nothing among ordinary words": nothing is closed and nothing fetched
 
+-- an add: kept with its processor until the round completes
 abbrev pub tallyAdd : State → ℕ → ℕ → ℕ → State
 tallyAdd s p t v = withShared s (tallyAdded (s .shared) p t v)
 
+-- a read: it changes nothing, and brings nothing
 abbrev pub tallyRead : State → ℕ → ℕ → Effect
 tallyRead s p t = record { after = s; value = tallyTotal (s .shared) p t; count = 0 }
