@@ -21,7 +21,7 @@ use Rattle.diff_writer.specs.Answers.{writeRefusal, outAfter}
 use Rattle.rules.specs.Demand.{ReadsJudged, DemandThree}
 use Rattle.rules.specs.InOrder.{dirtyPages, inOrder}
 use Rattle.rules.specs.Opening.{opened}
-use Rattle.rules.specs.Refusals.{Step, actionOf, Answer, refusedAs, effect, refusalInOrder, answerInOrder, refusal, answer, next}
+use Rattle.rules.specs.Refusals.{Step, actionOf, Answer, acceptedAs, refusedAs, effect, refusalInOrder, answerInOrder, refusal, answer, next}
 use Rattle.rules.specs.State.{mainframe, State, dirtyAt, own}
 use Rattle.rules.specs.Steps.{pageOfWord}
 use Rattle.rules.proofs.DemandThree.{demand-three}
@@ -57,7 +57,7 @@ refused-as-ruled s t h = go (inOrder mainframe s) (eqb (refusalInOrder mainframe
     out a b =
         cond a
         (cond b
-        (record { refusal = 0; value = effect mainframe s (t .processor) (actionOf t) .value; count = effect mainframe s (t .processor) (actionOf t) .count })
+        (acceptedAs (effect mainframe s (t .processor) (actionOf t)))
         (refusedAs (refusalInOrder mainframe s t)))
         (refusedAs 1)
 

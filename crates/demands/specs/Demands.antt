@@ -13,7 +13,7 @@ use mathlib.Core.Bool.{true, false}
 use mathlib.Core.List.{List, _++_, map}
 use mathlib.Core.Logic.{_↔_}
 use lib.ListN.{length, take, drop}
-use Rattle.limits.specs.Limits.{pageWidth, intervalLimit, recordLimit}
+use Rattle.limits.specs.Limits.{pageWidth, intervalLimit, recordLimit, wordValues}
 use Rattle.limits.specs.Files.{fileRecordWidth, stepLimit}
 use Rattle.diff.specs.Format.{Below, written}
 use Rattle.diff.specs.Reading.{readRefusal, settings, applied}
@@ -91,8 +91,8 @@ pub record FromPages (bytes : List ℕ) : Type 0 where
   pub new : List ℕ
   pub old-whole : length old ≡ pageWidth
   pub new-whole : length new ≡ pageWidth
-  pub old-words : Below 4294967296 old
-  pub new-words : Below 4294967296 new
+  pub old-words : Below wordValues old
+  pub new-words : Below wordValues new
   pub is : written old new ≡ bytes
 
 pub record DemandTwo : Type 0 where
@@ -106,7 +106,7 @@ pub record DemandTwo : Type 0 where
   -- .. and keeps them in order
   pub step-sound : (a : Areas) (t : Step) → Sound a → Sound (areasAfter a t)
   -- what is written from two pages turns the first into the second
-  pub written-applied : (old new : List ℕ) → length old ≡ pageWidth → length new ≡ pageWidth → Below 4294967296 new → applied pageWidth (written old new) old ≡ new
+  pub written-applied : (old new : List ℕ) → length old ≡ pageWidth → length new ≡ pageWidth → Below wordValues new → applied pageWidth (written old new) old ≡ new
   -- a byte string is read exactly when it is written from some two pages
   pub read-exactly : (bytes : List ℕ) → Below 256 bytes → readRefusal pageWidth bytes ≡ 0 ↔ FromPages bytes
   -- one form: two byte strings that are read and set the same words to the same values are the same

@@ -6,9 +6,9 @@ ghost use Rattle.layout.specs.Areas.{stateIn};
 ghost use Rattle.step_act.specs.inner.Needed.{ActingKept, AccessingKept, Locking, MeetingKept, Tallying, DoneAs, DoneKept, Tallied};
 use clock::ProcessorId;
 
-// What a step answers: its value and count where it was done, else its refusal.
+// What a step answers: its value, its count and how many words it moved where it was done, else its refusal.
 pub enum Outcome {
-    Done { value: u32, count: u32 },
+    Done { value: u32, count: u32, words: u32 },
     Refused(u8),
 }
 
@@ -59,10 +59,15 @@ fn access(
         return Outcome::Done {
             value: answered.value,
             count: answered.count,
+            words: answered.words,
         };
     }
-    let count = step_access::write_word(p, object, value, clocks, words, records, marks, index);
-    Outcome::Done { value: 0, count }
+    let answered = step_access::write_word(p, object, value, clocks, words, records, marks, index);
+    Outcome::Done {
+        value: 0,
+        count: answered.count,
+        words: answered.words,
+    }
 }
 
 // Kinds 3 and 4: acquire and release.
@@ -81,10 +86,18 @@ fn lock(
 {
     if kind == 3 {
         step_lock::acquire(p, object, clocks, words, records, marks);
-        return Outcome::Done { value: 0, count: 0 };
+        return Outcome::Done {
+        value: 0,
+        count: 0,
+        words: 0,
+    };
     }
     step_lock::release(p, object, clocks, words, records, marks);
-    Outcome::Done { value: 0, count: 0 }
+    Outcome::Done {
+        value: 0,
+        count: 0,
+        words: 0,
+    }
 }
 
 // Kinds 5 and 6: arrive and want collection.
@@ -103,11 +116,19 @@ fn meet(
     ensures { λ r. ⌜ DoneKept (effect mainframe (stateIn mainframe (now (clocks .entry)) (now (words .entry)) (now (records .entry)) (now (marks .entry))) (p .0) (actionOf (stepOf kind (p .0) object value))) r (now (clocks .exit)) (now (words .exit)) (now (records .exit)) (now (marks .exit)) (now (index .exit)) ⌝ }
 {
     if kind == 5 {
-        let count = step_barrier::arrive(p, clocks, words, records, marks, index);
-        return Outcome::Done { value: 0, count };
+        let moved = step_barrier::arrive(p, clocks, words, records, marks, index);
+        return Outcome::Done {
+            value: 0,
+            count: moved.count,
+            words: moved.words,
+        };
     }
     step_barrier::want(marks);
-    Outcome::Done { value: 0, count: 0 }
+    Outcome::Done {
+        value: 0,
+        count: 0,
+        words: 0,
+    }
 }
 
 // Kinds 8 and 9: an add to a tally, and a read of one.
@@ -120,8 +141,13 @@ fn tally(kind: u32, p: ProcessorId, object: usize, value: u32, words: &mut [u32]
         return Outcome::Done {
             value: total,
             count: 0,
+            words: 0,
         };
     }
     step_tally::add_to(words, p, object, value);
-    Outcome::Done { value: 0, count: 0 }
+    Outcome::Done {
+        value: 0,
+        count: 0,
+        words: 0,
+    }
 }

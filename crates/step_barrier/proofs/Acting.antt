@@ -16,7 +16,7 @@ use Rattle.clock.specs.Clocks.{joined}
 use Rattle.rules.specs.Close.{closed}
 use Rattle.rules.specs.InOrder.{present}
 use Rattle.rules.specs.State.{mainframe, Processor, Barrier, Clocks, withArrived, State, withClocks, withMarks, hasArrived}
-use Rattle.rules.specs.Steps.{learned, atBarrier, allArrived, roundDone, Fetches, arrive}
+use Rattle.rules.specs.Steps.{learned, atBarrier, allArrived, roundDone, Fetches, noneFetched, arrive}
 use Rattle.rules.proofs.inorder.KeptBarrier.{round-parts, waiting-parts}
 use Rattle.rules.proofs.inorder.Facts.{InOrder, Within}
 use Rattle.rules.proofs.inorder.KeptParts.{among-when, parts-of, in-order-of}
@@ -76,7 +76,7 @@ module _ (c w r m : List ℕ) (p : ℕ) (a : Acts c w r m p) (c₁ r₁ m₁ : L
 
 -- ---- arrive
 
-arrive-waits : (s : State) (p : ℕ) → allArrived (atBarrier s p) ≡ false → arrive mainframe s p ≡ record { after = atBarrier s p; count = 0 }
+arrive-waits : (s : State) (p : ℕ) → allArrived (atBarrier s p) ≡ false → arrive mainframe s p ≡ noneFetched (atBarrier s p)
 unfolding arrive
 arrive-waits s p e = rw e
 
@@ -157,7 +157,7 @@ module _ (c w r m : List ℕ) (p : ℕ) (x : List ℕ) (k : ArrivesKept c w r m 
       unfolding atBarrier closed
       not-the-last z =
           let missing : allArrived (atBarrier s p) ≡ false = sym answer-is ∙ not-true b z in
-          let waiting : arrive mainframe s p ≡ record { after = atBarrier s p; count = 0 } = arrive-waits s p missing in
+          let waiting : arrive mainframe s p ≡ noneFetched (atBarrier s p) = arrive-waits s p missing in
           let order : InOrder mainframe (atBarrier s p) =
           in-order-of mainframe (atBarrier s p) (waiting-parts mainframe s p (parts-of mainframe s (a .acts .in-order)) (among-when (s .counts) p (a .acts .from) (a .acts .to)) (a .not-waiting) missing) in
           record {

@@ -9,7 +9,7 @@ use borrow.Author.Tests.{not-true, not-false}
 use borrow.Author.Needs.{needs}
 use Rattle.limits.specs.inner.Sizes.{markArea}
 use Rattle.rules.specs.State.{mainframe, State}
-use Rattle.rules.specs.Steps.{roundDone, Fetches, collected, wantsCollection}
+use Rattle.rules.specs.Steps.{roundDone, Fetches, noneFetched, collected, wantsCollection}
 use Rattle.layout.specs.Areas.{stateIn}
 use Rattle.layout.specs.inner.Needed.{Lent, Ready}
 use Rattle.layout.specs.inner.Marks.{wishMark}
@@ -19,7 +19,7 @@ use Rattle.step_collect.specs.inner.Effects.{CountedAs, CountedKept}
 use Rattle.step_barrier.specs.inner.Needed.{RoundComplete, CompleteKept, RoundThere}
 use Rattle.step_barrier.specs.inner.Effects.{RoundDone, completed}
 
-completed-plain : (s : State) → wantsCollection s ≡ false → completed s ≡ record { after = roundDone s; count = 0 }
+completed-plain : (s : State) → wantsCollection s ≡ false → completed s ≡ noneFetched (roundDone s)
 unfolding completed
 completed-plain s e = rw e
 
@@ -44,7 +44,7 @@ module _ (c w r m c₁ w₁ m₁ : List ℕ) (h : RoundComplete c w r m) (d : Ro
     unfolding wantsCollection roundDone
     wish-is = is ∙ ap (λ (x : ℕ). not (eqb x 0)) (sym (wanted-read c₁ w₁ r m₁) ∙ ap (λ (s : State). s .marks .wanted) (d .is r))
 
-    plain : b ≡ false → completed (stateIn mainframe c w r m) ≡ record { after = roundDone (stateIn mainframe c w r m); count = 0 }
+    plain : b ≡ false → completed (stateIn mainframe c w r m) ≡ noneFetched (roundDone (stateIn mainframe c w r m))
     plain e = completed-plain (stateIn mainframe c w r m) (sym wish-is ∙ e)
 
     with-collection : b ≡ true → collected mainframe (stateIn mainframe c₁ w₁ r m₁) ≡ completed (stateIn mainframe c w r m)
