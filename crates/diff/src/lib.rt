@@ -79,7 +79,10 @@ pub fn apply(bytes: &[u8], page: &mut [u32]) -> Applied
     ensures memory { λ r. ⌜ now (page .exit) ≡ pageAfter pageWidth (now (bytes .entry)) (now (page .entry)) ⌝ }
 {
     if page.len() != PAGE_WIDTH {
-        return Applied { refusal: 14, words: 0 };
+        return Applied {
+            refusal: 14,
+            words: 0,
+        };
     }
     let refusal = check(bytes);
     if refusal != 0 {

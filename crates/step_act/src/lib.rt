@@ -87,10 +87,10 @@ fn lock(
     if kind == 3 {
         step_lock::acquire(p, object, clocks, words, records, marks);
         return Outcome::Done {
-        value: 0,
-        count: 0,
-        words: 0,
-    };
+            value: 0,
+            count: 0,
+            words: 0,
+        };
     }
     step_lock::release(p, object, clocks, words, records, marks);
     Outcome::Done {
