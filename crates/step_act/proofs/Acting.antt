@@ -167,7 +167,7 @@ module _ (c w r m : List ℕ) (k p o v : ℕ) (x : List ℕ) (q : AccessingKept 
   -- a write was done
   pub write-done : (y n j : ℕ) (c′ w′ m′ x′ : List ℕ) → (k ≡ 1 → ⊥) → AnsweredKept (write mainframe (stateIn mainframe c w r m) p o v) y n j c′ w′ r m′ x′
       → DoneKept (effect mainframe (stateIn mainframe c w r m) p (actionOf (stepOf k p o v))) (Done 0 n j) c′ w′ r m′ x′
-  unfolding effect
+  unfolding effect write
   write-done y n j c′ w′ m′ x′ z f =
       let a = f .answered in
       record {
