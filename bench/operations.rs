@@ -66,7 +66,8 @@ fn fetches() {
     for pending in [1, 16, 127] {
         let before = news(pending);
         let mut after = before.clone();
-        after.take(read(1, 0), pending);
+        // each record sets one word of 32, so that of more only the last 32 are applied (L5)
+        after.take(read(1, 0), pending.min(32));
         let read = |state: &mut State| state.go(read(1, 0));
         let [whole, nothing] = medians([(&before, &read), (&after, &read)]);
         let fetch = whole - nothing;

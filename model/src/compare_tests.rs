@@ -186,6 +186,7 @@ fn the_generated_files_cover_the_rules() {
         let lines = stepfile::run(&file, None);
         seen.add_file(&file, &lines);
         seen.add_faults(&file, &lines);
+        seen.add_skips(&file, &lines);
     }
     for refusal in (2..=10).chain([15, 17]) {
         assert!(seen.refusals[refusal] > 0, "refusal {refusal}");
@@ -195,6 +196,8 @@ fn the_generated_files_cover_the_rules() {
     assert!(seen.waits > seen.grants && seen.grants > 0);
     assert!(seen.lines_of_two > 0 && seen.lines_of_three > 0);
     assert!(seen.adds > 0 && seen.looks > seen.look_values && seen.look_values > 0);
+    assert!(seen.skipping_reads > 0 && seen.skipping_writes > 0);
+    assert!(seen.skipping_collections > 0 && seen.all_skipped > 0);
 }
 
 #[test]

@@ -1,7 +1,7 @@
 //! `model coverage`: what happens in the files on which programs are
 //! compared, by the model's lines, and in how many of them each fault shows.
 
-use crate::fault::FAULTS;
+use crate::fault::{Fault, FAULTS};
 use crate::generate::PROFILES;
 use crate::model::{Step, ACQUIRE, ARRIVE, READ, RELEASE, TALLY_ADD, TALLY_READ, WRITE};
 use crate::options::Options;
@@ -42,6 +42,12 @@ pub struct Seen {
     pub adds: usize,
     pub looks: usize,
     pub look_values: usize,
+    /// Reads, writes and collections that skip a record, and those of the
+    /// reads and writes that apply none.
+    pub skipping_reads: usize,
+    pub skipping_writes: usize,
+    pub skipping_collections: usize,
+    pub all_skipped: usize,
     /// Files with other lines under each fault.
     pub faults: [usize; FAULTS.len()],
 }
@@ -115,6 +121,25 @@ impl Seen {
         *in_turn -= 1;
     }
 
+    /// A model that counts all pending records has larger counts where some are
+    /// skipped, and all else the same.
+    pub fn add_skips(&mut self, file: &[u8], lines: &[Line]) {
+        let pending = run(file, Some(Fault::CountPending));
+        for (line, pending) in lines.iter().zip(&pending) {
+            if line.answer.count == pending.answer.count {
+                continue;
+            }
+            let kind = record_at(file, line.number).map(|record| record[0]);
+            match kind {
+                Some(READ) => self.skipping_reads += 1,
+                Some(WRITE) => self.skipping_writes += 1,
+                _ => self.skipping_collections += 1,
+            }
+            let fetches = matches!(kind, Some(READ | WRITE));
+            self.all_skipped += usize::from(fetches && line.answer.count == 0);
+        }
+    }
+
     pub fn add_faults(&mut self, file: &[u8], right: &[Line]) {
         for (files, (_, fault)) in self.faults.iter_mut().zip(FAULTS) {
             *files += usize::from(run(file, Some(fault)) != right);
@@ -157,9 +182,11 @@ fn look_over<'a>(sources: impl Iterator<Item = &'a Source>) -> Result<[Seen; COL
         let lines = run(&file, None);
         let column = &mut seen[column(source)];
         column.add_file(&file, &lines);
-        // The ends are long; the faults are asked of all the others.
+        // The ends are long; the faults, and what is skipped, are asked of all
+        // the others.
         if !matches!(source, Source::End(_)) {
             column.add_faults(&file, &lines);
+            column.add_skips(&file, &lines);
         }
     }
     Ok(seen)
@@ -195,6 +222,10 @@ fn rows() -> Vec<Row> {
         row("  value above 65535", |s| s.read_large_values),
         row("writes, count above 0", |s| s.write_counts),
         row("collections, count above 0", |s| s.collections),
+        row("reads that skip", |s| s.skipping_reads),
+        row("writes that skip", |s| s.skipping_writes),
+        row("collections that skip", |s| s.skipping_collections),
+        row("reads, writes that skip all", |s| s.all_skipped),
         row("acquires that wait", |s| s.waits),
         row("  in a line of 2 then", |s| s.lines_of_two),
         row("  in a line of 3 or more", |s| s.lines_of_three),
@@ -224,5 +255,5 @@ fn table(one: &[Seen; COLUMNS], other: &[Seen; COLUMNS]) -> String {
             text.push_str(&format!(" {number:>8}"));
         }
     }
-    text + "\n(the faults are not asked of the ends of files)\n"
+    text + "\n(the faults and what is skipped are not asked of the ends of files)\n"
 }

@@ -27,6 +27,11 @@ impl Diff {
         self.0.is_empty()
     }
 
+    /// Whether the word at this offset is one of its words.
+    pub fn sets(&self, at: usize) -> bool {
+        self.0.iter().any(|(offset, _)| *offset == at)
+    }
+
     /// The runs of neighbouring words: (first offset, words).
     fn runs(&self) -> Vec<(usize, Vec<u32>)> {
         let mut runs: Vec<(usize, Vec<u32>)> = Vec::new();

@@ -166,41 +166,48 @@ fn without_values(lines: &[Line]) -> Vec<(u32, u32)> {
     lines.iter().map(plain).collect()
 }
 
-/// No refusal and no count depends on a stored value: a page is noted once it
-/// has been written, whatever was stored.
+/// No refusal depends on a stored value, and no number of pending records: a
+/// page is noted once it has been written, whatever was stored. Which of them
+/// are applied does, as a record has the words that differ.
 #[test]
 fn no_refusal_depends_on_a_stored_value() {
     let others: [fn(u32) -> u32; 3] = [|_| 0, |value| value % 2, |value| !value];
+    let mut other_counts = 0;
     for (profile, seed, file) in some_files(6, 1200) {
-        let right = without_values(&run(&file, None));
+        let pending = |file: &[u8]| without_values(&run(file, Some(Fault::CountPending)));
+        let (right, applied) = (pending(&file), without_values(&run(&file, None)));
         for other in others {
-            let found = without_values(&run(&with_values(&file, other), None));
-            assert!(found == right, "{profile} {seed}");
+            let changed = with_values(&file, other);
+            assert!(pending(&changed) == right, "{profile} {seed}");
+            let found = without_values(&run(&changed, None));
+            let refusals = |lines: &[(u32, u32)]| lines.iter().map(|l| l.0).collect::<Vec<_>>();
+            assert!(refusals(&found) == refusals(&right), "{profile} {seed}");
+            other_counts += usize::from(found != applied);
         }
     }
+    assert!(other_counts > 0);
 }
 
 /// "over the same accepted steps the value of a read that meets demand 3's
-/// premise, though not always its count, is untouched": the model that skips
-/// equal stores keeps demand 3 too, and where its refusals are the same and
-/// all reads meet the premise, so are its values.
+/// premise, though not always its count, is untouched": the model that makes
+/// no records of equal stores keeps demand 3 too, and where its refusals are
+/// the same and all reads meet the premise, so are its values. Fetches skip
+/// records without words (L5), so in these files the counts are the same, too.
 #[test]
 fn ordered_reads_keep_their_values() {
-    let (mut same_steps, mut other_counts) = (0, 0);
+    let mut same_steps = 0;
     for (profile, seed, file) in some_files(20, 300) {
         let (right, skipping) = (run(&file, None), run(&file, Some(Fault::SkipEqual)));
         let verdict = judge(&file, &right).expect("fits");
         assert!(verdict.broken.is_empty(), "{profile} {seed}");
         let skipped = judge(&file, &skipping).expect("fits");
         assert!(skipped.broken.is_empty(), "{profile} {seed}");
-        let column =
-            |lines: &[Line], of: fn(&Line) -> u32| -> Vec<u32> { lines.iter().map(of).collect() };
-        let same = |of: fn(&Line) -> u32| column(&right, of) == column(&skipping, of);
-        if verdict.strong == verdict.reads && same(|line| line.answer.refusal) {
-            assert!(same(|line| line.answer.value), "{profile} {seed}");
+        let refusals =
+            |lines: &[Line]| -> Vec<u32> { lines.iter().map(|line| line.answer.refusal).collect() };
+        if verdict.strong == verdict.reads && refusals(&right) == refusals(&skipping) {
+            assert!(right == skipping, "{profile} {seed}");
             same_steps += 1;
-            other_counts += usize::from(!same(|line| line.answer.count));
         }
     }
-    assert!(same_steps > other_counts && other_counts > 0);
+    assert!(same_steps > 50);
 }

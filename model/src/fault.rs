@@ -1,6 +1,6 @@
 //! The names of the switches of `model run --fault NAME`: document 01's
 //! "Faults that pass on a two-card bench", one against request L2 of document
-//! 02 and five against request L4.
+//! 02, five against request L4 and six against request L5.
 
 #[derive(Clone, Copy, PartialEq, Eq, Debug)]
 pub enum Fault {
@@ -32,9 +32,22 @@ pub enum Fault {
     PostFirst,
     /// Against L4, "Totals wrap": they stop at 4,294,967,295.
     Saturate,
+    /// Against L5, "set again by later records": a record is skipped whose
+    /// words are set by earlier ones.
+    SkipByEarlier,
+    /// Against L5: only the next record is looked at.
+    NextAlone,
+    /// Against L5: the last record of a fetch is never applied.
+    DropLast,
+    /// Against L5, "each of whose words": one word that is set again will do.
+    SkipTouched,
+    /// Against L5, "a record with no words is always skipped": it is applied.
+    KeepEmpty,
+    /// Against L5, "the records applied": all pending ones are counted.
+    CountPending,
 }
 
-pub const FAULTS: [(&str, Fault); 12] = [
+pub const FAULTS: [(&str, Fault); 18] = [
     ("lock-own", Fault::LockOwn),
     ("by-card", Fault::ByCard),
     ("join", Fault::Join),
@@ -47,6 +60,12 @@ pub const FAULTS: [(&str, Fault); 12] = [
     ("post-short", Fault::PostShort),
     ("post-first", Fault::PostFirst),
     ("saturate", Fault::Saturate),
+    ("by-earlier", Fault::SkipByEarlier),
+    ("next-alone", Fault::NextAlone),
+    ("drop-last", Fault::DropLast),
+    ("touched", Fault::SkipTouched),
+    ("keep-empty", Fault::KeepEmpty),
+    ("all-counted", Fault::CountPending),
 ];
 
 pub fn by_name(name: &str) -> Option<Fault> {

@@ -27,6 +27,10 @@ mod plan;
 mod program;
 mod rng;
 mod script;
+mod skip;
+mod skip_cases;
+#[cfg(test)]
+mod skip_tests;
 mod stepfile;
 mod sweep;
 mod tally_cases;

@@ -1,14 +1,16 @@
-//! The rules of document 01 with requests L1, L2 and L4 of document 02:
+//! The rules of document 01 with requests L1, L2, L4 and L5 of document 02:
 //! opening, the eight kinds of step, their refusals, the lines of cards that
-//! wait for locks, a record for each dirty page at closing, and tallies.
+//! wait for locks, a record for each dirty page at closing, tallies, and
+//! fetches that skip what later records replace (`skip.rs`).
 //!
 //! Written from the documents alone, as plainly as they state them. Quoted
-//! text is theirs; "L1", "L2" or "L4" stands before that of document 02. A
-//! card is a processor here; nothing is encoded.
+//! text is theirs; "L1", "L2", "L4" or "L5" stands before that of document 02.
+//! A card is a processor here; nothing is encoded.
 
 use crate::clock::{IntervalId, LockId, PageId, ProcId, TallyId, VectorClock};
 use crate::diff::{Diff, PAGE_WORDS};
 use crate::fault::Fault;
+use crate::skip::{unreplaced, unreplaced_faulty};
 use std::collections::{BTreeMap, VecDeque};
 
 pub const READ: u8 = 1;
@@ -624,18 +626,23 @@ impl Model {
 
     /// "Fetch: the pending record with the smallest sum ... is applied to the
     /// copy alone, until no record is pending, each once; then the applied
-    /// clock becomes p's clock. The count is the records applied."
+    /// clock becomes p's clock." L5: a record that later ones replace, or one
+    /// with no words, is skipped; "The count becomes the records applied". The
+    /// applied clock becomes p's clock where all are skipped, too.
     fn fetch(&mut self, card: ProcId, page: PageId) -> u32 {
         let mut pending = self.pending(card, page);
-        let count = pending.len() as u32;
         pending.sort_by_key(|record| self.rank(record));
+        let taken = match self.fault {
+            None => unreplaced(&pending),
+            Some(fault) => unreplaced_faulty(fault, &pending),
+        };
         match self.fault {
-            None => self.apply_all(card, page, &pending),
-            Some(fault) => self.apply_faulty(fault, card, page, pending),
+            None => self.apply_all(card, page, &taken),
+            Some(fault) => self.apply_faulty(fault, card, page, pending, &taken),
         }
         let known = self.processors[&card].clock.clone();
         self.page_mut(card, page).applied = known;
-        count
+        taken.len() as u32
     }
 
     fn apply_all(&mut self, card: ProcId, page: PageId, records: &[Record]) {
@@ -648,16 +655,24 @@ impl Model {
 
 // The faulty ways to apply, for `model run --fault NAME` alone.
 impl Model {
-    fn apply_faulty(&mut self, fault: Fault, card: ProcId, page: PageId, mut right: Vec<Record>) {
+    /// `taken` are the pending records that are not skipped.
+    fn apply_faulty(
+        &mut self,
+        fault: Fault,
+        card: ProcId,
+        page: PageId,
+        mut pending: Vec<Record>,
+        taken: &[Record],
+    ) {
         match fault {
-            Fault::ByCard => right.sort_by_key(|record| (record.card, record.interval)),
-            Fault::Join => right = Model::joined(&right),
-            Fault::JoinAll => right = self.joined_with_applied(card, &right),
-            Fault::WholePage => return self.copy_whole_page(card, page, &right),
-            // The others show elsewhere.
-            _ => {}
+            Fault::ByCard => pending.sort_by_key(|record| (record.card, record.interval)),
+            Fault::Join => pending = Model::joined(&pending),
+            Fault::JoinAll => pending = self.joined_with_applied(card, &pending),
+            Fault::WholePage => return self.copy_whole_page(card, page, &pending),
+            // The others show elsewhere, or in what is skipped.
+            _ => return self.apply_all(card, page, taken),
         }
-        self.apply_all(card, page, &right);
+        self.apply_all(card, page, &pending);
     }
 
     /// Puts all the changes of a card into the place of its last one. Later

@@ -1,6 +1,7 @@
 //! The starred bench cases asked of the model, and the judge's own tests. The
 //! tests of cards that wait are in `wait_tests.rs`, those of stores that alter
-//! nothing in `equal_tests.rs`, those of tallies in `tally_tests.rs`.
+//! nothing in `equal_tests.rs`, those of tallies in `tally_tests.rs`, those of
+//! skipped records in `skip_tests.rs`.
 
 use crate::clock::{ProcId, VectorClock};
 use crate::diff;

@@ -45,9 +45,9 @@ fn wait_in_line() -> Case {
     c.gives(read(2, 0), 11, 1);
     c.refused(read(3, 0), 17);
     c.ok(&[write(2, 0, 22), release(2, 0)]);
-    c.gives(read(3, 0), 22, 2);
+    c.gives(read(3, 0), 22, 1);
     c.ok(&[release(3, 0)]);
-    c.gives(read(4, 0), 22, 2);
+    c.gives(read(4, 0), 22, 1);
     c.ok(&[release(4, 0)]);
     c.refused(release(4, 0), 8);
     c.ok(&[acquire(1, 0)]);
@@ -56,11 +56,11 @@ fn wait_in_line() -> Case {
 }
 
 fn asker_closes() -> Case {
-    let shows = "The asker's interval closes when it asks: its stores before and after the wait are two records.";
+    let shows = "The asker's interval closes when it asks: its stores before and after the wait are two records, and the later replaces the earlier.";
     let mut c = Case::open("asker-closes", [3, 1, 1], shows);
     c.ok(&[acquire(1, 0), write(2, 0, 7), acquire(2, 0), release(1, 0)]);
     c.ok(&[write(2, 0, 8), release(2, 0), acquire(3, 0)]);
-    c.gives(read(3, 0), 8, 2);
+    c.gives(read(3, 0), 8, 1);
     c
 }
 
@@ -70,7 +70,7 @@ fn asker_closes_before_learning() -> Case {
     c.ok(&[acquire(2, 0), write(2, 0, 20), release(2, 0), acquire(3, 0)]);
     c.ok(&[write(1, 0, 10), acquire(1, 0), release(3, 0)]);
     c.ok(&[release(1, 0), acquire(3, 0)]);
-    c.gives(read(3, 0), 20, 2);
+    c.gives(read(3, 0), 20, 1);
     c
 }
 
@@ -87,7 +87,7 @@ fn two_locks() -> Case {
     c.gives(read(2, 0), 1, 1);
     c.gives(read(2, 32), 2, 1);
     c.ok(&[write(1, 0, 3), release(1, 0)]);
-    c.gives(read(3, 0), 3, 2);
+    c.gives(read(3, 0), 3, 1);
     c.gives(read(3, 32), 2, 1);
     c.gives(read(2, 0), 1, 0);
     c.ok(&[release(2, 1), acquire(3, 1)]);
@@ -180,18 +180,18 @@ fn line_of_three() -> Case {
     c.gives(read(4, 0), 10, 1);
     c.ok(&[write(4, 0, 40), release(4, 0)]);
     c.refused(read(3, 0), 17);
-    c.gives(read(2, 0), 40, 2);
+    c.gives(read(2, 0), 40, 1);
     c.ok(&[write(2, 0, 20), release(2, 0)]);
-    c.gives(read(3, 0), 20, 3);
+    c.gives(read(3, 0), 20, 1);
     c.ok(&[release(3, 0)]);
     c.refused(release(3, 0), 8);
     c.ok(&[acquire(1, 0)]);
-    c.gives(read(1, 0), 20, 2);
+    c.gives(read(1, 0), 20, 1);
     c
 }
 
 fn line_of_seven() -> Case {
-    let shows = "The longest line: seven cards ask, the largest number first, and each finds the store of the one before it.";
+    let shows = "The longest line: seven cards ask, the largest number first, and each finds the store of the one before it, which replaces all earlier ones.";
     let mut c = Case::open("line-of-seven", [8, 1, 1], shows);
     c.ok(&[acquire(1, 0)]);
     for card in (2..=8).rev() {
@@ -200,11 +200,11 @@ fn line_of_seven() -> Case {
     c.ok(&[write(1, 0, 9), release(1, 0)]);
     for card in (2..=8u8).rev() {
         let before = u32::from(card) + 1;
-        c.gives(read(card, 0), before, 10 - before);
+        c.gives(read(card, 0), before, 1);
         c.ok(&[write(card, 0, card.into()), release(card, 0)]);
     }
     c.ok(&[acquire(1, 0)]);
-    c.gives(read(1, 0), 2, 7);
+    c.gives(read(1, 0), 2, 1);
     c
 }
 

@@ -1,7 +1,6 @@
-//! What a step on a state in order must be answered and leave, as far as it
-//! can be read off the state before: the refusal, the count of a fetch, who
-//! holds and who waits. Written from document 01's table and "Pending", and
-//! from requests L1 and L4 of document 02.
+//! What a step on a state in order must be answered and leave, read off the
+//! state before: the refusal, who holds and who waits. Written from document
+//! 01's table, and from requests L1 and L4 of document 02.
 
 use crate::areas::*;
 use crate::library::Step;
@@ -83,28 +82,4 @@ pub fn line_marks_after(s: State, step: Step) -> Vec<u8> {
         _ => {}
     }
     line_marks(&marks)
-}
-
-/// The count of an accepted step, or nothing where it takes more than the
-/// state before: an arrival with collection wanted.
-pub fn count(s: State, step: Step) -> Option<usize> {
-    let p = step.processor as usize;
-    match step.kind {
-        READ | WRITE => Some(pending(s, p, step.object as usize / PAGE_WORDS)),
-        ARRIVE if s.wish() => None,
-        _ => Some(0),
-    }
-}
-
-/// "records of g by another card q, with interval above q's entry in the
-/// applied clock and not above q's entry in p's clock"
-fn pending(s: State, p: usize, page: usize) -> usize {
-    let (applied, known) = (applied_row(p, page), processor_row(p));
-    let is_pending = s.records().filter(|r| {
-        r.page == page
-            && r.processor != p
-            && r.interval > s.entry(applied, r.processor)
-            && r.interval <= s.entry(known, r.processor)
-    });
-    is_pending.count()
 }

@@ -36,6 +36,9 @@ pub fn kept_row(p: usize, interval: usize) -> usize {
     89 + INTERVALS * (p - 1) + (interval - 1)
 }
 
+/// The entries of all applied clocks.
+pub const APPLIED: Range<usize> = 8 * 25..8 * 89;
+
 /// The first of the 32 words of a processor's copy of a page.
 pub fn copy_at(p: usize, page: usize) -> usize {
     PAGE_WORDS * (8 * (p - 1) + page)

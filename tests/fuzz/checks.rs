@@ -1,8 +1,9 @@
 //! What is checked of every call. Each check gives what is wrong in words.
 
-use crate::answers::{self, ACQUIRE, READ, RELEASE, TALLY_ADD, TALLY_READ};
+use crate::answers::{self, ACQUIRE, ARRIVE, READ, RELEASE, TALLY_ADD, TALLY_READ};
 use crate::areas::{copy_at, lock_row, processor_row, Areas, PAGE_WORDS};
 use crate::closing;
+use crate::fetching::{self, Fetched};
 use crate::library::{self, Step};
 use crate::order;
 use crate::random::Random;
@@ -27,6 +28,13 @@ pub struct Met {
     /// word that differs.
     pub closed: u64,
     pub equal: u64,
+    /// Fetches of accepted steps with records pending, those of them that skip
+    /// all, and those in collections; records applied, and skipped.
+    pub fetches: u64,
+    pub all_skipped: u64,
+    pub collected: u64,
+    pub applied: u64,
+    pub skipped: u64,
     /// Accepted adds to tallies and reads of them; totals that rounds posted
     /// something to, and those of them that wrapped.
     pub adds: u64,
@@ -48,6 +56,16 @@ impl Met {
     fn add_closing(&mut self, s: State, step: Step) {
         self.closed += closing::closed_pages(s, step).len() as u64;
         self.equal += closing::equal_pages(s, step) as u64;
+    }
+
+    fn add_fetches(&mut self, step: Step, fetches: &[Fetched]) {
+        for fetch in fetches.iter().filter(|fetch| fetch.pending > 0) {
+            self.fetches += 1;
+            self.all_skipped += u64::from(fetch.applied == 0);
+            self.collected += u64::from(step.kind == ARRIVE);
+            self.applied += fetch.applied as u64;
+            self.skipped += (fetch.pending - fetch.applied) as u64;
+        }
     }
 
     fn add_tally_use(&mut self, s: State, step: Step) {
@@ -119,7 +137,10 @@ pub fn check_step(
         met.add_lock_use(State(before.shown()), step);
         met.add_closing(State(before.shown()), step);
         met.add_tally_use(State(before.shown()), step);
-        accepted(areas, before, step, value, count).map_err(|e| format!("{step:?}: {e}"))
+        let fetches = fetching::fetches(State(before.shown()), step);
+        met.add_fetches(step, &fetches);
+        accepted(areas, before, step, &fetches, [value, count])
+            .map_err(|e| format!("{step:?}: {e}"))
     } else if [value, count] != [0, 0] {
         Err(format!("{step:?}: refused {refusal} with {value} {count}"))
     } else {
@@ -140,14 +161,14 @@ fn same(areas: &Areas, before: &Areas, wrong: &str) -> Result<(), String> {
 
 /// An accepted step leaves a state in order and touches nothing outside; its
 /// value is the word that stands in the copy or the tally's total, its count the
-/// pending records; locks and their lines are as they must be, and so is what a
-/// closing leaves, and the tallies.
+/// records applied; locks and their lines are as they must be, and so is what a
+/// closing and a fetch leave, and the tallies.
 fn accepted(
     areas: &Areas,
     before: &Areas,
     step: Step,
-    value: u32,
-    count: u32,
+    fetches: &[Fetched],
+    [value, count]: [u32; 2],
 ) -> Result<(), String> {
     if !areas.same_margins(before) {
         return Err("writes outside the areas".to_string());
@@ -172,6 +193,9 @@ fn accepted(
     if let Some(wrong) = closing::wrong(was, is, step) {
         return Err(format!("closes wrongly: {wrong}"));
     }
+    if let Some(wrong) = fetching::wrong(was, is, step, fetches) {
+        return Err(format!("fetches wrongly: {wrong}"));
+    }
     if let Some(wrong) = tallies::wrong(was, is, step) {
         return Err(wrong.to_string());
     }
@@ -180,9 +204,9 @@ fn accepted(
         TALLY_READ => tallies::value(was, step),
         _ => 0,
     };
-    let due = answers::count(State(before.shown()), step);
-    if value != number || due.is_some_and(|due| due != count as usize) {
-        return Err(format!("answers {value} {count}, due {number} {due:?}"));
+    let due = fetching::count(fetches);
+    if value != number || due != count as usize {
+        return Err(format!("answers {value} {count}, due {number} {due}"));
     }
     Ok(())
 }

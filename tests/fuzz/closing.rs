@@ -35,7 +35,7 @@ pub fn completes(was: State, step: Step) -> bool {
 }
 
 /// Whether the step completes a round with collection wanted.
-fn collects(was: State, step: Step) -> bool {
+pub fn collects(was: State, step: Step) -> bool {
     was.wish() && completes(was, step)
 }
 
@@ -69,7 +69,7 @@ pub fn wrong(was: State, is: State, step: Step) -> Option<&'static str> {
 /// The records' bytes with one record more for each page, behind those that
 /// stand: processor, interval, page, the change's length, the change. All other
 /// bytes are kept.
-fn records_due(was: State, p: usize, interval: usize, pages: &[usize]) -> Vec<u8> {
+pub fn records_due(was: State, p: usize, interval: usize, pages: &[usize]) -> Vec<u8> {
     let mut records = was.0.records.to_vec();
     for (nth, page) in pages.iter().enumerate() {
         let change = change(was.twin(p, *page), was.copy(p, *page));
@@ -83,7 +83,7 @@ fn records_due(was: State, p: usize, interval: usize, pages: &[usize]) -> Vec<u8
 
 /// "the interval keeps the card's clock": as before the step, with the own
 /// entry risen.
-fn clock_due(was: State, p: usize, interval: usize) -> Vec<u8> {
+pub fn clock_due(was: State, p: usize, interval: usize) -> Vec<u8> {
     let mut clock = was.clock(processor_row(p)).to_vec();
     clock[p - 1] = interval as u8;
     clock

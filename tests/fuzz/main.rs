@@ -9,6 +9,7 @@ mod areas;
 mod checks;
 mod closing;
 mod damage;
+mod fetching;
 #[path = "../../bench/library.rs"]
 mod library;
 mod made;
@@ -84,6 +85,11 @@ fn report(met: &Met) {
     println!("steps by refusal: {}", refusals.join(" "));
     println!("locks: {} waits, {} grants", met.waits, met.grants);
     println!("pages closed: {}, {} of them equal", met.closed, met.equal);
+    println!(
+        "fetches with records pending: {}, {} of them skip all; {} in collections",
+        met.fetches, met.all_skipped, met.collected
+    );
+    println!("records: {} applied, {} skipped", met.applied, met.skipped);
     println!(
         "tallies: {} adds, {} reads, {} totals posted to, {} of them wrapped",
         met.adds, met.looks, met.posted, met.wrapped

@@ -127,13 +127,13 @@ fn nothing_dirty(tally: &mut Tally, closing: Closing) {
     closed(tally, "nothing dirty", closing, areas, &[]);
 }
 
-/// Another processor fetches the record once, counts it, and its copy is as it was.
+/// Another processor learns of the interval, and its fetch skips the record, which has no words: it counts 0, and its copy is as it was.
 fn fetched(tally: &mut Tally) {
     let mut areas = stored(tally, CLOSINGS[0], &[(2, 1, 0, 0)]);
     let steps: [(Step, [u32; 3]); 4] = [
         ((4, 1, 0, 0), [0, 0, 0]),
         ((3, 2, 0, 0), [0, 0, 0]),
-        ((1, 2, 0, 0), [0, 0, 1]),
+        ((1, 2, 0, 0), [0, 0, 0]),
         ((1, 2, 1, 0), [0, 0, 0]),
     ];
     for (fields, expected) in steps {

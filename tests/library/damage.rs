@@ -28,7 +28,7 @@ fn lock_row(l: usize) -> usize {
     9 + l
 }
 
-fn applied_row(p: usize, g: usize) -> usize {
+pub fn applied_row(p: usize, g: usize) -> usize {
     25 + (p - 1) * 8 + g
 }
 
@@ -37,11 +37,11 @@ pub fn interval_row(p: usize, i: usize) -> usize {
 }
 
 /// The first word of a processor's copy of a page.
-fn copy(p: usize, g: usize) -> usize {
+pub fn copy(p: usize, g: usize) -> usize {
     32 * ((p - 1) * 8 + g)
 }
 
-fn twin(p: usize, g: usize) -> usize {
+pub fn twin(p: usize, g: usize) -> usize {
     32 * 64 + copy(p, g)
 }
 

@@ -4,6 +4,7 @@
 mod closing;
 mod damage;
 mod diffs;
+mod fetching;
 mod files;
 mod header;
 mod library;
@@ -46,6 +47,7 @@ fn main() -> ExitCode {
     steps::check(&mut tally, &reached);
     lines::check(&mut tally, &reached);
     closing::check(&mut tally);
+    fetching::check(&mut tally);
     tallies::check(&mut tally, &reached);
     damage::check(&mut tally, &reached);
     diffs::check(&mut tally);

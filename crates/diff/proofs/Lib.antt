@@ -3,6 +3,7 @@ pub mod Words
 pub mod Legal
 pub mod Overlay
 pub mod Checking
+pub mod Masking
 pub mod Applying
 pub mod Theorems
 pub mod Cases

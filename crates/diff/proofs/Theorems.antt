@@ -120,7 +120,7 @@ after-fits [] b = record { at = λ i. lit< tt }
 after-fits (none ∷ d) b = below-cons 4294967296 0 (map after d) (lit< tt) (after-fits d b)
 after-fits (some v ∷ d) b = below-cons 4294967296 v (map after d) (b .at 0) (after-fits d (record { at = λ i. b .at (suc i) }))
 
-settings-whole : (w : ℕ) (bytes : List ℕ) → Legal w bytes → length (settings w bytes) ≡ w
+pub settings-whole : (w : ℕ) (bytes : List ℕ) → Legal w bytes → length (settings w bytes) ≡ w
 unfolding settings
 settings-whole w bytes p =
     omega (

@@ -1,3 +1,4 @@
 -- what functions and proofs say of one another: no reader need believe it
 pub mod Needed
 pub mod Settings
+pub mod Mask

@@ -1,13 +1,14 @@
 // The changes of a page as bytes: which bytes are a diff, and a diff carried out on a page of 32 words. Document 01 calls a diff a change.
-// Every contract is an equation with a definition of specs/. Of the public functions only `lay` has a `requires`; the others refuse instead.
+// Every contract is an equation with a definition of specs/. Of the public functions only `lay` and `mask` have a `requires`; the others refuse instead.
 ghost use mathlib.Core.Path.{_≡_};
-ghost use Prim.Native.Nat.{_+_, _*_, _<_, _≤_};
+ghost use Prim.Native.Nat.{_+_, _-_, _*_, _^_, _<_, _≤_};
 ghost use lib.ListN.{length, getD};
 ghost use lib.Seq.{sets};
 ghost use Rattle.limits.specs.Limits.{pageWidth};
-ghost use Rattle.diff.specs.Reading.{runsAt, wordAt, wordsAt, pairHolds, pairsRefusal, readRefusal, applied};
+ghost use Rattle.diff.specs.Reading.{runsAt, wordAt, wordsAt, pairHolds, pairsRefusal, readRefusal, settings, applied};
 ghost use Rattle.diff.specs.Answers.{applyRefusal, pageAfter};
-ghost use Rattle.diff.specs.inner.Needed.{PairsThere, Applicable, NextThere, RunThere};
+ghost use Rattle.diff.specs.inner.Mask.{maskOf};
+ghost use Rattle.diff.specs.inner.Needed.{PairsThere, PairOnPage, Applicable, NextThere, RunThere};
 use limits::PAGE_WIDTH;
 use limits::RUN_LIMIT;
 
@@ -140,6 +141,49 @@ fn lay_words(bytes: &[u8], words: usize, len: usize, page: &mut [u32], offset: u
         to = to + 1;
         left = left - 1;
     }
+}
+
+// ---- which words a diff sets
+
+// The words that a diff sets, as the bits of one number: bit o for the word at offset o.
+pub fn mask(bytes: &[u8]) -> u32
+    requires { ⌜ readRefusal pageWidth (now bytes) ≡ 0 ⌝ }
+    ensures { λ r. ⌜ r ≡ maskOf (settings pageWidth (now (bytes .entry))) ⌝ }
+{
+    let n = wide(bytes[0]);
+    let mut at: usize = 1;
+    let mut left = n;
+    let mut mask: u64 = 0;
+    while 0 < left {
+        mask = mask + block_at(bytes, at);
+        at = at + 2;
+        left = left - 1;
+    }
+    mask as u32
+}
+
+// The bits of the run whose pair is at a place.
+fn block_at(bytes: &[u8], at: usize) -> u64
+    requires { ⌜ PairOnPage (now bytes) at ⌝ }
+    ensures { λ r. ⌜ r ≡ 2 ^ (getD (now (bytes .entry)) at 0 + getD (now (bytes .entry)) (at + 1) 0) - 2 ^ getD (now (bytes .entry)) at 0 ⌝ }
+{
+    block(wide(bytes[at]), wide(bytes[at + 1]))
+}
+
+// The bits of a run.
+fn block(offset: usize, len: usize) -> u64
+    requires { ⌜ offset + len ≤ pageWidth ⌝ }
+    ensures { λ r. ⌜ r ≡ 2 ^ (offset + len) - 2 ^ offset ⌝ }
+{
+    power(offset + len) - power(offset)
+}
+
+// The bit at a place.
+fn power(k: usize) -> u64
+    requires { ⌜ k ≤ pageWidth ⌝ }
+    ensures { λ r. ⌜ r ≡ 2 ^ k ⌝ }
+{
+    1 << k
 }
 
 // The word of four bytes at a place, low byte first.

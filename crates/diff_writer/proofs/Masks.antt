@@ -12,7 +12,8 @@ use lib.Count.{trailingZeros, under}
 use lib.Bits.{and-step, and-self, bitAnd}
 use lib.Pow.{shr-shr}
 use Rattle.diff.specs.Format.{setting, difference, ended, runsFrom, setWords}
-use Rattle.diff_writer.specs.inner.Masks.{maskOf, keptFirst, setFirst, withoutFirst, picked}
+use Rattle.diff.specs.inner.Mask.{maskOf}
+use Rattle.diff_writer.specs.inner.Masks.{keptFirst, setFirst, withoutFirst, picked}
 
 -- ---- digits
 
@@ -28,13 +29,6 @@ odd-half m = omega arith
 
 odd-odd : (m : ℕ) → (1 + 2 * m) % 2 ≡ 1
 odd-odd m = omega arith
-
--- a mask has a digit for each word
-pub mask-fits : (d : List (Option ℕ)) → maskOf d < 2 ^ length d
-unfolding maskOf
-mask-fits [] = omega arith
-mask-fits (none ∷ d) = omega (arith, mask-fits d, pow-suc 2 (length d))
-mask-fits (some v ∷ d) = omega (arith, mask-fits d, pow-suc 2 (length d))
 
 -- one digit less is one word less
 mask-half : (s : Option ℕ) (d : List (Option ℕ)) → maskOf (s ∷ d) / 2 ≡ maskOf d

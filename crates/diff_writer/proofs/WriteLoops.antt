@@ -24,10 +24,12 @@ use Rattle.diff.proofs.Legal.{length-bytes}
 use Rattle.diff.proofs.Theorems.{length-difference}
 use Rattle.diff_writer.specs.Answers.{writeRefusal, writeAnswer, Says, outAfter}
 use Rattle.diff_writer.specs.declared.Written.the-variants.{Length, Refused}
-use Rattle.diff_writer.specs.inner.Masks.{maskOf, keptFirst, setFirst, withoutFirst, picked}
+use Rattle.diff.specs.inner.Mask.{maskOf}
+use Rattle.diff_writer.specs.inner.Masks.{keptFirst, setFirst, withoutFirst, picked}
 use Rattle.diff_writer.specs.inner.Needed.{PagesWhole, RoomForWritten, RoomForDiff, RoomForWords, MaskFits, RoomForPair}
 use Rattle.diff_writer.proofs.Saying.{length-said, refusal-said}
-use Rattle.diff_writer.proofs.Masks.{mask-fits, zeros-below, zeros-of-mask, zeros-of-next, mask-shifted, lowest-cleared, runs-after-kept, runs-after-set, words-picked, first-picked, length-without, none-picked, no-runs, kept-then-set, kept-few, kept-below, set-few, mask-of-more}
+use Rattle.diff.proofs.Masking.{mask-below}
+use Rattle.diff_writer.proofs.Masks.{zeros-below, zeros-of-mask, zeros-of-next, mask-shifted, lowest-cleared, runs-after-kept, runs-after-set, words-picked, first-picked, length-without, none-picked, no-runs, kept-then-set, kept-few, kept-below, set-few, mask-of-more}
 use Rattle.diff_writer.proofs.Writing.{no-pair, room-for-length, pair-stored, room-for-byte-1, room-for-byte-2, room-for-byte-3, word-stored, pair-bytes-append, length-ended, runs-fit}
 use Rattle.diff_writer.proofs.Measuring.{words-alike, words-unlike, measuring-begins, measuring-more, runs-measured, words-measured, runs-few, words-few}
 
@@ -56,7 +58,7 @@ module _ (old new : List ℕ) (mask i : ℕ) (m : Masking old new mask i) where
   page-long = length-difference old new (m .whole .old-whole ∙ sym (m .whole .new-whole)) ∙ m .whole .old-whole
 
   below : mask < 2 ^ i
-  below = rw (m .is) (lt-of-lt-of-le (mask-fits (take i d)) (pow-mono (omega (arith, length-take i d))))
+  below = rw (m .is) (lt-of-lt-of-le (mask-below (take i d)) (pow-mono (omega (arith, length-take i d))))
 
   pub mask-has-room : (x : ℕ) → i < pageWidth → x ≡ cond (eqb (getD old i 0) (getD new i 0)) 0 1 * 2 ^ i → mask + x < 2 ^ 32
   mask-has-room x h e =
@@ -139,7 +141,7 @@ module _ (old new out₀ out : List ℕ) (left i at : ℕ) (p : PuttingPairs old
   pub left-fits : MaskFits left
   left-fits =
       let digits : 2 ^ length e ≤ 2 ^ pageWidth = pow-mono {i = length e} {j = pageWidth} (omega (arith, rest-long)) in
-      record { below = rw (p .is) (lt-of-lt-of-le (mask-fits e) digits) }
+      record { below = rw (p .is) (lt-of-lt-of-le (mask-below e) digits) }
 
   pub start-fits : (kept : ℕ) → kept ≡ trailingZeros 64 left → Fits w64 (i + kept)
   start-fits kept ek = omega (arith, ek, trailing-le 64 left, p .on-page)

@@ -12,7 +12,7 @@ ghost use Rattle.limits.specs.inner.Sizes.{runLimit};
 ghost use Rattle.diff.specs.Format.{difference, ended, runs, setWords, pairBytes, wordBytes, wordsBytes, written};
 ghost use Rattle.diff_writer.specs.Answers.{writeAnswer, Says, outAfter};
 ghost use Rattle.diff_writer.specs.inner.Needed.{PagesWhole, RoomForWritten, RoomForDiff, RoomForWords, MaskFits, RoomForPair};
-ghost use Rattle.diff_writer.specs.inner.Masks.{maskOf};
+ghost use Rattle.diff.specs.inner.Mask.{maskOf};
 use limits::PAGE_WIDTH;
 
 // What writing a diff answers: how many bytes it has, or the number of a refusal.

@@ -1,5 +1,6 @@
 pub mod Ordering
 pub mod Picking
+pub mod Masked
 pub mod Done
 pub mod Listing
 pub mod News

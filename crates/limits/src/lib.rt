@@ -106,7 +106,7 @@ pub const NOTICE_ROW: usize = (INTERVAL_LIMIT + 1) * PAGE_LIMIT;
 
 pub const NOTICE_TABLE: usize = (PROCESSOR_LIMIT + 1) * NOTICE_ROW;
 // The index: a row of sort keys for each page; how many keys each row has; how many records are ranked; for each page a watermark of each
-// processor; bounds of the object, then of the value, for each kind of step: 0, those that are known, and one for all above.
+// processor; for each slot a mask of its diff; bounds of the object, then of the value, for each kind of step: 0, those that are known, and one for all above.
 pub const KEY_AREA: usize = PAGE_LIMIT * RECORD_LIMIT;
 
 pub const FIRST_COUNT: usize = KEY_AREA;
@@ -115,7 +115,9 @@ pub const RANKED_PLACE: usize = FIRST_COUNT + PAGE_LIMIT;
 
 pub const FIRST_WATERMARK: usize = RANKED_PLACE + 1;
 
-pub const FIRST_BOUND: usize = FIRST_WATERMARK + COPY_LIMIT;
+pub const FIRST_MASK: usize = FIRST_WATERMARK + COPY_LIMIT;
+
+pub const FIRST_BOUND: usize = FIRST_MASK + RECORD_LIMIT;
 
 pub const KIND_LIMIT: usize = 10;
 

@@ -63,7 +63,7 @@ pub record BenchCases : Type 0 where
   pub B : (u v : ℕ) → StoredValues u v
       → answers mainframe (start 2 1 1) (stepsB u v) ≡ accepted ∷ accepted ∷ accepted ∷ accepted ∷ answering 0 v 1 ∷ answering 0 u 0 ∷ []
   pub C : CaseC
-  -- "under one lock 1 writes word 0, then 2 does (count 1); 3 takes it and reads 2's value, count 2"
+  -- "under one lock 1 writes word 0, then 2 does (count 1); 3 takes it and reads 2's value, count 2"; L5: "card 3 counts 1"
   pub D : (u v : ℕ) → StoredValues u v → answers mainframe (start 3 1 1) (stepsUnderLock 1 u 2 v) ≡ answersUnderLock v
   -- "as D, 2 before 1; the value is 1's"
   pub E : (u v : ℕ) → StoredValues u v → answers mainframe (start 3 1 1) (stepsUnderLock 2 v 1 u) ≡ answersUnderLock u

@@ -1,10 +1,10 @@
 -- A fetch applies exactly the pending records, each once, the smallest first, counts them, and leaves none pending. Rests on Everywhere and
 -- FetchedWord. Assumes nothing.
-use Prim.Native.Nat.{ℕ, _≤_, _<_}
+use Prim.Native.Nat.{ℕ, _≤_, _<_, _+_}
 use native.Mathlib.Omega.{arith}
 use native.Mathlib.Decide.{ℕ-discrete}
 use native.Mathlib.Nat.{le-of-eq}
-use mathlib.Core.Path.{_≡_, refl, sym, ap}
+use mathlib.Core.Path.{_≡_, refl, sym, ap, _∙_}
 use mathlib.Core.Bool.{Bool, true, false, cond, not, _&&_}
 use mathlib.Core.List.{List, []}
 use lib.ListN.{length}
@@ -14,7 +14,8 @@ use Rattle.lists.specs.Tables.{select, sortBy}
 use Rattle.lists.proofs.Selected.{each-always, select-none, count-sort, length-sort, Sorted, Sorts, sorted-sort}
 use Rattle.clock.specs.Clocks.{covered, entryOf}
 use Rattle.rules.specs.State.{Limits, Processor, Applied, Clocks, clockOf, withClock, Record, State, clock, standing}
-use Rattle.rules.specs.Fetch.{isPending, sumAt, earlier, due, fetched, fetchCount}
+use Rattle.rules.specs.Fetch.{isPending, sumAt, earlier, due, fetched, fetchCount, fetchSkipped, applying}
+use Rattle.rules.proofs.state.Skipping.{applied-and-skipped}
 use Rattle.rules.proofs.inorder.Everywhere.{covered-entries}
 use Rattle.rules.proofs.word.FetchedWord.{fetched-current, fetched-applied-elsewhere}
 
@@ -108,10 +109,12 @@ pub due-sorted : (s : State) (p g : ℕ) → Sorted (earlier (s .clocks)) (due s
 unfolding due
 due-sorted s p g = sorted-sort (earlier (s .clocks)) (earlier-sorts (s .clocks)) (select (isPending (s .clocks) p g) (standing s))
 
--- the count is the pending records
-pub fetch-counts-pending : (s : State) (p g : ℕ) → fetchCount s p g ≡ length (select (isPending (s .clocks) p g) (standing s))
-unfolding fetchCount due
-fetch-counts-pending s p g = length-sort (earlier (s .clocks)) (select (isPending (s .clocks) p g) (standing s))
+-- the count and the skipped records together are the pending records
+pub fetch-counts-pending : (lim : Limits) (s : State) (p g : ℕ)
+    → fetchCount lim s p g + fetchSkipped lim s p g ≡ length (select (isPending (s .clocks) p g) (standing s))
+unfolding fetchCount fetchSkipped applying due
+fetch-counts-pending lim s p g =
+    applied-and-skipped (lim .words) (due s p g) ∙ length-sort (earlier (s .clocks)) (select (isPending (s .clocks) p g) (standing s))
 
 -- ---- when nothing is pending
 

@@ -7,6 +7,7 @@ pub mod WaitingCases
 pub mod StoresNoted
 pub mod TallyReads
 pub mod TallyCases
+pub mod SkippingCases
 pub mod Fetching
 pub mod DemandThree
 pub mod Cases

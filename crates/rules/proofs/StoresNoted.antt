@@ -70,28 +70,28 @@ refusals-alike lim s s′ ts ts′ o o′ e same =
 
 -- ---- runs
 
--- 1 stores the 0 that a word has, under a lock; 2 takes the lock and reads the word twice: the notice is fetched once
+-- 1 stores the 0 that a word has, under a lock; 2 takes the lock and reads the word twice: the notice brings no words, so its record is skipped (L5)
 unfoldable pub stepsEqual : List Step
 stepsEqual = acquires 1 0 ∷ writes 1 0 0 ∷ releases 1 0 ∷ acquires 2 0 ∷ reads 2 0 ∷ reads 2 0 ∷ []
 
--- 1 stores a value under a lock, 2 the same value again, 3 reads it: both records follow
+-- 1 stores a value under a lock, 2 the same value again, 3 reads it: both records follow, and the one with no words is skipped (L5)
 unfoldable pub stepsConfirmed : List Step
 stepsConfirmed =
     acquires 1 0 ∷ writes 1 5 9 ∷ releases 1 0 ∷ acquires 2 0 ∷ writes 2 5 9 ∷ releases 2 0 ∷ acquires 3 0 ∷ reads 3 5 ∷ []
 
-computed-equal : answersInOrder mainframe (start 2 1 1) stepsEqual ≡ accepted ∷ accepted ∷ accepted ∷ accepted ∷ answering 0 0 1 ∷ answering 0 0 0 ∷ []
+computed-equal : answersInOrder mainframe (start 2 1 1) stepsEqual ≡ accepted ∷ accepted ∷ accepted ∷ accepted ∷ answering 0 0 0 ∷ answering 0 0 0 ∷ []
 unfolding start stepsEqual
 computed-equal = refl
 
 computed-confirmed : answersInOrder mainframe (start 3 1 1) stepsConfirmed
-    ≡ accepted ∷ accepted ∷ accepted ∷ accepted ∷ answering 0 0 1 ∷ accepted ∷ accepted ∷ answering 0 9 2 ∷ []
+    ≡ accepted ∷ accepted ∷ accepted ∷ accepted ∷ answering 0 0 1 ∷ accepted ∷ accepted ∷ answering 0 9 1 ∷ []
 unfolding start stepsConfirmed
 computed-confirmed = refl
 
 pub record StoringCases : Type 0 where
-  pub equal : answers mainframe (start 2 1 1) stepsEqual ≡ accepted ∷ accepted ∷ accepted ∷ accepted ∷ answering 0 0 1 ∷ answering 0 0 0 ∷ []
+  pub equal : answers mainframe (start 2 1 1) stepsEqual ≡ accepted ∷ accepted ∷ accepted ∷ accepted ∷ answering 0 0 0 ∷ answering 0 0 0 ∷ []
   pub confirmed : answers mainframe (start 3 1 1) stepsConfirmed
-      ≡ accepted ∷ accepted ∷ accepted ∷ accepted ∷ answering 0 0 1 ∷ accepted ∷ accepted ∷ answering 0 9 2 ∷ []
+      ≡ accepted ∷ accepted ∷ accepted ∷ accepted ∷ answering 0 0 1 ∷ accepted ∷ accepted ∷ answering 0 9 1 ∷ []
 
 pub storing-cases : StoringCases
 unfolding countsInRange inRange mainframe

@@ -48,13 +48,13 @@ toAndFro =
 
 pub record WaitingCases : Type 0 where
   pub three-in-line : answers mainframe (start 4 1 2) threeInLine
-      ≡ accepted ∷ accepted ∷ accepted ∷ accepted ∷ refused 7 ∷ refused 17 ∷ accepted ∷ accepted ∷ answering 0 11 1 ∷ refused 17 ∷ accepted ∷ accepted ∷ answering 0 22 2 ∷ accepted
-      ∷ answering 0 22 2 ∷ accepted ∷ refused 8 ∷ accepted ∷ answering 0 22 1 ∷ []
-  pub asker-closes : answers mainframe (start 3 1 1) askerCloses ≡ accepted ∷ accepted ∷ accepted ∷ accepted ∷ accepted ∷ accepted ∷ accepted ∷ answering 0 8 2 ∷ []
+      ≡ accepted ∷ accepted ∷ accepted ∷ accepted ∷ refused 7 ∷ refused 17 ∷ accepted ∷ accepted ∷ answering 0 11 1 ∷ refused 17 ∷ accepted ∷ accepted ∷ answering 0 22 1 ∷ accepted
+      ∷ answering 0 22 1 ∷ accepted ∷ refused 8 ∷ accepted ∷ answering 0 22 1 ∷ []
+  pub asker-closes : answers mainframe (start 3 1 1) askerCloses ≡ accepted ∷ accepted ∷ accepted ∷ accepted ∷ accepted ∷ accepted ∷ accepted ∷ answering 0 8 1 ∷ []
   pub closes-at-asking : answers mainframe (start 3 1 1) closesAtAsking
-      ≡ accepted ∷ accepted ∷ accepted ∷ accepted ∷ accepted ∷ accepted ∷ accepted ∷ accepted ∷ accepted ∷ answering 0 20 2 ∷ []
+      ≡ accepted ∷ accepted ∷ accepted ∷ accepted ∷ accepted ∷ accepted ∷ accepted ∷ accepted ∷ accepted ∷ answering 0 20 1 ∷ []
   pub two-locks : answers mainframe (start 3 2 2) twoLocks
-      ≡ accepted ∷ accepted ∷ accepted ∷ accepted ∷ accepted ∷ accepted ∷ accepted ∷ answering 0 1 1 ∷ answering 0 2 1 ∷ accepted ∷ accepted ∷ answering 0 3 2 ∷ answering 0 2 1
+      ≡ accepted ∷ accepted ∷ accepted ∷ accepted ∷ accepted ∷ accepted ∷ accepted ∷ answering 0 1 1 ∷ answering 0 2 1 ∷ accepted ∷ accepted ∷ answering 0 3 1 ∷ answering 0 2 1
       ∷ answering 0 1 0 ∷ accepted ∷ accepted ∷ answering 0 3 0 ∷ accepted ∷ accepted ∷ answering 0 3 1 ∷ []
   pub each-waits : answers mainframe (start 2 1 2) eachWaits
       ≡ accepted ∷ accepted ∷ accepted ∷ accepted ∷ refused 17 ∷ refused 17 ∷ refused 17 ∷ refused 17 ∷ refused 17 ∷ []
@@ -64,22 +64,22 @@ pub record WaitingCases : Type 0 where
 -- ---- the runs, computed
 
 computed-line : answersInOrder mainframe (start 4 1 2) threeInLine
-    ≡ accepted ∷ accepted ∷ accepted ∷ accepted ∷ refused 7 ∷ refused 17 ∷ accepted ∷ accepted ∷ answering 0 11 1 ∷ refused 17 ∷ accepted ∷ accepted ∷ answering 0 22 2 ∷ accepted
-    ∷ answering 0 22 2 ∷ accepted ∷ refused 8 ∷ accepted ∷ answering 0 22 1 ∷ []
+    ≡ accepted ∷ accepted ∷ accepted ∷ accepted ∷ refused 7 ∷ refused 17 ∷ accepted ∷ accepted ∷ answering 0 11 1 ∷ refused 17 ∷ accepted ∷ accepted ∷ answering 0 22 1 ∷ accepted
+    ∷ answering 0 22 1 ∷ accepted ∷ refused 8 ∷ accepted ∷ answering 0 22 1 ∷ []
 unfolding start threeInLine
 computed-line = refl
 
-computed-closes : answersInOrder mainframe (start 3 1 1) askerCloses ≡ accepted ∷ accepted ∷ accepted ∷ accepted ∷ accepted ∷ accepted ∷ accepted ∷ answering 0 8 2 ∷ []
+computed-closes : answersInOrder mainframe (start 3 1 1) askerCloses ≡ accepted ∷ accepted ∷ accepted ∷ accepted ∷ accepted ∷ accepted ∷ accepted ∷ answering 0 8 1 ∷ []
 unfolding start askerCloses
 computed-closes = refl
 
 computed-asking : answersInOrder mainframe (start 3 1 1) closesAtAsking
-    ≡ accepted ∷ accepted ∷ accepted ∷ accepted ∷ accepted ∷ accepted ∷ accepted ∷ accepted ∷ accepted ∷ answering 0 20 2 ∷ []
+    ≡ accepted ∷ accepted ∷ accepted ∷ accepted ∷ accepted ∷ accepted ∷ accepted ∷ accepted ∷ accepted ∷ answering 0 20 1 ∷ []
 unfolding start closesAtAsking
 computed-asking = refl
 
 computed-two : answersInOrder mainframe (start 3 2 2) twoLocks
-    ≡ accepted ∷ accepted ∷ accepted ∷ accepted ∷ accepted ∷ accepted ∷ accepted ∷ answering 0 1 1 ∷ answering 0 2 1 ∷ accepted ∷ accepted ∷ answering 0 3 2 ∷ answering 0 2 1
+    ≡ accepted ∷ accepted ∷ accepted ∷ accepted ∷ accepted ∷ accepted ∷ accepted ∷ answering 0 1 1 ∷ answering 0 2 1 ∷ accepted ∷ accepted ∷ answering 0 3 1 ∷ answering 0 2 1
     ∷ answering 0 1 0 ∷ accepted ∷ accepted ∷ answering 0 3 0 ∷ accepted ∷ accepted ∷ answering 0 3 1 ∷ []
 unfolding start twoLocks
 computed-two = refl

@@ -2,6 +2,7 @@
 pub mod Holders
 pub mod Slots
 pub mod CopyWords
+pub mod Skipping
 pub mod Fetches
 pub mod Lines
 pub mod Waiters

@@ -36,7 +36,7 @@ wordOf lim s p w = getD (copyOf (s .pages) p (pageOfWord lim w)) (offsetOfWord l
 unfoldable pub read : Limits → State → ℕ → ℕ → Effect
 read lim s p w =
     let s₁ = fetched lim s p (pageOfWord lim w) in
-    record { after = s₁; value = wordOf lim s₁ p w; count = fetchCount s p (pageOfWord lim w) }
+    record { after = s₁; value = wordOf lim s₁ p w; count = fetchCount lim s p (pageOfWord lim w) }
 
 -- ---- 2. "Write: fetch; if the page is clean, take the twin; store"
 
@@ -58,7 +58,7 @@ unfoldable pub write : Limits → State → ℕ → ℕ → ℕ → Effect
 write lim s p w v =
     let s₁ = fetched lim s p (pageOfWord lim w) in
     let s₂ = withPages s₁ (stored lim (twinTaken (s₁ .pages) p (pageOfWord lim w)) p w v) in
-    record { after = s₂; value = 0; count = fetchCount s p (pageOfWord lim w) }
+    record { after = s₂; value = 0; count = fetchCount lim s p (pageOfWord lim w) }
 
 -- ---- 3. "Acquire: close; the card becomes holder; its clock joins the lock's". L1: "An acquire of a lock held by another card is now accepted:
 -- the asker's interval closes and the card waits"
@@ -127,7 +127,7 @@ unfoldable pub pagesFetched : Limits → State → ℕ → ℕ → Fetches
 pagesFetched lim s p zero = record { after = s; count = 0 }
 pagesFetched lim s p (suc g) =
     let f = pagesFetched lim s p g in
-    record { after = fetched lim (f .after) p g; count = f .count + fetchCount (f .after) p g }
+    record { after = fetched lim (f .after) p g; count = f .count + fetchCount lim (f .after) p g }
 
 -- "each card upwards", for the first n processors
 unfoldable pub allFetched : Limits → State → ℕ → Fetches

@@ -50,7 +50,7 @@ module _ (c w r m : List ℕ) (p a : ℕ) (x : List ℕ) (q : AccessesKept c w r
         kept = q .kept;
       }
 
-  module _ (c₁ w₁ : List ℕ) (k : ℕ) (x₁ : List ℕ) (f : BroughtKept c w r m p (a / pageWidth) c₁ w₁ k x₁) where
+  module _ (c₁ w₁ : List ℕ) (k : ℕ) (x₁ : List ℕ) (skips : ℕ) (f : BroughtKept c w r m p (a / pageWidth) c₁ w₁ k x₁ skips) where
     abbrev b : Brought c w r m p (a / pageWidth) c₁ w₁ k
     b = f .brought
 
@@ -91,7 +91,7 @@ module _ (c w r m : List ℕ) (p a : ℕ) (x : List ℕ) (q : AccessesKept c w r
         }
 
 -- the words have their size after the fetch
-pub fetched-words : (c w r m : List ℕ) (p g : ℕ) (c₁ w₁ : List ℕ) (k : ℕ) (x₁ : List ℕ) → BroughtKept c w r m p g c₁ w₁ k x₁ → length w₁ ≡ wordArea
-fetched-words c w r m p g c₁ w₁ k x₁ f = f .brought .lent .words
+pub fetched-words : (c w r m : List ℕ) (p g : ℕ) (c₁ w₁ : List ℕ) (k : ℕ) (x₁ : List ℕ) (skips : ℕ) → BroughtKept c w r m p g c₁ w₁ k x₁ skips → length w₁ ≡ wordArea
+fetched-words c w r m p g c₁ w₁ k x₁ skips f = f .brought .lent .words
 
 pub ruleset access-laws = (word-fetchable, word-within, marks-long, fetched-words, read-done, write-done, needs)

@@ -39,9 +39,12 @@ pub fn read_word(
     ensures { λ r. ⌜ AnsweredKept (read mainframe (stateIn mainframe (now (clocks .entry)) (now (words .entry)) (now (records .entry)) (now (marks .entry))) (p .0) w) (r .value) (r .count) (now (clocks .exit)) (now (words .exit)) (now (records .entry)) (now (marks .entry)) (now (index .exit)) ⌝ }
 {
     let g = PageId(w / PAGE_WIDTH);
-    let count = fetch::fetch_unless_settled(p, g, clocks, words, records, marks, index);
+    let fetched = fetch::fetch_unless_settled(p, g, clocks, words, records, marks, index);
     let value = word_at(words, p, w);
-    Answered { value, count }
+    Answered {
+        value,
+        count: fetched.applied,
+    }
 }
 
 // Write: fetches the word's page, takes the twin if the page is clean, and stores. Yields how many records the fetch applied.
@@ -59,9 +62,9 @@ pub fn write_word(
     ensures { λ r. ⌜ AnsweredKept (write mainframe (stateIn mainframe (now (clocks .entry)) (now (words .entry)) (now (records .entry)) (now (marks .entry))) (p .0) w v) 0 r (now (clocks .exit)) (now (words .exit)) (now (records .entry)) (now (marks .exit)) (now (index .exit)) ⌝ }
 {
     let g = PageId(w / PAGE_WIDTH);
-    let count = fetch::fetch_unless_settled(p, g, clocks, words, records, marks, index);
+    let fetched = fetch::fetch_unless_settled(p, g, clocks, words, records, marks, index);
     store(words, marks, p, w, v);
-    count
+    fetched.applied
 }
 
 // Takes the twin of the word's page if that is clean, then stores.

@@ -9,7 +9,7 @@ use borrow.Author.Needs.{needs}
 use Rattle.limits.specs.inner.Sizes.{slotWidth}
 use Rattle.diff.specs.Format.{difference, written}
 use Rattle.diff.proofs.Theorems.{at-most-131-bytes}
-use Rattle.diff_writer.specs.inner.Masks.{maskOf}
+use Rattle.diff.specs.inner.Mask.{maskOf}
 use Rattle.diff_writer.specs.inner.Needed.{PagesWhole, RoomForDiff}
 use Rattle.step_close.specs.inner.Parts.{noticeBytes, countedBytes}
 use Rattle.step_close.specs.inner.Needed.{NoticeSlotThere, CountedFits, DiffFits}

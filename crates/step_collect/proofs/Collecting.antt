@@ -104,7 +104,7 @@ module _ (c₀ w₀ r m : List ℕ) (p n : ℕ) (c w x : List ℕ) (count g : �
   pub pages-next : g < n → FetchableKept c w r m p g x
   pages-next b = record { fetchable = page-fetchable b; kept = t .kept }
 
-  module _ (c′ w′ : List ℕ) (y : ℕ) (x′ : List ℕ) (b : g < n) (k : BroughtKept c w r m p g c′ w′ y x′) where
+  module _ (c′ w′ : List ℕ) (y : ℕ) (x′ : List ℕ) (skips : ℕ) (b : g < n) (k : BroughtKept c w r m p g c′ w′ y x′ skips) where
     few-more : y ≤ recordLimit
     few-more = fetch-few c w r m p g (page-fetchable b) c′ w′ y (k .brought)
 
@@ -130,7 +130,7 @@ module _ (c₀ w₀ r m : List ℕ) (p n : ℕ) (c w x : List ℕ) (count g : �
           few-pages = t .few-pages;
           upto = omega (arith, b);
           holds = rw (add-one g) (k .brought .holds ∙ ap (λ (s : State). fetched mainframe s p g) (t .holds));
-          counted = rw (add-one g) (ap₂ _+_ (t .counted) (k .brought .counted ∙ ap (λ (s : State). fetchCount s p g) (t .holds)));
+          counted = rw (add-one g) (ap₂ _+_ (t .counted) (k .brought .counted ∙ ap (λ (s : State). fetchCount mainframe s p g) (t .holds)));
           few = omega (arith, t .few, few-more);
         }
 

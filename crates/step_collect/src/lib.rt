@@ -83,7 +83,8 @@ fn fetch_pages(
     let mut count: u32 = 0;
     let mut g: usize = 0;
     while g < n {
-        count = count + fetch::fetch_page(p, PageId(g), clocks, words, records, marks, index);
+        let fetched = fetch::fetch_page(p, PageId(g), clocks, words, records, marks, index);
+        count = count + fetched.applied;
         g = g + 1;
     }
     count

@@ -1,5 +1,5 @@
 -- What the crate's own functions ask of one another: places that lie within the bytes or the page. Of the public functions
--- only `lay` asks anything. Assumes nothing.
+-- only `lay` and `mask` ask anything. Assumes nothing.
 use Prim.Native.Nat.{ℕ, _+_, _*_, _≤_}
 use mathlib.Core.Path.{_≡_}
 use mathlib.Core.List.{List}
@@ -12,6 +12,11 @@ use Rattle.diff.specs.Reading.{readRefusal}
 pub record PairsThere (bytes : List ℕ) (n : ℕ) : Type 0 where
   pub few : n ≤ runLimit
   pub within : 1 + 2 * n ≤ length bytes
+
+-- a pair lies within the bytes, and its run within a page
+pub record PairOnPage (bytes : List ℕ) (at : ℕ) : Type 0 where
+  pub pair-whole : at + 2 ≤ length bytes
+  pub on-page : getD bytes at 0 + getD bytes (at + 1) 0 ≤ pageWidth
 
 -- the bytes are a diff and the page has 32 words
 pub record Applicable (bytes page : List ℕ) : Type 0 where

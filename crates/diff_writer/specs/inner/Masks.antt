@@ -1,13 +1,7 @@
--- The words that a diff sets as one number, its mask: the digit of value 2 ^ i is 1 where word i is set. Working form of the writer. Assumes nothing.
-use Prim.Native.Nat.{ℕ, suc, _+_, _*_}
+-- What the writer reads off a mask of settings (diff, specs/inner/Mask.antt): where words are kept and set. Assumes nothing.
+use Prim.Native.Nat.{ℕ, suc}
 use mathlib.Core.Option.{Option, none, some}
 use mathlib.Core.List.{List, [], _∷_}
-
--- the mask of settings
-unfoldable pub maskOf : List (Option ℕ) → ℕ
-maskOf [] = 0
-maskOf (none ∷ d) = 2 * maskOf d
-maskOf (some v ∷ d) = 1 + 2 * maskOf d
 
 -- how many words are kept before the first that is set
 unfoldable pub keptFirst : List (Option ℕ) → ℕ

@@ -5,7 +5,7 @@ use mathlib.Core.List.{List}
 use lib.ListN.{length}
 use Rattle.limits.specs.Limits.{pageWidth}
 use Rattle.diff.specs.Format.{difference, setWords, written}
-use Rattle.diff_writer.specs.inner.Masks.{maskOf}
+use Rattle.diff.specs.inner.Mask.{maskOf}
 
 -- both pages have 32 words
 pub record PagesWhole (old new : List ℕ) : Type 0 where

@@ -167,9 +167,13 @@ rankedPlace = firstCount + pageLimit
 abbrev pub firstWatermark : ℕ
 firstWatermark = rankedPlace + 1
 
+-- for each slot a mask of the words that its record's diff sets
+abbrev pub firstMask : ℕ
+firstMask = firstWatermark + copyLimit
+
 -- bounds of the fields of each kind of step: first of the object, then of the value
 abbrev pub firstBound : ℕ
-firstBound = firstWatermark + copyLimit
+firstBound = firstMask + recordLimit
 
 -- from this kind on none is known: they share its place among the bounds
 abbrev pub kindLimit : ℕ

@@ -8,7 +8,7 @@ use mathlib.Core.Bool.{Bool, true, false}
 use mathlib.Core.List.{List}
 use lib.ListN.{length, set, length-set}
 use Rattle.rules.specs.State.{Limits, Counts, Processor, Applied, Clocks, clockOf, withClock, Pages, copyOf, dirtyAt, Marks, State, withClocks, withPages, withMarks, clock}
-use Rattle.rules.specs.Fetch.{due, appliedAll, withCopy, fetched}
+use Rattle.rules.specs.Fetch.{appliedAll, applying, withCopy, fetched}
 use Rattle.rules.specs.Steps.{pageOfWord, offsetOfWord, newTwin, twinTaken, stored, write}
 use Rattle.rules.proofs.state.CopyWords.{length-applied-all}
 use Rattle.rules.proofs.inorder.KeptParts.{among-says, ownIn, dirtyIn, PagesInOrder, MarksInOrder, Parts}
@@ -84,9 +84,9 @@ pub fetched-parts : (lim : Limits) (s : State) (p g : ℕ) → Parts lim s → A
 unfolding fetched clock
 fetched-parts lim s p g f a =
     copy-changed lim (withClocks s (withClock (s .clocks) (Applied p g) (clockOf (s .clocks) (Processor p)))) p g
-    (appliedAll (lim .words) (due s p g) (copyOf (s .pages) p g))
+    (appliedAll (lim .words) (applying lim s p g) (copyOf (s .pages) p g))
     (clocks-moved lim s (withClock (s .clocks) (Applied p g) (clockOf (s .clocks) (Processor p))) f (applied-moved lim s p g f a)) a
-    (length-applied-all (lim .words) (due s p g) (copyOf (s .pages) p g) ∙ length-copy lim (s .counts) (s .pages) p g a (f .pages))
+    (length-applied-all (lim .words) (applying lim s p g) (copyOf (s .pages) p g) ∙ length-copy lim (s .counts) (s .pages) p g a (f .pages))
 
 -- ---- write
 

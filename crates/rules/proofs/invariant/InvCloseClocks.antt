@@ -17,12 +17,12 @@ use Rattle.diff.specs.inner.Settings.{settingAt}
 use Rattle.diff.proofs.Theorems.{exactly-the-differing-words}
 use Rattle.rules.specs.State.{Limits, Counts, Holder, Processor, Applied, Interval, Clocks, clockOf, withClock, copyOf, twinOf, dirtyAt, Record, State, clock, own, standing}
 use Rattle.rules.specs.Close.{anyDirty, raised, ticked, newRecord, closed}
-use Rattle.rules.specs.Fetch.{sumAt}
+use Rattle.rules.specs.Fetch.{isSet, sumAt}
 use Rattle.rules.proofs.state.Holders.{sameHolder, other-holder, clock-of-with-same, clock-of-with-other, Knows, knows-no-interval, entry-raised-own, entry-raised-other, sum-raised}
 use Rattle.rules.proofs.state.Slots.{newRecords}
 use Rattle.rules.proofs.inorder.Facts.{InOrder, whole-copy, whole-twin}
 use Rattle.rules.proofs.order.Ghosts.{Ghost}
-use Rattle.rules.proofs.word.WordOfRecords.{nth, isSet, isHit, wordAfter, HitAt}
+use Rattle.rules.proofs.word.WordOfRecords.{nth, isHit, wordAfter, HitAt}
 use Rattle.rules.proofs.word.SelectedRecords.{nth-first, nth-second}
 use Rattle.rules.proofs.word.NewRecords.{new-hit, one-new-hit, new-records-leave, page-record, new-records-set}
 use Rattle.rules.proofs.invariant.Invariant.{Covered, PageInv, Inv}

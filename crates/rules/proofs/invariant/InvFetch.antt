@@ -10,13 +10,13 @@ use lib.ListN.{getD}
 use Rattle.lists.specs.Tables.{select}
 use Rattle.clock.specs.Clocks.{entryOf}
 use Rattle.rules.specs.State.{Limits, Counts, Holder, Processor, Applied, clockOf, copyOf, twinOf, dirtyAt, Record, State, clock, own, standing}
-use Rattle.rules.specs.Fetch.{sumAt, appliedAll, withCopy, fetched}
+use Rattle.rules.specs.Fetch.{sumAt, appliedAll, withCopy, fetched, applying, unreplaced}
 use Rattle.rules.proofs.state.Holders.{other-holder, Knows, knows-no-applied}
 use Rattle.rules.proofs.inorder.Facts.{InOrder, whole-copy}
 use Rattle.rules.proofs.inorder.Everywhere.{entries-covered}
 use Rattle.rules.proofs.order.Ghosts.{Ghost}
 use Rattle.rules.proofs.word.WordOfRecords.{nth, wordAfter, HitAt, FreshUp}
-use Rattle.rules.proofs.word.FetchedWord.{above, fetched-copy, fetched-elsewhere, fetched-sum, fetched-clock, fetched-applied, fetched-applied-elsewhere, fetched-word}
+use Rattle.rules.proofs.word.FetchedWord.{above, fetched-applying, fetched-elsewhere, fetched-sum, fetched-clock, fetched-applied, fetched-applied-elsewhere, fetched-word}
 use Rattle.rules.proofs.Fetching.{nothing-pending-when-covered}
 use Rattle.rules.proofs.invariant.Invariant.{Covered, seen, PageInv, Inv}
 use Rattle.rules.proofs.invariant.InvSame.{interval-known, above-says, above-when, above-same, clock-inv-same, fresh-up-same, page-inv-same}
@@ -30,10 +30,10 @@ module _ (lim : Limits) (s : State) (p g₁ : ℕ) where
 -- where the applied clock is the processor's, a fetch changes no copy
 pub fetch-of-current : (lim : Limits) (s : State) (p g : ℕ) → ((q : ℕ) → entryOf (clockOf (s .clocks) (Applied p g)) q ≡ entryOf (clock s p) q)
     → copyOf (fetched lim s p g .pages) p g ≡ copyOf (s .pages) p g
-unfolding appliedAll
+unfolding appliedAll applying unreplaced
 fetch-of-current lim s p g e =
-    fetched-copy lim s p g
-    ∙ ap (λ (rs : List Record). appliedAll (lim .words) rs (copyOf (s .pages) p g))
+    fetched-applying lim s p g
+    ∙ ap (λ (rs : List Record). appliedAll (lim .words) (unreplaced (lim .words) rs) (copyOf (s .pages) p g))
     (nothing-pending-when-covered s p g (entries-covered (clockOf (s .clocks) (Applied p g)) (clock s p) (λ q. omega (arith, e q))))
 
 module _ (lim : Limits) (g o : ℕ) (s : State) (γ : Ghost) (ord : InOrder lim s) (in-page : o < lim .words) (inv : Inv (lim .words) g o s γ) where
@@ -65,7 +65,7 @@ module _ (lim : Limits) (g o : ℕ) (s : State) (γ : Ghost) (ord : InOrder lim 
         fresh-up = rw (fetched-applied lim s p g) (fresh-up-same (lim .words) g o (s .clocks) (fetched lim s p g .clocks) (above p (clock s p)) (standing s) (fetched-sum lim s p g) (unknown-up p h k));
         dirty-applied = λ e q. rw (fetched-applied lim s p g, own-clock) refl;
         clean-copy = λ e. rw (fetched-applied lim s p g)
-            (fetched-word lim s p g o (γ .base) (rw (whole-copy lim s ord p g h k l) in-page)
+            (fetched-word lim s p g o (γ .base) (whole-copy lim s ord p g h k l) in-page
             (inv .clocks .rising) (old .fresh-up) (λ q. ord .applied-known p g q) (old .clean-copy e));
         dirty-twin = λ e. rw (fetched-applied lim s p g) (old .dirty-twin e ∙ seen-stays e);
         dirty-copy = λ e d. rw (fetched-applied lim s p g) (ap (λ (page : List ℕ). getD page o 0) (copy-stays e) ∙ old .dirty-copy e d ∙ seen-stays e);

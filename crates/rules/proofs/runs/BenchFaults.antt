@@ -55,9 +55,9 @@ unfoldable pub laterByFirst : List Step
 laterByFirst =
     acquires 2 0 ∷ writes 2 0 6 ∷ releases 2 0 ∷ acquires 1 0 ∷ writes 1 0 5 ∷ releases 1 0 ∷ acquires 3 0 ∷ reads 3 0 ∷ []
 
--- 1's record is applied last, for its interval's clock has the larger sum
+-- 1's record comes last, for its interval's clock has the larger sum, and replaces 2's, which is skipped (L5)
 pub later-store-is-read : answersInOrder mainframe (start 3 1 1) laterByFirst
-    ≡ fine ∷ fine ∷ fine ∷ fine ∷ answering 0 0 1 ∷ fine ∷ fine ∷ answering 0 5 2 ∷ []
+    ≡ fine ∷ fine ∷ fine ∷ fine ∷ answering 0 0 1 ∷ fine ∷ fine ∷ answering 0 5 1 ∷ []
 unfolding start laterByFirst
 later-store-is-read = refl
 
@@ -76,7 +76,7 @@ pub store-between-is-kept : answersInOrder mainframe (start 3 1 1) storeBetween
     ≡ fine ∷ fine ∷ fine
     ∷ fine ∷ answering 0 0 1 ∷ fine
     ∷ fine ∷ answering 0 0 1 ∷ fine
-    ∷ fine ∷ answering 0 6 3 ∷ answering 0 7 0 ∷ []
+    ∷ fine ∷ answering 0 6 2 ∷ answering 0 7 0 ∷ []
 unfolding start storeBetween
 store-between-is-kept = refl
 
@@ -104,11 +104,11 @@ pub closed-before-learning : clockOf (stateInOrder mainframe (start 3 1 1) store
 unfolding start storeThenAcquire
 closed-before-learning = refl
 
--- So the two intervals have equal sums, the records are applied by processor, 1's and then 2's, and 3 reads 5. Had 1 learned first, the
+-- So the two intervals have equal sums, the records stand by processor, 1's and then 2's, which replaces it, and 3 reads 5. Had 1 learned first, the
 -- clock of its interval would be 1, 1, 0, as if 1 had stored after 2: its record would come last and 3 would read 6. The two writes are a
 -- race, for which demand 3 allows either value: only the rules decide it.
 pub answers-of-store-then-acquire : answersInOrder mainframe (start 3 1 1) storeThenAcquire
-    ≡ fine ∷ fine ∷ fine ∷ fine ∷ fine ∷ fine ∷ fine ∷ answering 0 5 2 ∷ []
+    ≡ fine ∷ fine ∷ fine ∷ fine ∷ fine ∷ fine ∷ fine ∷ answering 0 5 1 ∷ []
 unfolding start storeThenAcquire
 answers-of-store-then-acquire = refl
 

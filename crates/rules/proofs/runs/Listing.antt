@@ -11,7 +11,7 @@ use Rattle.rules.specs.Lines.{waits, waitsFor, turnOf, inLine, waiterAt,
 use Rattle.rules.specs.InOrder.{present, slotSize, dirtyPages}
 use Rattle.rules.specs.Opening.{rows, zeroClocks, zeroPages, zeroMarks, zeroShared, opened}
 use Rattle.rules.specs.Close.{anyDirty, raised, ticked, newRecord, recorded, cleaned, closed}
-use Rattle.rules.specs.Fetch.{isPending, sumAt, earlier, due, appliedAll, withCopy, fetched, fetchCount}
+use Rattle.rules.specs.Fetch.{isPending, sumAt, earlier, due, appliedAll, isSet, anySets, replaced, unreplaced, applying, withCopy, fetched, fetchCount}
 use Rattle.rules.specs.Steps.{pageOfWord, offsetOfWord, wordOf, read, newTwin, twinTaken, stored, write, learned, acquire, lockTold, waiterTold, release, atBarrier, allArrived, allLearned, roundDone, pagesFetched, allFetched, allCleared, emptied, collected, wantsCollection, arrive, want}
 use Rattle.rules.specs.Tallies.{tallyAdded, tallyTotal, totalAfter, posting}
 use Rattle.rules.specs.Refusals.{Step, actionOf, knownKind, objectBound, usesValue, fits, lateRefusal, refusalBy, refusalInOrder, effect, Answer, refusedAs, answerInOrder, nextInOrder}
@@ -44,7 +44,7 @@ totals p t = record { kind = 9; processor = p; object = t; value = 0 }
 
 -- the mainframe opened with so many processors, pages and locks; who unfolds it unfolds the rules that a run computes with
 unfoldable pub start : ℕ → ℕ → ℕ → State
-unfolding mainframe zeros joined entryOf sumOf setting difference ended runsFrom runs setWords pairBytes wordBytes wordsBytes bytesOf written runCount runsAt runsIn wordsPlace wordAt wordsAt wordCount settingsOf settings overlay applied anyDirty raised ticked newRecord recorded cleaned closed isPending sumAt earlier due appliedAll withCopy fetched fetchCount present slotSize dirtyPages rows zeroClocks zeroPages zeroMarks zeroShared opened actionOf knownKind objectBound usesValue fits lateRefusal refusalBy refusalInOrder effect refusedAs answerInOrder nextInOrder answersInOrder stateInOrder clockOf withClock cleared copyOf twinOf dirtyAt slotBytes recordIn recordsOf laidOver appended clock own standing holder hasArrived pageOfWord offsetOfWord wordOf read newTwin twinTaken stored write withHolder waits waitsFor turnOf inLine waiterAt firstInLine withWaiter lockAsked movedUp withoutWaiter lockHanded learned acquire lockTold waiterTold release atBarrier allArrived allLearned roundDone pagesFetched allFetched allCleared emptied collected wantsCollection arrive want postedOf addsOf tallyAdded tallyTotal totalAfter posting tabulate put putCell every any total firstOf select insertBy sortBy
+unfolding mainframe zeros joined entryOf sumOf setting difference ended runsFrom runs setWords pairBytes wordBytes wordsBytes bytesOf written runCount runsAt runsIn wordsPlace wordAt wordsAt wordCount settingsOf settings overlay applied anyDirty raised ticked newRecord recorded cleaned closed isPending sumAt earlier due appliedAll isSet anySets replaced unreplaced applying withCopy fetched fetchCount present slotSize dirtyPages rows zeroClocks zeroPages zeroMarks zeroShared opened actionOf knownKind objectBound usesValue fits lateRefusal refusalBy refusalInOrder effect refusedAs answerInOrder nextInOrder answersInOrder stateInOrder clockOf withClock cleared copyOf twinOf dirtyAt slotBytes recordIn recordsOf laidOver appended clock own standing holder hasArrived pageOfWord offsetOfWord wordOf read newTwin twinTaken stored write withHolder waits waitsFor turnOf inLine waiterAt firstInLine withWaiter lockAsked movedUp withoutWaiter lockHanded learned acquire lockTold waiterTold release atBarrier allArrived allLearned roundDone pagesFetched allFetched allCleared emptied collected wantsCollection arrive want postedOf addsOf tallyAdded tallyTotal totalAfter posting tabulate put putCell every any total firstOf select insertBy sortBy
 start processors pages locks = opened mainframe (record { processors = processors; pages = pages; locks = locks })
 
 -- an answer: refusal, value and count

@@ -69,9 +69,9 @@ case-B u v h =
 unfoldable pub stepsUnderLock : ℕ → ℕ → ℕ → ℕ → List Step
 stepsUnderLock p x q y = acquires p 0 ∷ writes p 0 x ∷ releases p 0 ∷ acquires q 0 ∷ writes q 0 y ∷ releases q 0 ∷ acquires 3 0 ∷ reads 3 0 ∷ []
 
--- all are accepted; the second write has count 1, and the read answers the second value, count 2
+-- all are accepted; the second write has count 1, and the read answers the second value, count 1: its record replaces the first (L5)
 unfoldable pub answersUnderLock : ℕ → List Answer
-answersUnderLock y = accepted ∷ accepted ∷ accepted ∷ accepted ∷ answering 0 0 1 ∷ accepted ∷ accepted ∷ answering 0 y 2 ∷ []
+answersUnderLock y = accepted ∷ accepted ∷ accepted ∷ accepted ∷ answering 0 0 1 ∷ accepted ∷ accepted ∷ answering 0 y 1 ∷ []
 
 -- as the rules compute it, where the second value is stored over the first as it was read back from a diff
 computed-D : (x y : ℕ) → (valueField x ≡ 0 → ⊥) → (wordAt (wordBytes (valueField x)) 0 ≡ valueField y → ⊥)
@@ -101,7 +101,7 @@ computed-E x y x≢0 x≢y =
     (closing-first s₅ (releases 1 0) (acquires 3 0 ∷ reads 3 0 ∷ []) 0 (valueField y) (wordAt (wordBytes (valueField x)) 0 ∷ replicate 31 0) (valueField y ∷ replicate 31 0)
     (first-word (wordAt (wordBytes (valueField x)) 0) (valueField y) x≢y) refl refl refl refl refl)
 
--- "under one lock 1 writes word 0, then 2 does (count 1); 3 takes it and reads 2's value, count 2"
+-- "under one lock 1 writes word 0, then 2 does (count 1); 3 takes it and reads 2's value, count 2"; L5: "card 3 counts 1"
 pub case-D : (u v : ℕ) → StoredValues u v → answersInOrder mainframe (start 3 1 1) (stepsUnderLock 1 u 2 v) ≡ answersUnderLock v
 case-D u v h =
     computed-D u v (not-zero u (h .first-fits) (h .first-not-0)) (other-word u v (h .first-fits) (h .second-fits) (h .not-equal))

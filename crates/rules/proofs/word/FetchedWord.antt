@@ -18,7 +18,8 @@ use Rattle.diff.specs.Reading.{applied}
 use Rattle.diff.specs.inner.Settings.{settingAt}
 use Rattle.diff.proofs.Theorems.{applied-word}
 use Rattle.rules.specs.State.{Limits, Holder, Processor, Applied, Clocks, clockOf, withClock, copyOf, Record, State, clock, standing}
-use Rattle.rules.specs.Fetch.{isPending, sumAt, earlier, due, appliedAll, withCopy, fetched}
+use Rattle.rules.specs.Fetch.{isPending, sumAt, earlier, due, appliedAll, withCopy, fetched, applying}
+use Rattle.rules.proofs.state.Skipping.{skipping-changes-nothing}
 use Rattle.rules.proofs.state.Holders.{sameHolder, clock-of-with-same, clock-of-with-other}
 use Rattle.rules.proofs.state.CopyWords.{length-applied, length-applied-all, with-copy}
 use Rattle.rules.proofs.word.WordOfRecords.{nth, setsWord, wordAfter, Rising, FreshUp, hit-page}
@@ -122,15 +123,23 @@ module _ (words g o : ℕ) where
 -- ---- the fetch
 
 module _ (lim : Limits) (s : State) (p g : ℕ) where
-  pub fetched-copy : copyOf (fetched lim s p g .pages) p g ≡ appliedAll (lim .words) (due s p g) (copyOf (s .pages) p g)
+  -- the copy has the records that are not skipped
+  pub fetched-applying : copyOf (fetched lim s p g .pages) p g ≡ appliedAll (lim .words) (applying lim s p g) (copyOf (s .pages) p g)
   unfolding fetched withCopy copyOf
-  fetched-copy = cell-put-same [] (s .pages .copies) p g (appliedAll (lim .words) (due s p g) (copyOf (s .pages) p g))
+  fetched-applying = cell-put-same [] (s .pages .copies) p g (appliedAll (lim .words) (applying lim s p g) (copyOf (s .pages) p g))
+
+  -- and is the one that applying all pending records gives
+  pub fetched-copy : length (copyOf (s .pages) p g) ≡ lim .words → copyOf (fetched lim s p g .pages) p g ≡ appliedAll (lim .words) (due s p g) (copyOf (s .pages) p g)
+  unfolding applying
+  fetched-copy long =
+      fetched-applying
+      ∙ skipping-changes-nothing (lim .words) (due s p g) (copyOf (s .pages) p g) long
 
   -- the copies of other processors, and of other pages, are as they were
   pub fetched-elsewhere : (q h : ℕ) → (q ≡ p → h ≡ g → ⊥) → copyOf (fetched lim s p g .pages) q h ≡ copyOf (s .pages) q h
   unfolding fetched
   fetched-elsewhere q h e =
-      with-copy (s .pages) p g (appliedAll (lim .words) (due s p g) (copyOf (s .pages) p g)) q h (λ (x : List ℕ). x ≡ copyOf (s .pages) q h) (λ a b. absurd (e a b)) refl
+      with-copy (s .pages) p g (appliedAll (lim .words) (applying lim s p g) (copyOf (s .pages) p g)) q h (λ (x : List ℕ). x ≡ copyOf (s .pages) q h) (λ a b. absurd (e a b)) refl
 
   -- and so are the sums of the intervals' clocks
   pub fetched-sum : (r : Record) → sumAt (fetched lim s p g .clocks) r ≡ sumAt (s .clocks) r
@@ -141,8 +150,8 @@ module _ (lim : Limits) (s : State) (p g : ℕ) where
   pub fetched-length : (q h : ℕ) → length (copyOf (fetched lim s p g .pages) q h) ≡ length (copyOf (s .pages) q h)
   unfolding fetched
   fetched-length q h =
-      with-copy (s .pages) p g (appliedAll (lim .words) (due s p g) (copyOf (s .pages) p g)) q h (λ (x : List ℕ). length x ≡ length (copyOf (s .pages) q h))
-      (λ a b. rw (a, b) (length-applied-all (lim .words) (due s p g) (copyOf (s .pages) p g))) refl
+      with-copy (s .pages) p g (appliedAll (lim .words) (applying lim s p g) (copyOf (s .pages) p g)) q h (λ (x : List ℕ). length x ≡ length (copyOf (s .pages) q h))
+      (λ a b. rw (a, b) (length-applied-all (lim .words) (applying lim s p g) (copyOf (s .pages) p g))) refl
 
   -- no clock changes but the applied one of the page, which becomes the processor's
   pub fetched-clock : (h : Holder) → sameHolder (Applied p g) h ≡ false → clockOf (fetched lim s p g .clocks) h ≡ clockOf (s .clocks) h
@@ -168,17 +177,17 @@ module _ (lim : Limits) (s : State) (p g : ℕ) where
       go (no k) = rw (ne-eqb q p k)
 
   -- a word that had all but the fresh records has all but the unknown ones
-  pub fetched-word : (o b : ℕ) → o < length (copyOf (s .pages) p g)
+  pub fetched-word : (o b : ℕ) → length (copyOf (s .pages) p g) ≡ lim .words → o < lim .words
       → Rising (lim .words) g o (sumAt (s .clocks)) (standing s)
       → FreshUp (lim .words) g o (sumAt (s .clocks)) (fresh p g (s .clocks)) (standing s)
       → ((q : ℕ) → entryOf (clockOf (s .clocks) (Applied p g)) q ≤ entryOf (clockOf (s .clocks) (Processor p)) q)
       → getD (copyOf (s .pages) p g) o 0 ≡ wordAfter (lim .words) g o (select (λ r. not (fresh p g (s .clocks) r)) (standing s)) b
       → getD (copyOf (fetched lim s p g .pages) p g) o 0 ≡ wordAfter (lim .words) g o (select (λ r. not (unknown p (s .clocks) r)) (standing s)) b
   unfolding due
-  fetched-word o b h rise up within before =
+  fetched-word o b long h rise up within before =
       let l : List Record = select (isPending (s .clocks) p g) (standing s) in
-      ap (λ (c : List ℕ). getD c o 0) fetched-copy
-      ∙ applied-all-word (lim .words) g o (due s p g) (copyOf (s .pages) p g) (due-of-page s p g) h
+      ap (λ (c : List ℕ). getD c o 0) (fetched-copy long)
+      ∙ applied-all-word (lim .words) g o (due s p g) (copyOf (s .pages) p g) (due-of-page s p g) (rw long h)
       ∙ word-after-sort (lim .words) g o (earlier (s .clocks)) (sumAt (s .clocks)) (smaller-sum-earlier (s .clocks)) l
       (rising-select (lim .words) g o (sumAt (s .clocks)) (isPending (s .clocks) p g) (standing s) rise) (getD (copyOf (s .pages) p g) o 0)
       ∙ ap (wordAfter (lim .words) g o l) before

@@ -9,7 +9,8 @@ use mathlib.Core.List.{List, [], _∷_}
 use Rattle.lists.specs.Tables.{select, insertBy, sortBy}
 use Rattle.lists.proofs.Selected.{Each, each-select, each-sort}
 use Rattle.rules.specs.State.{Record}
-use Rattle.rules.proofs.word.WordOfRecords.{nth, isSet, setsWord, isHit, wordAfter, HitAt, Rising, FreshUp}
+use Rattle.rules.specs.Fetch.{isSet}
+use Rattle.rules.proofs.word.WordOfRecords.{nth, setsWord, isHit, wordAfter, HitAt, Rising, FreshUp}
 
 module _ (words g o : ℕ) where
   -- ---- what holds of every record of a list that sets the word

@@ -16,7 +16,7 @@ use Rattle.diff.proofs.Theorems.{exactly-the-differing-words}
 use Rattle.rules.specs.State.{dirtyAt, Limits, Clocks, Pages, copyOf, twinOf, Record, recordsOf, Marks, State, withClocks, withPages, withMarks, standing, Shared, withShared}
 use Rattle.rules.specs.InOrder.{recordAt}
 use Rattle.rules.specs.Close.{newRecord, cleaned, closed}
-use Rattle.rules.specs.Fetch.{isPending, earlier, due, appliedAll, fetched}
+use Rattle.rules.specs.Fetch.{isPending, earlier, due, appliedAll, fetched, replaced, unreplaced, applying}
 use Rattle.rules.specs.Steps.{pageOfWord, offsetOfWord, read, twinTaken, stored, write, acquire, release, atBarrier, allArrived, roundDone, emptied, collected, wantsCollection, arrive, want}
 use Rattle.rules.specs.Tallies.{tallyAdded}
 use Rattle.rules.specs.Refusals.{Step, Action, Read, Write, Acquire, Release, Arrive, Want, TallyAdd, TallyRead, Unknown, actionOf, effect}
@@ -75,20 +75,30 @@ module _ (lim : Limits) (Good : ℕ → ℕ → ℕ → Type 0) where
       pick : (r : Record) → isPending (s .clocks) p g r ≡ true → RecordGood r → (v : ℕ) → settingAt (lim .words) (r .diff) o ≡ some v → Good g o v
       pick r e a v k = rw (pending-page (s .clocks) p g r e) at (a o v l k)
 
+  -- those that are not skipped are among them
+  applying-good : (X : Record → Type 0) (w : ℕ) (rs : List Record) → Each X rs → Each X (unreplaced w rs)
+  unfolding unreplaced
+  applying-good X w [] h = tt
+  applying-good X w (r ∷ rs) h = go (replaced w r rs) (applying-good X w rs (h .1))
+    where
+      go : (b : Bool) → Each X (unreplaced w rs) → Each X (cond b (unreplaced w rs) (r ∷ unreplaced w rs))
+      go true k = k
+      go false k = (h .0, k)
+
   fetched-holding : (s : State) (p g : ℕ) → Holding s → Holding (fetched lim s p g)
   unfolding fetched standing
   fetched-holding s p g h =
-      let page : List ℕ = appliedAll (lim .words) (due s p g) (copyOf (s .pages) p g) in
+      let page : List ℕ = appliedAll (lim .words) (applying lim s p g) (copyOf (s .pages) p g) in
       record {
         whole = λ q k a b l.
             with-copy (s .pages) p g page q k (λ (x : List ℕ). length x ≡ lim .words)
-            (λ e f. length-applied-all (lim .words) (due s p g) (copyOf (s .pages) p g) ∙ (rw (e, f) at (h .whole q k a b l))) (h .whole q k a b l);
+            (λ e f. length-applied-all (lim .words) (applying lim s p g) (copyOf (s .pages) p g) ∙ (rw (e, f) at (h .whole q k a b l))) (h .whole q k a b l);
         copies = λ q k o a b l m.
             with-copy (s .pages) p g page q k (λ (x : List ℕ). Good k o (getD x o 0))
             (λ e f. rw f
-            (word-applied-all (Good g o) (lim .words) o (due s p g) (copyOf (s .pages) p g)
+            (word-applied-all (Good g o) (lim .words) o (applying lim s p g) (copyOf (s .pages) p g)
             (let n : length (copyOf (s .pages) p g) ≡ lim .words = rw (e, f) at (h .whole q k a b l) in omega (arith, n, m))
-            (due-good s p g o m (h .records)) (rw (e, f) at (h .copies q k o a b l m))))
+            (unfold applying in applying-good (λ r. (v : ℕ) → settingAt (lim .words) (r .diff) o ≡ some v → Good g o v) (lim .words) (due s p g) (due-good s p g o m (h .records))) (rw (e, f) at (h .copies q k o a b l m))))
             (h .copies q k o a b l m);
         slots = h .slots;
         records = h .records;

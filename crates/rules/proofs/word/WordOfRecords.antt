@@ -9,6 +9,7 @@ use lib.Dec.{eqb}
 use borrow.Author.Tests.{eqb-true}
 use Rattle.diff.specs.inner.Settings.{settingAt}
 use Rattle.rules.specs.State.{Record}
+use Rattle.rules.specs.Fetch.{isSet}
 
 abbrev pub noRecord : Record
 noRecord = record { processor = 0; interval = 0; page = 0; diff = [] }
@@ -16,10 +17,6 @@ noRecord = record { processor = 0; interval = 0; page = 0; diff = [] }
 -- the record at a place of a list
 abbrev pub nth : List Record → ℕ → Record
 nth l i = getD l i noRecord
-
-unfoldable pub isSet : Option ℕ → Bool
-isSet none = false
-isSet (some v) = true
 
 module _ (words g o : ℕ) where
   -- what a record sets the word to, if it sets it
