@@ -103,8 +103,14 @@ impl Printed {
     }
 
     pub fn text(&self) -> String {
-        let whole = |line: String| line + "\n";
-        self.texts().into_iter().map(whole).collect()
+        let mut text = String::new();
+        let mut put = |line: &str| {
+            text.push_str(line);
+            text.push('\n');
+        };
+        self.lines.iter().for_each(|line| put(&line.text()));
+        self.words.iter().for_each(|total| put(&words_text(*total)));
+        text
     }
 
     /// Reads what was printed back; nothing if a line cannot be read.
