@@ -133,5 +133,7 @@ pub const FILE_RECORD_WIDTH: usize = 8;
 pub const STEP_LIMIT: u32 = 1000000;
 
 pub const FILE_RECORD_LIMIT: u32 = STEP_LIMIT + 1;
+// An answer as words: refusal, value, count, words.
+pub const ANSWER_WIDTH: usize = 4;
 // The bytes of the longest line: four numbers of ten digits, each with a byte behind it.
 pub const LINE_LIMIT: usize = 44;
