@@ -60,11 +60,11 @@ words-there = omega arith
 -- ---- the opening
 
 pub opening-laid : (bs out c w r m : List ℕ) (refusal n : ℕ) (out′ c′ w′ r′ m′ : List ℕ) → refusal ≡ openRefusal (take fileRecordWidth bs) (areas c w r m)
-    → areas c′ w′ r′ m′ ≡ areasOpened (take fileRecordWidth bs) (areas c w r m) → (n ≡ refusal) × (n ≤ 255) → out′ ≡ sets out 0 (n ∷ 0 ∷ 0 ∷ [])
+    → areas c′ w′ r′ m′ ≡ areasOpened (take fileRecordWidth bs) (areas c w r m) → (n ≡ refusal) × (n ≤ 255) → out′ ≡ sets out 0 (n ∷ 0 ∷ 0 ∷ 0 ∷ [])
     → OpeningLaid bs out (areas c w r m) refusal out′ (areas c′ w′ r′ m′)
 unfolding firstRefusal answerWords refusedAs
 opening-laid bs out c w r m refusal n out′ c′ w′ r′ m′ e a same l =
-    record { refusal = e; laid = l ∙ ap (λ (x : ℕ). sets out 0 (x ∷ 0 ∷ 0 ∷ [])) (same .0); areas = a }
+    record { refusal = e; laid = l ∙ ap (λ (x : ℕ). sets out 0 (x ∷ 0 ∷ 0 ∷ 0 ∷ [])) (same .0); areas = a }
 
 -- ---- no record
 
