@@ -61,6 +61,7 @@ fn take_first(
     if chunk.len() - from < FILE_RECORD_WIDTH {
         return Passed { stand, next: from };
     }
+    let next = from + FILE_RECORD_WIDTH;
     let opened = file_record::take_opening(
         stand,
         chunk,
@@ -73,7 +74,7 @@ fn take_first(
     );
     Passed {
         stand: opened,
-        next: from + FILE_RECORD_WIDTH,
+        next,
     }
 }
 
