@@ -8,6 +8,9 @@ pub const PAGE_LIMIT: usize = 8;
 // The words of a page.
 pub const PAGE_WIDTH: usize = 32;
 
+// The values that a word can have.
+pub const WORD_VALUES: u64 = 4294967296;
+
 pub const LOCK_LIMIT: usize = 16;
 
 pub const RECORD_LIMIT: usize = 128;
