@@ -92,16 +92,7 @@ pub fn put_next(
             value,
             count,
             words: _,
-        } => put_counted(
-            out,
-            at,
-            digits,
-            len,
-            number,
-            0,
-            value,
-            count,
-        ),
+        } => put_counted(out, at, digits, len, number, 0, value, count),
         Outcome::Refused(refusal) => put_counted(out, at, digits, len, number, wide(refusal), 0, 0),
     }
 }

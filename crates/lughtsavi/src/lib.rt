@@ -89,7 +89,11 @@ fn tell(outcome: Outcome, answer: &mut [u32]) -> u8
     ensures { λ r. ⌜ ToldAs outcome r (now (answer .exit)) ⌝ }
 {
     match outcome {
-        Outcome::Done { value, count, words } => {
+        Outcome::Done {
+            value,
+            count,
+            words,
+        } => {
             lay(answer, 0, value, count, words);
             0
         }

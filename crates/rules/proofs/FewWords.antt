@@ -71,9 +71,9 @@ fetch-few s p g h =
     omega (
       arith,
       at-most-a-page-each pageWidth (unreplaced pageWidth rs)
-      (each-unreplaced (λ r. readRefusal pageWidth (r .diff) ≡ 0) pageWidth rs
-      (each-sort (λ r. readRefusal pageWidth (r .diff) ≡ 0) (earlier (s .clocks)) pending
-      (each-select (λ r. readRefusal pageWidth (r .diff) ≡ 0) (λ r. readRefusal pageWidth (r .diff) ≡ 0) (isPending (s .clocks) p g) (standing s) (λ r t e. e) (h .legal)))),
+          (each-unreplaced (λ r. readRefusal pageWidth (r .diff) ≡ 0) pageWidth rs
+          (each-sort (λ r. readRefusal pageWidth (r .diff) ≡ 0) (earlier (s .clocks)) pending
+          (each-select (λ r. readRefusal pageWidth (r .diff) ≡ 0) (λ r. readRefusal pageWidth (r .diff) ≡ 0) (isPending (s .clocks) p g) (standing s) (λ r t e. e) (h .legal)))),
       unreplaced-few pageWidth rs,
       length-sort (earlier (s .clocks)) pending,
       select-few (isPending (s .clocks) p g) (standing s),

@@ -129,20 +129,17 @@ fn lay_outcome(answers: &mut [u32], at: usize, outcome: Outcome)
     ensures { λ _. ⌜ OutcomeLaid (now (answers .entry)) at outcome (now (answers .exit)) ⌝ }
 {
     match outcome {
-        Outcome::Done { value, count, words } => lay_answer(answers, at, 0, value, count, words),
+        Outcome::Done {
+            value,
+            count,
+            words,
+        } => lay_answer(answers, at, 0, value, count, words),
         Outcome::Refused(refusal) => lay_answer(answers, at, wide(refusal), 0, 0, 0),
     }
 }
 
 // Lays the four numbers of an answer from a place on.
-fn lay_answer(
-    answers: &mut [u32],
-    at: usize,
-    refusal: u32,
-    value: u32,
-    count: u32,
-    words: u32,
-)
+fn lay_answer(answers: &mut [u32], at: usize, refusal: u32, value: u32, count: u32, words: u32)
     requires { ⌜ at + answerWidth ≤ length (now answers) ⌝ }
     ensures { λ _. ⌜ now (answers .exit) ≡ sets (now (answers .entry)) at (refusal ∷ value ∷ count ∷ words ∷ []) ⌝ }
 {

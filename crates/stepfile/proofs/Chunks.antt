@@ -179,6 +179,7 @@ begun-taken s bytes out c w r m s′ i out′ c′ w′ r′ m′ h k =
       kept = k .passing .kept;
       near = omega (arith, k .passing .near, h .eight);
       order = k .passing .able .order;
+      total = k .passing .able .total;
     }
   where
     none-left : (b : Bool) → s′ .stopped ≡ b → bytesTaken (standsAt s′ out′ (areas c′ w′ r′ m′)) (drop i bytes) ≡ standsAt s′ out′ (areas c′ w′ r′ m′)

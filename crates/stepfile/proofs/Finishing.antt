@@ -70,13 +70,21 @@ module _ (p : Progress) (out : List ℕ) (h : EndThere p out) where
         rw none (record { kept = rest-kept-all out 0 (omega arith); near = omega arith; lines = refl })
 
     module _ (z : p .stopped ≡ false) (b : Bool) (e : EndsShort b p) (out′ : List ℕ) (end : ℕ) where
+      end-is : cond (p .stopped) [] (cond (eqb (p .number) 0 || ltb 0 (p .held)) (lineBytes (p .number) 15 0 0) (wordsLine (p .words)))
+          ≡ cond b (lineBytes (p .number) 15 0 0) (wordsLine (p .words))
+      end-is = rw (z, ← e .is) refl
+
       -- the line of 15
       pub end-short : b ≡ true → LinePut out 0 (lineBytes (p .number) 15 0 0) out′ end → LinePut out 0 (finishLine p) out′ end
-      end-short y d = rw (finish-line p long (h .few) ∙ rw (z, ← e .is, y) refl) d
+      end-short y d =
+          let line : finishLine p ≡ lineBytes (p .number) 15 0 0 = finish-line p long (h .few) ∙ end-is ∙ ap (λ (x : Bool). cond x (lineBytes (p .number) 15 0 0) (wordsLine (p .words))) y in
+          rw line d
 
       -- the words moved
       pub end-words : b ≡ false → LinePut out 0 (wordsLine (p .words)) out′ end → LinePut out 0 (finishLine p) out′ end
-      end-words y d = rw (finish-line p long (h .few) ∙ rw (z, ← e .is, y) refl) d
+      end-words y d =
+          let line : finishLine p ≡ wordsLine (p .words) = finish-line p long (h .few) ∙ end-is ∙ ap (λ (x : Bool). cond x (lineBytes (p .number) 15 0 0) (wordsLine (p .words))) y in
+          rw line d
 
 -- ---- the promise
 
