@@ -188,14 +188,15 @@ module _ (c w r m : List ℕ) (k p o v : ℕ) (h : Locking c w r m k p o v) wher
       (acquire-there mainframe (stateIn mainframe c w r m) (stepOf k p o v) o (acquires k p o v e) (accepted c w r m k p o v (h .acting)))
 
   -- an acquire was done
-  pub acquire-done : (c′ r′ m′ : List ℕ) → k ≡ 3 → Holds c′ w r′ m′ (acquire (stateIn mainframe c w r m) p o)
-      → DoneAs (effect mainframe (stateIn mainframe c w r m) p (actionOf (stepOf k p o v))) (Done 0 0 0) c′ w r′ m′
+  pub acquire-done : (y : Outcome) (c′ r′ m′ : List ℕ) → k ≡ 3 → Holds c′ w r′ m′ (acquire (stateIn mainframe c w r m) p o) → y ≡ Done 0 0 0
+      → DoneAs (effect mainframe (stateIn mainframe c w r m) p (actionOf (stepOf k p o v))) y c′ w r′ m′
   unfolding effect
-  acquire-done c′ r′ m′ e a =
+  acquire-done y c′ r′ m′ e a is =
       let f = effect mainframe (stateIn mainframe c w r m) p (Acquire o) in
-      done-by (effect mainframe (stateIn mainframe c w r m) p (actionOf (stepOf k p o v))) f (Done 0 0 0) c′ w r′ m′
+      rw is
+      (done-by (effect mainframe (stateIn mainframe c w r m) p (actionOf (stepOf k p o v))) f (Done 0 0 0) c′ w r′ m′
       (effect-by (stateIn mainframe c w r m) p (actionOf (stepOf k p o v)) (Acquire o) (acquires k p o v e))
-      (done-with f 0 0 0 c′ w r′ m′ refl refl refl a)
+      (done-with f 0 0 0 c′ w r′ m′ refl refl refl a))
 
   is-release : (k ≡ 3 → ⊥) → k ≡ 4
   is-release z = omega (arith, z, h .first, h .last)
@@ -207,14 +208,15 @@ module _ (c w r m : List ℕ) (k p o v : ℕ) (h : Locking c w r m k p o v) wher
       (release-there mainframe (stateIn mainframe c w r m) (stepOf k p o v) o (releases k p o v (is-release z)) (accepted c w r m k p o v (h .acting)))
 
   -- a release was done
-  pub release-done : (c′ r′ m′ : List ℕ) → (k ≡ 3 → ⊥) → Holds c′ w r′ m′ (release (stateIn mainframe c w r m) p o)
-      → DoneAs (effect mainframe (stateIn mainframe c w r m) p (actionOf (stepOf k p o v))) (Done 0 0 0) c′ w r′ m′
+  pub release-done : (y : Outcome) (c′ r′ m′ : List ℕ) → (k ≡ 3 → ⊥) → Holds c′ w r′ m′ (release (stateIn mainframe c w r m) p o) → y ≡ Done 0 0 0
+      → DoneAs (effect mainframe (stateIn mainframe c w r m) p (actionOf (stepOf k p o v))) y c′ w r′ m′
   unfolding effect
-  release-done c′ r′ m′ z a =
+  release-done y c′ r′ m′ z a is =
       let f = effect mainframe (stateIn mainframe c w r m) p (Release o) in
-      done-by (effect mainframe (stateIn mainframe c w r m) p (actionOf (stepOf k p o v))) f (Done 0 0 0) c′ w r′ m′
+      rw is
+      (done-by (effect mainframe (stateIn mainframe c w r m) p (actionOf (stepOf k p o v))) f (Done 0 0 0) c′ w r′ m′
       (effect-by (stateIn mainframe c w r m) p (actionOf (stepOf k p o v)) (Release o) (releases k p o v (is-release z)))
-      (done-with f 0 0 0 c′ w r′ m′ refl refl refl a)
+      (done-with f 0 0 0 c′ w r′ m′ refl refl refl a))
 
 -- ---- the index is kept by a step that is no access and no arrival
 
@@ -275,18 +277,19 @@ module _ (c w r m : List ℕ) (k p o v : ℕ) (x : List ℕ) (q : MeetingKept c 
   wish-there z = t .acting .ready .lent .marks
 
   -- the wish was set
-  pub wish-done : (m′ : List ℕ) → (k ≡ 5 → ⊥) → Wanted m m′
-      → DoneKept (effect mainframe (stateIn mainframe c w r m) p (actionOf (stepOf k p o v))) (Done 0 0 0) c w r m′ x
+  pub wish-done : (y : Outcome) (m′ : List ℕ) → (k ≡ 5 → ⊥) → Wanted m m′ → y ≡ Done 0 0 0
+      → DoneKept (effect mainframe (stateIn mainframe c w r m) p (actionOf (stepOf k p o v))) y c w r m′ x
   unfolding effect
-  wish-done m′ z a =
+  wish-done y m′ z a is =
       let f = effect mainframe (stateIn mainframe c w r m) p Want in
       let l = t .acting .ready .lent in
       let six : k ≡ 6 = omega (arith, z, t .first, t .last) in
-      apart-done c w r m k p o v x (record { acting = t .acting; kept = q .kept }) (omega (arith, t .first)) z (Done 0 0 0) c w r m′
+      rw is
+      (apart-done c w r m k p o v x (record { acting = t .acting; kept = q .kept }) (omega (arith, t .first)) z (Done 0 0 0) c w r m′
       (done-by (effect mainframe (stateIn mainframe c w r m) p (actionOf (stepOf k p o v))) f (Done 0 0 0) c w r m′
       (effect-by (stateIn mainframe c w r m) p (actionOf (stepOf k p o v)) Want (wants k p o v six))
       (done-with f 0 0 0 c w r m′ refl refl refl
-      (record { lent = record { clocks = l .clocks; words = l .words; records = l .records; marks = a .marks }; is = a .is c w r })))
+      (record { lent = record { clocks = l .clocks; words = l .words; records = l .records; marks = a .marks }; is = a .is c w r }))))
 
 -- ---- tallies
 
@@ -303,13 +306,13 @@ module _ (w : List ℕ) (k p o v : ℕ) (h : Tallying w k p o) where
       go (inr e) = absurd (z e)
 
   -- an add was done
-  pub add-tallied : (w′ : List ℕ) → (k ≡ 9 → ⊥) → AddDone w w′ p o v → Tallied w w′ k p o v (Done 0 0 0)
+  pub add-tallied : (y : Outcome) (w′ : List ℕ) → (k ≡ 9 → ⊥) → AddDone w w′ p o v → y ≡ Done 0 0 0 → Tallied w w′ k p o v y
   unfolding effect stateIn
-  add-tallied w′ z a =
+  add-tallied y w′ z a done =
       record {
         words = a .words;
         is = λ c r m. a .is c r m ∙ ap (λ (x : Effect). x .after) (sym (effect-by (stateIn mainframe c w r m) p (actionOf (stepOf k p o v)) (TallyAdd o v) (adds k p o v (is-add z))));
-        outcome = λ c r m. rw (adds k p o v (is-add z)) (done-tells 0 0 0);
+        outcome = λ c r m. rw (adds k p o v (is-add z), done) (done-tells 0 0 0);
       }
 
   -- a total was read

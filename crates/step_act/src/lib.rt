@@ -1,5 +1,6 @@
 // What an accepted step does to the four areas of lent memory, by its kind, and what it answers. The index is kept by every step.
 // Every contract determines the answer and what each area holds afterwards, by the rules' effect on the state that the areas hold.
+ghost use mathlib.Core.Path.{_≡_};
 ghost use Rattle.rules.specs.State.{mainframe};
 ghost use Rattle.rules.specs.Refusals.{stepOf, actionOf, effect};
 ghost use Rattle.layout.specs.Areas.{stateIn};
@@ -37,6 +38,17 @@ pub fn act(
         return meet(kind, p, object, value, clocks, words, records, marks, index);
     }
     tally(kind, p, object, value, words)
+}
+
+// A step that was done, and of which there is nothing else to say.
+fn done() -> Outcome
+    ensures { λ r. ⌜ r ≡ Outcome.Done 0 0 0 ⌝ }
+{
+    Outcome::Done {
+        value: 0,
+        count: 0,
+        words: 0,
+    }
 }
 
 // Kinds 1 and 2: read and write.
@@ -86,18 +98,10 @@ fn lock(
 {
     if kind == 3 {
         step_lock::acquire(p, object, clocks, words, records, marks);
-        return Outcome::Done {
-            value: 0,
-            count: 0,
-            words: 0,
-        };
+        return done();
     }
     step_lock::release(p, object, clocks, words, records, marks);
-    Outcome::Done {
-        value: 0,
-        count: 0,
-        words: 0,
-    }
+    done()
 }
 
 // Kinds 5 and 6: arrive and want collection.
@@ -124,11 +128,7 @@ fn meet(
         };
     }
     step_barrier::want(marks);
-    Outcome::Done {
-        value: 0,
-        count: 0,
-        words: 0,
-    }
+    done()
 }
 
 // Kinds 8 and 9: an add to a tally, and a read of one.
@@ -145,9 +145,5 @@ fn tally(kind: u32, p: ProcessorId, object: usize, value: u32, words: &mut [u32]
         };
     }
     step_tally::add_to(words, p, object, value);
-    Outcome::Done {
-        value: 0,
-        count: 0,
-        words: 0,
-    }
+    done()
 }
