@@ -148,5 +148,5 @@ few-words s t = go (inOrder mainframe s) (eqb (refusalInOrder mainframe s t) 0) 
     go false b e h = omega arith
 
 -- so fewer than a number of 32 bits can say
-pub words-fit : (s : State) (t : Step) → answer mainframe s t .words < wordValues
-words-fit s t = omega (arith, few-words s t)
+pub words-in-32-bits : (s : State) (t : Step) → answer mainframe s t .words < wordValues
+words-in-32-bits s t = omega (arith, few-words s t)

@@ -5,7 +5,7 @@ use lib.Dec.{leb, ltb, eqb}
 use Rattle.rules.specs.State.{Limits, dirtyAt, State, own, holder, hasArrived}
 use Rattle.rules.specs.Lines.{waits}
 use Rattle.rules.specs.InOrder.{present, dirtyPages, inOrder}
-use Rattle.rules.specs.Steps.{Effect, plain, pageOfWord, read, write, acquire, release, arrive, want, tallyAdd, tallyRead}
+use Rattle.rules.specs.Steps.{Effect, silent, pageOfWord, read, write, acquire, release, arrive, want, tallyAdd, tallyRead}
 
 -- a step's four fields, any numbers: kind, processor, object (a word or a lock) and value
 pub record Step : Type 0 where
@@ -103,13 +103,13 @@ refusalInOrder lim s t = refusalBy lim s (own s (t .processor)) t
 unfoldable pub effect : Limits → State → ℕ → Action → Effect
 effect lim s p (Read w) = read lim s p w
 effect lim s p (Write w v) = write lim s p w v
-effect lim s p (Acquire l) = plain (acquire s p l)
-effect lim s p (Release l) = plain (release s p l)
+effect lim s p (Acquire l) = silent (acquire s p l)
+effect lim s p (Release l) = silent (release s p l)
 effect lim s p Arrive = record { after = arrive lim s p .after; value = 0; count = arrive lim s p .count; words = arrive lim s p .words }
-effect lim s p Want = plain (want s)
-effect lim s p (TallyAdd t v) = plain (tallyAdd s p t v)
+effect lim s p Want = silent (want s)
+effect lim s p (TallyAdd t v) = silent (tallyAdd s p t v)
 effect lim s p (TallyRead t) = tallyRead s p t
-effect lim s p Unknown = plain s
+effect lim s p Unknown = silent s
 
 -- what a step answers
 pub record Answer : Type 0 where

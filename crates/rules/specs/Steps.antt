@@ -21,8 +21,8 @@ pub record Effect : Type 0 where
   pub words : ℕ
 
 -- "Only a read has a value other than 0. Where no count is named it is 0"
-abbrev pub plain : State → Effect
-plain s = record { after = s; value = 0; count = 0; words = 0 }
+abbrev pub silent : State → Effect
+silent s = record { after = s; value = 0; count = 0; words = 0 }
 
 -- "word w lies on page w / 32"
 unfoldable pub pageOfWord : Limits → ℕ → ℕ

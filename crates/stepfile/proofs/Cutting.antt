@@ -13,7 +13,7 @@ use Rattle.limits.specs.Limits.{wordValues}
 use Rattle.rules.specs.InOrder.{allZero}
 use Rattle.rules.specs.Refusals.{Step, refusedAs, answer}
 use Rattle.rules.specs.State.{mainframe}
-use Rattle.rules.proofs.FewWords.{words-fit}
+use Rattle.rules.proofs.FewWords.{words-in-32-bits}
 use Rattle.layout.specs.Areas.{Areas, heldBy, rightSizes}
 use Rattle.engine.specs.Promises.{answerOf}
 use Rattle.step_record.specs.Records.{stepFrom}
@@ -88,12 +88,12 @@ unfolding begun
 begun-fed a = record { held = omega arith; number = omega arith; words = omega arith }
 
 -- no step moves more words than a number of 32 bits can say
-answer-words-fit : (a : Areas) (t : Step) → answerOf a t .words < wordValues
+answer-words-in-32-bits : (a : Areas) (t : Step) → answerOf a t .words < wordValues
 unfolding answerOf refusedAs
-answer-words-fit a t = go (rightSizes a)
+answer-words-in-32-bits a t = go (rightSizes a)
   where
     go : (b : Bool) → cond b (answer mainframe (heldBy a) t) (refusedAs 1) .words < wordValues
-    go true = words-fit (heldBy a) t
+    go true = words-in-32-bits (heldBy a) t
     go false = omega arith
 
 record-fed : (f : Feed) (bytes : List ℕ) → Fed f → Fed (recordTaken f bytes)
@@ -106,7 +106,7 @@ record-fed f bytes h = go (eqb (f .number) 0) (leb (f .number) stepLimit) refl
         record {
           held = omega arith;
           number = omega (arith, leb-true (f .number) stepLimit e);
-          words = omega (arith, h .words, answer-words-fit (f .areas) (stepFrom bytes));
+          words = omega (arith, h .words, answer-words-in-32-bits (f .areas) (stepFrom bytes));
         }
     go false false e = record { held = omega arith; number = h .number; words = h .words }
 
