@@ -1,8 +1,9 @@
 //! The files of tests/files; those of cards that wait are in `wait_cases.rs`,
 //! those of stores that alter nothing in `equal_cases.rs`, those of tallies in
-//! `tally_cases.rs`, those of skipped records in `skip_cases.rs`. Each expected
-//! line is written by hand from documents 01 and 02; `model make-files` refuses
-//! to write a file whose lines the model does not print.
+//! `tally_cases.rs`, those of skipped records in `skip_cases.rs`, those of words
+//! set in `words_cases.rs`. Each expected answer is written by hand from documents
+//! 01 and 02; `model make-files` refuses to write a file whose lines the model
+//! does not print.
 
 use crate::case::{acquire, any, arrive, read, release, want, write, Case};
 use crate::equal_cases::equal_cases;
@@ -10,6 +11,7 @@ use crate::model::Step;
 use crate::skip_cases::skip_cases;
 use crate::tally_cases::tally_cases;
 use crate::wait_cases::wait_cases;
+use crate::words_cases::words_cases;
 
 pub fn all_cases() -> Vec<Case> {
     let mut cases = bench_cases();
@@ -22,6 +24,7 @@ pub fn all_cases() -> Vec<Case> {
     cases.extend(equal_cases());
     cases.extend(tally_cases());
     cases.extend(skip_cases());
+    cases.extend(words_cases());
     cases
 }
 
@@ -50,7 +53,7 @@ fn bench_cases() -> Vec<Case> {
 }
 
 fn listing_a() -> Case {
-    let shows = "Document 01's Listing A and its thirteen lines: card 2 waits (line 4) and is the holder by line 6.";
+    let shows = "Document 01's Listing A and its thirteen lines: card 2 waits (line 4) and is the holder by line 6; then the words set, 1.";
     let mut c = Case::open("listing-a", [2, 1, 1], shows);
     c.ok(&[acquire(1, 0), write(1, 3, 700), read(2, 3)]);
     c.ok(&[acquire(2, 0), release(1, 0)]);
@@ -180,7 +183,7 @@ fn case_o() -> Case {
     c.refused(write(2, 0, 21), 10);
     c.gives(read(1, 0), 20, 0);
     c.ok(&[want(2), arrive(1)]);
-    c.gives(arrive(2), 0, 8);
+    c.moves(arrive(2), 0, 8, 9);
     c.ok(&[write(1, 32, 22)]);
     c.gives(read(2, 1), 19, 0);
     c
@@ -351,7 +354,7 @@ fn refusal_9() -> Case {
     c.refused(write(1, 0, 65), 9);
     c.refused(write(1, 0, 63), 9);
     c.ok(&[release(1, 0), acquire(2, 0)]);
-    c.gives(write(2, 0, 66), 0, 1);
+    c.moves(write(2, 0, 66), 0, 1, 2);
     c.gives(read(2, 1), 64, 0);
     c
 }
@@ -456,7 +459,7 @@ fn cut_cases() -> Vec<Case> {
     let alone = Case::open(
         "opening-alone",
         [1, 1, 1],
-        "An opening and no steps: one line.",
+        "An opening and no steps: one line, and no words.",
     );
     vec![step, bad, opening, wrong, empty, alone]
 }
@@ -483,7 +486,7 @@ fn fault_join() -> Case {
         release(1, 0),
     ]);
     c.ok(&[acquire(2, 0)]);
-    c.gives(write(2, 1, 22), 0, 1);
+    c.moves(write(2, 1, 22), 0, 1, 2);
     c.ok(&[release(2, 0), acquire(1, 0)]);
     c.gives(write(1, 0, 13), 0, 1);
     c.ok(&[release(1, 0), acquire(3, 0)]);
@@ -497,7 +500,7 @@ fn figure_2_16() -> Case {
     let mut c = Case::open("figure-2-16", [2, 1, 1], shows);
     c.ok(&[acquire(1, 0), write(1, 0, 1), write(1, 1, 1), release(1, 0)]);
     c.ok(&[acquire(2, 0)]);
-    c.gives(write(2, 1, 2), 0, 1);
+    c.moves(write(2, 1, 2), 0, 1, 2);
     c.ok(&[release(2, 0), acquire(1, 0)]);
     c.gives(write(1, 0, 2), 0, 1);
     c.ok(&[release(1, 0), acquire(2, 0)]);

@@ -1,6 +1,7 @@
 //! The names of the switches of `model run --fault NAME`: document 01's
 //! "Faults that pass on a two-card bench", one against request L2 of document
-//! 02, five against request L4 and six against request L5.
+//! 02, five against request L4, six against request L5 and seven against request
+//! L6.
 
 #[derive(Clone, Copy, PartialEq, Eq, Debug)]
 pub enum Fault {
@@ -45,9 +46,25 @@ pub enum Fault {
     KeepEmpty,
     /// Against L5, "the records applied": all pending ones are counted.
     CountPending,
+    /// Against L6: the words of skipped records count, too.
+    WordsSkipped,
+    /// Against L6: a run of words counts as one.
+    WordsByRun,
+    /// Against L6, "A word that is set to the value it had counts": it does not.
+    WordsAltered,
+    /// Against L6: a word that several records of a fetch set counts once.
+    WordsOnce,
+    /// Against L6: the number of records stands for that of words.
+    WordsByCount,
+    /// Against L6, "fetch, read, write and the collecting arrival hand on their
+    /// sums": only a read does.
+    WordsOfReads,
+    /// Against L6, "A run that did not stop at 2, 15 or 16": the last line stands
+    /// behind these, too.
+    WordsAlways,
 }
 
-pub const FAULTS: [(&str, Fault); 18] = [
+pub const FAULTS: [(&str, Fault); 25] = [
     ("lock-own", Fault::LockOwn),
     ("by-card", Fault::ByCard),
     ("join", Fault::Join),
@@ -66,6 +83,13 @@ pub const FAULTS: [(&str, Fault); 18] = [
     ("touched", Fault::SkipTouched),
     ("keep-empty", Fault::KeepEmpty),
     ("all-counted", Fault::CountPending),
+    ("words-skip", Fault::WordsSkipped),
+    ("words-runs", Fault::WordsByRun),
+    ("words-new", Fault::WordsAltered),
+    ("words-once", Fault::WordsOnce),
+    ("words-count", Fault::WordsByCount),
+    ("words-reads", Fault::WordsOfReads),
+    ("words-ever", Fault::WordsAlways),
 ];
 
 pub fn by_name(name: &str) -> Option<Fault> {

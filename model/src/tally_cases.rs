@@ -386,7 +386,7 @@ fn tally_closes_nothing() -> Case {
     c.ok(&[acquire(1, 0), write(1, 0, 1), add(1, 0, 1)]);
     c.gives(look(1, 0), 1, 0);
     c.ok(&[write(1, 1, 2), release(1, 0), acquire(2, 0)]);
-    c.gives(read(2, 1), 2, 1);
+    c.moves(read(2, 1), 2, 1, 2);
     c.gives(read(2, 0), 1, 0);
     c
 }

@@ -1,6 +1,6 @@
-//! The reached state, damaged: it is not in order, and a step of any kind answers 1, 0, 0 and leaves every byte.
+//! The reached state, damaged: it is not in order, and a step of any kind answers 1, 0, 0, 0 and leaves every byte.
 
-use crate::library::{in_order, step, Areas, CLOCKS, MARKS, RECORDS, WORDS};
+use crate::library::{in_order, step, Areas, CLOCKS, DONE, MARKS, RECORDS, UNANSWERED, WORDS};
 use crate::openings::of_wrong_sizes;
 use crate::steps::refused_as;
 use crate::tallies::{added, posted};
@@ -251,7 +251,7 @@ fn damages(reached: &Areas) -> Vec<(String, Areas)> {
     all
 }
 
-/// Areas that are not in order: a step of any kind answers 1, 0, 0 and leaves every byte.
+/// Areas that are not in order: a step of any kind answers 1, 0, 0, 0 and leaves every byte.
 fn not_in_order(tally: &mut Tally, name: &str, damaged: &Areas) {
     tally.check(&format!("{name}: not in order"), !in_order(damaged));
     let steps = [
@@ -305,12 +305,12 @@ fn sweep(
         let mut areas = damaged.clone();
         let fine = in_order(&areas);
         untouched &= areas == damaged;
-        let mut answer = [77; 3];
+        let mut answer = UNANSWERED;
         let refused = step((2, 2, 33, 5), &mut answer, &mut areas) == 1;
         agree &= refused != fine;
         if refused {
             found += 1;
-            untouched &= areas == damaged && answer == [1, 0, 0];
+            untouched &= areas == damaged && answer == [1, 0, 0, 0];
         } else {
             agree &= in_order(&areas);
         }
@@ -360,11 +360,11 @@ fn harmless(tally: &mut Tally, reached: &Areas) {
         let mut areas = reached.clone();
         change(&mut areas);
         let fine = in_order(&areas);
-        let mut answer = [77; 3];
+        let mut answer = UNANSWERED;
         let refusal = step((6, 1, 0, 0), &mut answer, &mut areas);
         tally.check(
             &format!("{name}: in order"),
-            fine && refusal == 0 && answer == [0, 0, 0] && in_order(&areas),
+            fine && refusal == 0 && answer == DONE && in_order(&areas),
         );
     }
 }

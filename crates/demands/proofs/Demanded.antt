@@ -14,14 +14,14 @@ use Rattle.limits.specs.Limits.{pageWidth, intervalLimit, recordLimit}
 use Rattle.limits.specs.Files.{fileRecordWidth}
 use Rattle.diff.specs.Format.{written}
 use Rattle.diff.specs.Reading.{readRefusal, applied}
-use Rattle.diff.specs.Answers.{applyRefusal, pageAfter}
+use Rattle.diff.specs.Answers.{applyRefusal, applyWords, pageAfter}
 use Rattle.diff.specs.inner.Settings.{settingAt}
 use Rattle.diff.proofs.Theorems.{applying-what-is-written, WrittenFromPages, exactly-the-written-form, one-form, at-most-131-bytes}
 use Rattle.diff_writer.specs.Answers.{writeRefusal, outAfter}
 use Rattle.rules.specs.Demand.{ReadsJudged, DemandThree}
 use Rattle.rules.specs.InOrder.{dirtyPages, inOrder}
 use Rattle.rules.specs.Opening.{opened}
-use Rattle.rules.specs.Refusals.{Step, actionOf, Answer, refusedAs, effect, refusalInOrder, answerInOrder, refusal, answer, next}
+use Rattle.rules.specs.Refusals.{Step, actionOf, Answer, acceptedAs, refusedAs, effect, refusalInOrder, answerInOrder, refusal, answer, next}
 use Rattle.rules.specs.State.{mainframe, State, dirtyAt, own}
 use Rattle.rules.specs.Steps.{pageOfWord}
 use Rattle.rules.proofs.DemandThree.{demand-three}
@@ -57,7 +57,7 @@ refused-as-ruled s t h = go (inOrder mainframe s) (eqb (refusalInOrder mainframe
     out a b =
         cond a
         (cond b
-        (record { refusal = 0; value = effect mainframe s (t .processor) (actionOf t) .value; count = effect mainframe s (t .processor) (actionOf t) .count })
+        (acceptedAs (effect mainframe s (t .processor) (actionOf t)))
         (refusedAs (refusalInOrder mainframe s t)))
         (refusedAs 1)
 
@@ -151,6 +151,10 @@ refused-opening : (bytes : List ℕ) (a : Areas) → (openRefusal bytes a ≡ 0 
 unfolding areasOpened
 refused-opening bytes a h = not-chosen (openRefusal bytes a) (holding (opened mainframe (openingOf bytes .counts))) a h
 
+refused-words : (bytes page : List ℕ) → (applyRefusal pageWidth bytes page ≡ 0 → ⊥) → applyWords pageWidth bytes page ≡ 0
+unfolding applyWords
+refused-words bytes page h = rw (ne-eqb (applyRefusal pageWidth bytes page) 0 h)
+
 refused-diff : (bytes page : List ℕ) → (applyRefusal pageWidth bytes page ≡ 0 → ⊥) → pageAfter pageWidth bytes page ≡ page
 unfolding pageAfter
 refused-diff bytes page h = not-chosen (applyRefusal pageWidth bytes page) (applied pageWidth bytes page) page h
@@ -209,6 +213,7 @@ demand-one =
       refused-answer = refused-answer;
       refused-step = refused-step;
       refused-opening = refused-opening;
+      refused-words = refused-words;
       refused-diff = refused-diff;
       refused-write = refused-write;
       refused-lines = refused-lines;

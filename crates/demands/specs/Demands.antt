@@ -13,17 +13,17 @@ use mathlib.Core.Bool.{true, false}
 use mathlib.Core.List.{List, _++_, map}
 use mathlib.Core.Logic.{_↔_}
 use lib.ListN.{length, take, drop}
-use Rattle.limits.specs.Limits.{pageWidth, intervalLimit, recordLimit}
+use Rattle.limits.specs.Limits.{pageWidth, intervalLimit, recordLimit, wordValues}
 use Rattle.limits.specs.Files.{fileRecordWidth, stepLimit}
 use Rattle.diff.specs.Format.{Below, written}
 use Rattle.diff.specs.Reading.{readRefusal, settings, applied}
-use Rattle.diff.specs.Answers.{applyRefusal, pageAfter}
+use Rattle.diff.specs.Answers.{applyRefusal, applyWords, pageAfter}
 use Rattle.diff_writer.specs.Answers.{writeRefusal, outAfter}
 use Rattle.rules.specs.Demand.{ReadsJudged, DemandThree}
 use Rattle.rules.specs.InOrder.{present, dirtyPages, inOrder}
 use Rattle.rules.specs.Opening.{Opening, openingRefusal, opened}
 use Rattle.rules.specs.Refusals.{Step, Write, actionOf, refusedAs, answer, next}
-use Rattle.rules.specs.Runs.{answers}
+use Rattle.rules.specs.Runs.{wordsMoved}
 use Rattle.rules.specs.Lines.{waits}
 use Rattle.rules.specs.State.{mainframe, dirtyAt, own, hasArrived}
 use Rattle.rules.specs.Steps.{pageOfWord}
@@ -36,7 +36,7 @@ use Rattle.engine.specs.Calls.{answersOfCalls, Returned}
 use Rattle.step_record.specs.Records.{stepsIn}
 use Rattle.run_list.specs.Runs.{firstRefusal, runAnswers}
 use Rattle.file_record.specs.Records.{refusalLine}
-use Rattle.stepfile.specs.Files.{answerLines, stepCount, endLine, openedBy, fileLines}
+use Rattle.stepfile.specs.Files.{answerLines, stepCount, endLine, stepAnswers, fileLines}
 use Rattle.stepfile.specs.Promises.{feedAnswer, feedLines, feedAreas}
 use Rattle.stepfile.specs.declared.Progress.{Progress}
 
@@ -58,13 +58,14 @@ pub record WriteComes (a : Areas) (t : Step) (w v : ℕ) : Type 0 where
 -- only when it must be"
 
 pub record DemandOne : Type 0 where
-  -- a refused step answers value 0 and count 0, ..
+  -- a refused step answers value 0 and count 0, and moves no word, ..
   pub refused-answer : (a : Areas) (t : Step) → (answerOf a t .refusal ≡ 0 → ⊥) → answerOf a t ≡ refusedAs (answerOf a t .refusal)
   -- .. and leaves every area as it was, whatever it held
   pub refused-step : (a : Areas) (t : Step) → (answerOf a t .refusal ≡ 0 → ⊥) → areasAfter a t ≡ a
   -- a refused opening leaves every area as it was
   pub refused-opening : (bytes : List ℕ) (a : Areas) → (openRefusal bytes a ≡ 0 → ⊥) → areasOpened bytes a ≡ a
-  -- bytes that are refused as a diff leave the page as it was
+  -- bytes that are refused as a diff set no word, and leave the page as it was
+  pub refused-words : (bytes page : List ℕ) → (applyRefusal pageWidth bytes page ≡ 0 → ⊥) → applyWords pageWidth bytes page ≡ 0
   pub refused-diff : (bytes page : List ℕ) → (applyRefusal pageWidth bytes page ≡ 0 → ⊥) → pageAfter pageWidth bytes page ≡ page
   -- a diff that is not written leaves its destination as it was
   pub refused-write : (old new out : List ℕ) → (writeRefusal pageWidth old new out ≡ 0 → ⊥) → outAfter pageWidth old new out ≡ out
@@ -91,8 +92,8 @@ pub record FromPages (bytes : List ℕ) : Type 0 where
   pub new : List ℕ
   pub old-whole : length old ≡ pageWidth
   pub new-whole : length new ≡ pageWidth
-  pub old-words : Below 4294967296 old
-  pub new-words : Below 4294967296 new
+  pub old-words : Below wordValues old
+  pub new-words : Below wordValues new
   pub is : written old new ≡ bytes
 
 pub record DemandTwo : Type 0 where
@@ -106,7 +107,7 @@ pub record DemandTwo : Type 0 where
   -- .. and keeps them in order
   pub step-sound : (a : Areas) (t : Step) → Sound a → Sound (areasAfter a t)
   -- what is written from two pages turns the first into the second
-  pub written-applied : (old new : List ℕ) → length old ≡ pageWidth → length new ≡ pageWidth → Below 4294967296 new → applied pageWidth (written old new) old ≡ new
+  pub written-applied : (old new : List ℕ) → length old ≡ pageWidth → length new ≡ pageWidth → Below wordValues new → applied pageWidth (written old new) old ≡ new
   -- a byte string is read exactly when it is written from some two pages
   pub read-exactly : (bytes : List ℕ) → Below 256 bytes → readRefusal pageWidth bytes ≡ 0 ↔ FromPages bytes
   -- one form: two byte strings that are read and set the same words to the same values are the same
@@ -132,10 +133,10 @@ pub record DemandThreeHolds : Type 0 where
   -- of every file whose opening is accepted: of the answers that its lines print
   pub of-files : (file : List ℕ) → fileRecordWidth ≤ length file → openingRefusal mainframe (openingOf (take fileRecordWidth file)) ≡ 0
       → ReadsJudged (openingOf (take fileRecordWidth file) .counts .processors) (stepsIn (min (stepCount file) stepLimit) (drop fileRecordWidth file))
-      (answers mainframe (openedBy file) (stepsIn (min (stepCount file) stepLimit) (drop fileRecordWidth file)))
+      (stepAnswers file)
   pub file-lines : (file : List ℕ) → fileRecordWidth ≤ length file → openingRefusal mainframe (openingOf (take fileRecordWidth file)) ≡ 0
       → fileLines file
-      ≡ refusalLine 0 0 ++ (answerLines 1 (answers mainframe (openedBy file) (stepsIn (min (stepCount file) stepLimit) (drop fileRecordWidth file))) ++ endLine file)
+      ≡ refusalLine 0 0 ++ (answerLines 1 (stepAnswers file) ++ endLine file (wordsMoved (stepAnswers file)))
 
 -- all three
 pub record Demands : Type 0 where

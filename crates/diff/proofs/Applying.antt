@@ -1,5 +1,5 @@
 -- The laws by which `apply` and its helpers meet their contracts: what each way through their code says. Assumes nothing.
-use Prim.Native.Nat.{ℕ, zero, suc, _+_, _-_, _*_, _≤_, _<_}
+use Prim.Native.Nat.{ℕ, zero, suc, _+_, _-_, _*_, _/_, _≤_, _<_}
 use native.Mathlib.Numerals.{add-one}
 use native.Mathlib.Omega.{arith}
 use mathlib.Core.Path.{_≡_, refl, sym, ap, _∙_}
@@ -7,15 +7,17 @@ use mathlib.Core.Bool.{true}
 use mathlib.Core.List.{List, _∷_}
 use lib.ListN.{length, getD, set, length-set}
 use lib.Seq.{sets, length-sets}
+use mir.Syntax.{w32}
+use mir.Val.{Fits}
 use borrow.Author.Needs.{needs}
 use borrow.Author.Tests.{eq-eqb, ne-eqb}
 use Rattle.limits.specs.Limits.{pageWidth}
 use Rattle.limits.specs.inner.Sizes.{runLimit}
-use Rattle.diff.specs.Reading.{runCount, mostRuns, runsAt, runsIn, wordsPlace, wordAt, wordsAt, wordCount, orderly, readRefusal, applied}
-use Rattle.diff.specs.Answers.{applyRefusal, pageAfter}
+use Rattle.diff.specs.Reading.{runCount, mostRuns, runsAt, runsIn, wordsPlace, wordAt, wordsAt, wordCount, orderly, readRefusal, wordsSet, applied}
+use Rattle.diff.specs.Answers.{applyRefusal, applyWords, pageAfter}
 use Rattle.diff.specs.inner.Needed.{Applicable, NextThere, RunThere}
 use Rattle.diff.proofs.Runs.{orderly-parts}
-use Rattle.diff.proofs.Legal.{legal-when-read}
+use Rattle.diff.proofs.Legal.{legal-when-read, words-end-bytes, few-words-set}
 use Rattle.diff.proofs.Overlay.{lay, lay-applies}
 use Rattle.diff.proofs.Checking.{runs-left}
 
@@ -173,6 +175,33 @@ laying-ends bytes page₀ page n at left words p none =
 pub first-byte : (bytes page : List ℕ) → Applicable bytes page → 0 < length bytes
 first-byte bytes page a = omega (arith, legal-when-read pageWidth bytes (a .accepted) .not-empty)
 
+-- ---- how many words are set
+
+module _ (bytes : List ℕ) (h : readRefusal pageWidth bytes ≡ 0) where
+  -- a diff has a first byte
+  pub count-there : 1 ≤ length bytes
+  count-there = legal-when-read pageWidth bytes h .not-empty
+
+  module _ (n : ℕ) (e : (n ≡ getD bytes 0 0) × (n < 256)) where
+    long : length bytes ≡ 1 + 2 * n + 4 * wordsSet bytes
+    unfolding runCount
+    long = words-end-bytes pageWidth bytes h ∙ ap (λ (k : ℕ). 1 + 2 * k + 4 * wordsSet bytes) (sym (e .0))
+
+    -- its pairs lie behind that
+    pub pairs-there : 2 * n ≤ length bytes - 1
+    pairs-there = omega (arith, long)
+
+    -- and its words behind those
+    pub words-counted : (length bytes - 1 - 2 * n) / 4 ≡ wordsSet bytes
+    words-counted = omega (arith, long)
+
+    pub words-fit : Fits w32 ((length bytes - 1 - 2 * n) / 4)
+    words-fit = omega (arith, words-counted, few-words-set pageWidth bytes h)
+
+-- what can be applied is legal
+pub applicable-legal : (bytes page : List ℕ) → Applicable bytes page → readRefusal pageWidth bytes ≡ 0
+applicable-legal bytes page a = a .accepted
+
 -- ---- the refusals of `apply`
 
 module _ (bytes page : List ℕ) where
@@ -184,6 +213,10 @@ module _ (bytes page : List ℕ) where
   unfolding pageAfter applyRefusal
   page-length-untouched h = rw (ne-eqb _ _ h)
 
+  pub page-length-words : (length page ≡ pageWidth → ⊥) → 0 ≡ applyWords pageWidth bytes page
+  unfolding applyWords applyRefusal
+  page-length-words h = rw (ne-eqb _ _ h)
+
   module _ (whole : length page ≡ pageWidth) (r : ℕ) (is : r ≡ readRefusal pageWidth bytes) where
     pub string-refused : (r ≡ 0 → ⊥) → r ≡ applyRefusal pageWidth bytes page
     unfolding applyRefusal
@@ -192,6 +225,10 @@ module _ (bytes page : List ℕ) where
     pub string-untouched : (r ≡ 0 → ⊥) → page ≡ pageAfter pageWidth bytes page
     unfolding pageAfter applyRefusal
     string-untouched h = rw (eq-eqb _ _ whole, ne-eqb (readRefusal pageWidth bytes) 0 (rw is at h))
+
+    pub string-words : (r ≡ 0 → ⊥) → 0 ≡ applyWords pageWidth bytes page
+    unfolding applyWords applyRefusal
+    string-words h = rw (eq-eqb _ _ whole, ne-eqb (readRefusal pageWidth bytes) 0 (rw is at h))
 
     pub applicable : r ≡ 0 → Applicable bytes page
     applicable z = record { accepted = sym is ∙ z; page-whole = whole }
@@ -204,4 +241,8 @@ module _ (bytes page : List ℕ) where
     unfolding pageAfter applyRefusal
     applied-page page′ z e = e ∙ rw (eq-eqb _ _ whole, eq-eqb (readRefusal pageWidth bytes) 0 (sym is ∙ z))
 
-pub ruleset apply-laws = (four-bytes, laying-run-begins, laying-run-more, laying-run-ends, one-word-there, one-word-on-page, one-word-laid, laying-begins, next-there, laying-more, run-there, words-end, run-laid, laying-ends, first-byte, page-length-refused, page-length-untouched, string-refused, string-untouched, applicable, applied-accepted, applied-page, needs)
+    pub applied-words : (words : ℕ) → r ≡ 0 → words ≡ wordsSet bytes → words ≡ applyWords pageWidth bytes page
+    unfolding applyWords applyRefusal
+    applied-words words z e = e ∙ rw (eq-eqb _ _ whole, eq-eqb (readRefusal pageWidth bytes) 0 (sym is ∙ z))
+
+pub ruleset apply-laws = (four-bytes, laying-run-begins, laying-run-more, laying-run-ends, one-word-there, one-word-on-page, one-word-laid, laying-begins, next-there, laying-more, run-there, words-end, run-laid, laying-ends, first-byte, count-there, pairs-there, words-counted, words-fit, applicable-legal, page-length-refused, page-length-words, string-words, applied-words, page-length-untouched, string-refused, string-untouched, applicable, applied-accepted, applied-page, needs)

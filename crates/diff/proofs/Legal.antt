@@ -11,9 +11,10 @@ use lib.ListN.{length, take, drop, length-append, length-drop, take-append-drop}
 use lib.Seq.{take-all, drop-at}
 use lib.Dec.{ltb, eqb}
 use borrow.Author.Tests.{ltb-false, eqb-true, eqb-false, not-false, ne-eqb, le-ltb, eq-eqb}
+use Rattle.limits.specs.Limits.{wordValues}
 use Rattle.diff.specs.Format.{Below, runs, setWords, pairBytes, wordsBytes, bytesOf}
-use Rattle.diff.specs.Reading.{runCount, mostRuns, runsIn, wordsPlace, wordsAt, wordCount, orderly, pairsRefusal, readRefusal, settings}
-use Rattle.diff.proofs.Runs.{runs-of-settings, words-of-settings, settings-of-runs, runs-orderly, words-counted, orderly-bound, orderly-count}
+use Rattle.diff.specs.Reading.{runCount, mostRuns, runsIn, wordsPlace, wordsAt, wordCount, wordsSet, orderly, pairsRefusal, readRefusal, settings}
+use Rattle.diff.proofs.Runs.{runs-of-settings, words-of-settings, settings-of-runs, runs-orderly, words-counted, orderly-bound, orderly-count, orderly-words}
 use Rattle.diff.proofs.Words.{length-words, length-word-bytes, words-read, words-written, length-runs-at, length-pair-bytes, pairs-read, pairs-written}
 
 -- what a refusal of 0 says of a byte string
@@ -69,6 +70,16 @@ read-when-legal w bytes p =
       eq-eqb _ _ (p .exact),
     )
 
+-- L6: the words that a legal byte string sets end it, four bytes each
+pub words-end-bytes : (w : ℕ) (bytes : List ℕ) → readRefusal w bytes ≡ 0 → length bytes ≡ 1 + 2 * runCount bytes + 4 * wordsSet bytes
+unfolding wordsSet wordsPlace
+words-end-bytes w bytes e = legal-when-read w bytes e .exact
+
+-- and they are at most those of the page
+pub few-words-set : (w : ℕ) (bytes : List ℕ) → readRefusal w bytes ≡ 0 → wordsSet bytes ≤ w
+unfolding wordsSet
+few-words-set w bytes e = orderly-words w (runsIn bytes) (legal-when-read w bytes e .in-order)
+
 -- the words of a legal byte string, as many as its runs have
 abbrev wordsIn : List ℕ → List ℕ
 wordsIn bytes = wordsAt bytes (wordsPlace bytes) (wordCount (runsIn bytes))
@@ -115,13 +126,13 @@ pub words-of-runs : (d : List (Option ℕ)) → wordCount (runs d) ≡ length (s
 unfolding runs
 words-of-runs d = words-counted 0 0 d ∙ zero-add (length (setWords d))
 
-words-in-bytes : (d : List (Option ℕ)) → Below 4294967296 (setWords d) → wordsIn (bytesOf d) ≡ setWords d
+words-in-bytes : (d : List (Option ℕ)) → Below wordValues (setWords d) → wordsIn (bytesOf d) ≡ setWords d
 words-in-bytes d b =
     ap (λ (n : ℕ). wordsAt (bytesOf d) (wordsPlace (bytesOf d)) n) (ap wordCount (runs-in-bytes d) ∙ words-of-runs d)
     ∙ words-read (bytesOf d) (wordsPlace (bytesOf d)) (setWords d) [] b (words-behind d)
 
 -- reading the bytes of a diff gives the diff
-pub read-after-write : (w : ℕ) (d : List (Option ℕ)) → length d ≡ w → Below 4294967296 (setWords d) → settings w (bytesOf d) ≡ d
+pub read-after-write : (w : ℕ) (d : List (Option ℕ)) → length d ≡ w → Below wordValues (setWords d) → settings w (bytesOf d) ≡ d
 unfolding settings
 read-after-write w d h b = rw (words-in-bytes d b, runs-in-bytes d) (settings-of-runs w d h)
 

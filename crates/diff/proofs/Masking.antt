@@ -10,7 +10,7 @@ use lib.ListN.{length, getD, take, drop, replicate, length-drop}
 use lib.Seq.{length-take-le}
 use lib.Pow.{pow-add, pow-mono}
 use borrow.Author.Needs.{needs}
-use Rattle.limits.specs.Limits.{pageWidth}
+use Rattle.limits.specs.Limits.{pageWidth, wordValues}
 use Rattle.diff.specs.Format.{Run}
 use Rattle.diff.specs.Reading.{runCount, runsAt, runsIn, wordsPlace, wordsAt, wordCount, orderly, readRefusal, settingsOf, settings}
 use Rattle.diff.specs.inner.Mask.{maskOf}
@@ -96,10 +96,10 @@ pub record MaskingRuns (bytes : List ℕ) (n at left mask : ℕ) : Type 0 where
   pub pairs-whole : 1 + 2 * n ≤ length bytes
   pub place : at + 2 * left ≡ 1 + 2 * n
   pub same : mask + runsMask (runsAt bytes at left) ≡ maskOf (settings pageWidth bytes)
-  pub small : maskOf (settings pageWidth bytes) < 4294967296
+  pub small : maskOf (settings pageWidth bytes) < wordValues
 
 -- the settings of a page of 32 words have 32 digits
-mask-fits : (bytes : List ℕ) → readRefusal pageWidth bytes ≡ 0 → maskOf (settings pageWidth bytes) < 4294967296
+mask-fits : (bytes : List ℕ) → readRefusal pageWidth bytes ≡ 0 → maskOf (settings pageWidth bytes) < wordValues
 unfolding settings
 mask-fits bytes ok =
     let whole = length-settings pageWidth 0 (runsIn bytes) (wordsAt bytes (wordsPlace bytes) (wordCount (runsIn bytes)))
@@ -176,7 +176,7 @@ module _ (bytes : List ℕ) (n at left mask : ℕ) where
       let last : mask + 0 ≡ maskOf (settings pageWidth bytes) = rw e at (p .same) in
       omega (arith, last)
 
-  pub masked-fits : MaskingRuns bytes n at left mask → mask < 4294967296
+  pub masked-fits : MaskingRuns bytes n at left mask → mask < wordValues
   masked-fits p = omega (arith, p .same, p .small)
 
 -- ---- the block of a run

@@ -254,6 +254,12 @@ orderly-count w from (r ∷ rs) o =
     let p = orderly-parts w from r rs o in
     omega (arith, p .some-words, orderly-count w (r .offset + r .len + 1) rs (p .rest))
 
+-- runs have no more words than the page
+pub orderly-words : (w : ℕ) (rs : List Run) → orderly w 0 rs ≡ true → wordCount rs ≤ w
+unfolding wordCount
+orderly-words w [] o = omega arith
+orderly-words w (r ∷ rs) o = omega (arith, orderly-bound w 0 (r ∷ rs) (omega arith) o)
+
 -- offsets and lengths on a page of up to 255 words are bytes
 pub pairs-are-bytes : (w from : ℕ) (rs : List Run) → w < 256 → orderly w from rs ≡ true → Below 256 (pairBytes rs)
 unfolding pairBytes

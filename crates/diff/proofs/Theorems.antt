@@ -10,10 +10,10 @@ use lib.ListN.{length, getD, replicate, length-map}
 use lib.Seq.{ext-getD}
 use lib.Dec.{eqb, lit<, eqb·suc-zero, eqb·zero-suc}
 use borrow.Author.Tests.{eq-eqb, eqb-true}
-use Rattle.limits.specs.Limits.{pageWidth}
+use Rattle.limits.specs.Limits.{pageWidth, wordValues}
 use Rattle.limits.specs.inner.Sizes.{diffLimit, runLimit}
 use Rattle.diff.specs.Format.{Below, Run, setting, difference, runs, runsFrom, ended, setWords, pairBytes, wordsBytes, bytesOf, written}
-use Rattle.diff.specs.Reading.{readRefusal, runsIn, wordsPlace, wordsAt, wordCount, settings, overlay, applied}
+use Rattle.diff.specs.Reading.{readRefusal, runsIn, wordsPlace, wordsAt, wordCount, wordsSet, settings, overlay, applied}
 use Rattle.diff.specs.inner.Settings.{settingAt}
 use Rattle.diff.proofs.Runs.{runs-gap, words-gap, length-settings, words-of-settings, orderly-bound, orderly-count, pairs-are-bytes}
 use Rattle.diff.proofs.Words.{length-words, words-fit, below-cons, below-append, words-are-bytes}
@@ -36,15 +36,15 @@ difference-word (x ∷ old) (y ∷ new) zero h k = refl
 difference-word (x ∷ old) (y ∷ new) (suc i) h k = difference-word old new i (omega arith) (omega arith)
 
 -- the words that a difference sets are words of the new page
-difference-fits : (old new : List ℕ) → Below 4294967296 new → Below 4294967296 (setWords (difference old new))
+difference-fits : (old new : List ℕ) → Below wordValues new → Below wordValues (setWords (difference old new))
 unfolding difference setWords setting
 difference-fits [] new b = record { at = λ i. lit< tt }
 difference-fits (x ∷ old) [] b = record { at = λ i. lit< tt }
 difference-fits (x ∷ old) (y ∷ new) b = go (eqb x y) (difference-fits old new (record { at = λ i. b .at (suc i) }))
   where
-    go : (same : Bool) → Below 4294967296 (setWords (difference old new)) → Below 4294967296 (setWords (cond same none (some y) ∷ difference old new))
+    go : (same : Bool) → Below wordValues (setWords (difference old new)) → Below wordValues (setWords (cond same none (some y) ∷ difference old new))
     go true h = h
-    go false h = below-cons 4294967296 y (setWords (difference old new)) (b .at 0) h
+    go false h = below-cons wordValues y (setWords (difference old new)) (b .at 0) h
 
 overlay-difference : (old new : List ℕ) → length old ≡ length new → overlay (difference old new) old ≡ new
 unfolding difference overlay setting
@@ -59,7 +59,7 @@ overlay-difference (x ∷ old) (y ∷ new) e = go (eqb x y) refl (overlay-differ
 
 -- ---- 1. applying what is written from two pages turns the first into the second
 
-pub applying-what-is-written : (w : ℕ) (old new : List ℕ) → length old ≡ w → length new ≡ w → Below 4294967296 new → applied w (written old new) old ≡ new
+pub applying-what-is-written : (w : ℕ) (old new : List ℕ) → length old ≡ w → length new ≡ w → Below wordValues new → applied w (written old new) old ≡ new
 unfolding applied written
 applying-what-is-written w old new h k b =
     ap (λ (d : List (Option ℕ)). overlay d old) (read-after-write w (difference old new) (length-difference old new (h ∙ sym k) ∙ h) (difference-fits old new b))
@@ -73,8 +73,8 @@ pub record WrittenFromPages (w : ℕ) (bytes : List ℕ) : Type 0 where
   pub new : List ℕ
   pub old-whole : length old ≡ w
   pub new-whole : length new ≡ w
-  pub old-words : Below 4294967296 old
-  pub new-words : Below 4294967296 new
+  pub old-words : Below wordValues old
+  pub new-words : Below wordValues new
   pub is : written old new ≡ bytes
 
 pub written-is-read : (w : ℕ) (bytes : List ℕ) → WrittenFromPages w bytes → readRefusal w bytes ≡ 0
@@ -104,21 +104,21 @@ unfolding difference
 difference-between [] = refl
 difference-between (s ∷ d) = ap₂ _∷_ (setting-between s) (difference-between d)
 
-before-fits : (d : List (Option ℕ)) → Below 4294967296 (map before d)
+before-fits : (d : List (Option ℕ)) → Below wordValues (map before d)
 unfolding before
 before-fits [] = record { at = λ i. lit< tt }
-before-fits (none ∷ d) = below-cons 4294967296 0 (map before d) (lit< tt) (before-fits d)
-before-fits (some v ∷ d) = below-cons 4294967296 (cond (eqb v 0) 1 0) (map before d) (go (eqb v 0)) (before-fits d)
+before-fits (none ∷ d) = below-cons wordValues 0 (map before d) (lit< tt) (before-fits d)
+before-fits (some v ∷ d) = below-cons wordValues (cond (eqb v 0) 1 0) (map before d) (go (eqb v 0)) (before-fits d)
   where
-    go : (t : Bool) → cond t 1 0 < 4294967296
+    go : (t : Bool) → cond t 1 0 < wordValues
     go true = lit< tt
     go false = lit< tt
 
-after-fits : (d : List (Option ℕ)) → Below 4294967296 (setWords d) → Below 4294967296 (map after d)
+after-fits : (d : List (Option ℕ)) → Below wordValues (setWords d) → Below wordValues (map after d)
 unfolding after setWords
 after-fits [] b = record { at = λ i. lit< tt }
-after-fits (none ∷ d) b = below-cons 4294967296 0 (map after d) (lit< tt) (after-fits d b)
-after-fits (some v ∷ d) b = below-cons 4294967296 v (map after d) (b .at 0) (after-fits d (record { at = λ i. b .at (suc i) }))
+after-fits (none ∷ d) b = below-cons wordValues 0 (map after d) (lit< tt) (after-fits d b)
+after-fits (some v ∷ d) b = below-cons wordValues v (map after d) (b .at 0) (after-fits d (record { at = λ i. b .at (suc i) }))
 
 pub settings-whole : (w : ℕ) (bytes : List ℕ) → Legal w bytes → length (settings w bytes) ≡ w
 unfolding settings
@@ -129,7 +129,7 @@ settings-whole w bytes p =
           (length-words bytes (wordsPlace bytes) (wordCount (runsIn bytes))),
     )
 
-settings-fit : (w : ℕ) (bytes : List ℕ) → Below 256 bytes → Below 4294967296 (setWords (settings w bytes))
+settings-fit : (w : ℕ) (bytes : List ℕ) → Below 256 bytes → Below wordValues (setWords (settings w bytes))
 unfolding settings
 settings-fit w bytes b =
     rw (words-of-settings w 0 (runsIn bytes) (wordsAt bytes (wordsPlace bytes) (wordCount (runsIn bytes))) (length-words bytes (wordsPlace bytes) (wordCount (runsIn bytes))))
@@ -169,7 +169,7 @@ one-form w bytes other b c r s same =
     sym (write-after-read w bytes p b) ∙ ap bytesOf alike ∙ write-after-read w other q c
 
 -- the writer's runs hold exactly the differing words, with their new values
-pub exactly-the-differing-words : (w : ℕ) (old new : List ℕ) → length old ≡ w → length new ≡ w → Below 4294967296 new → (i : ℕ) → i < w
+pub exactly-the-differing-words : (w : ℕ) (old new : List ℕ) → length old ≡ w → length new ≡ w → Below wordValues new → (i : ℕ) → i < w
     → settingAt w (written old new) i ≡ setting (getD old i 0) (getD new i 0)
 unfolding settingAt written
 exactly-the-differing-words w old new h k b i l =
@@ -228,3 +228,11 @@ pub applied-word : (w : ℕ) (bytes page : List ℕ) (i : ℕ) → i < length pa
     → getD (applied w bytes page) i 0 ≡ Option·getD (settingAt w bytes i) (getD page i 0)
 unfolding applied settingAt
 applied-word w bytes page i h = overlay-word (settings w bytes) page i h
+
+-- ---- 6. L6: how many words a diff sets, as many as words of the page have a setting
+
+pub words-with-a-setting : (w : ℕ) (bytes : List ℕ) → wordsSet bytes ≡ length (setWords (settings w bytes))
+unfolding settings wordsSet
+words-with-a-setting w bytes =
+    let many = length-words bytes (wordsPlace bytes) (wordCount (runsIn bytes)) in
+    sym (ap length (words-of-settings w 0 (runsIn bytes) (wordsAt bytes (wordsPlace bytes) (wordCount (runsIn bytes))) many) ∙ many)

@@ -8,16 +8,17 @@ use mathlib.Core.List.{List, [], _∷_, _++_}
 use lib.ListN.{length, getD, take, drop}
 use lib.Seq.{drop-cons, drop-drop, getD-drop}
 use lib.Dec.{lit<}
+use Rattle.limits.specs.Limits.{wordValues}
 use Rattle.diff.specs.Format.{Below, Run, pairBytes, wordBytes, wordsBytes}
 use Rattle.diff.specs.Reading.{runsAt, wordAt, wordsAt}
 
-word-back : (v : ℕ) → v < 4294967296 → v % 256 + 256 * (v / 256 % 256) + 65536 * (v / 65536 % 256) + 16777216 * (v / 16777216 % 256) ≡ v
+word-back : (v : ℕ) → v < wordValues → v % 256 + 256 * (v / 256 % 256) + 65536 * (v / 65536 % 256) + 16777216 * (v / 16777216 % 256) ≡ v
 word-back v h =
     let e₁ : v / 256 / 256 ≡ v / 65536 = div-div-eq-div-mul v 256 256 in
     let e₂ : v / 65536 / 256 ≡ v / 16777216 = div-div-eq-div-mul v 65536 256 in
     stages v (v / 256) (v / 65536) (v / 16777216) (omega arith) (omega arith) (omega arith) h
   where
-    stages : (v q₁ q₂ q₃ : ℕ) → v ≡ 256 * q₁ + v % 256 → q₁ ≡ 256 * q₂ + q₁ % 256 → q₂ ≡ 256 * q₃ + q₂ % 256 → v < 4294967296
+    stages : (v q₁ q₂ q₃ : ℕ) → v ≡ 256 * q₁ + v % 256 → q₁ ≡ 256 * q₂ + q₁ % 256 → q₂ ≡ 256 * q₃ + q₂ % 256 → v < wordValues
         → v % 256 + 256 * (q₁ % 256) + 65536 * (q₂ % 256) + 16777216 * (q₃ % 256) ≡ v
     stages v q₁ q₂ q₃ a b c h = let e : q₃ % 256 ≡ q₃ = omega arith in omega arith
 
@@ -61,7 +62,7 @@ length-word-bytes [] = refl
 length-word-bytes (v ∷ ws) = ap (λ (n : ℕ). suc (suc (suc (suc n)))) (length-word-bytes ws) ∙ omega arith
 
 -- words that stand at a place as bytes are read there
-pub words-read : (bytes : List ℕ) (at : ℕ) (ws rest : List ℕ) → Below 4294967296 ws → drop at bytes ≡ wordsBytes ws ++ rest
+pub words-read : (bytes : List ℕ) (at : ℕ) (ws rest : List ℕ) → Below wordValues ws → drop at bytes ≡ wordsBytes ws ++ rest
     → wordsAt bytes at (length ws) ≡ ws
 unfolding wordsAt wordsBytes wordBytes wordAt
 words-read bytes at [] rest b e = refl
@@ -71,7 +72,7 @@ words-read bytes at (v ∷ ws) rest b e =
     let at2 : getD bytes (at + 2) 0 ≡ v / 65536 % 256 = sym (getD-drop at bytes 2 0) ∙ ap (λ (l : List ℕ). getD l 2 0) e in
     let at3 : getD bytes (at + 3) 0 ≡ v / 16777216 % 256 = sym (getD-drop at bytes 3 0) ∙ ap (λ (l : List ℕ). getD l 3 0) e in
     let behind : drop (at + 4) bytes ≡ wordsBytes ws ++ rest = sym (drop-drop 4 at bytes) ∙ ap (λ (l : List ℕ). drop 4 l) e in
-    let later : Below 4294967296 ws = record { at = λ i. b .at (suc i) } in
+    let later : Below wordValues ws = record { at = λ i. b .at (suc i) } in
     rw (at0, at1, at2, at3, word-back v (b .at 0), words-read bytes (at + 4) ws rest later behind)
 
 -- the bytes of words that were read at a place are those that stand there
@@ -91,7 +92,7 @@ words-written bytes at (suc k) b h =
       drop-four bytes at (omega arith),
     )
 
-word-fits : (bytes : List ℕ) (at : ℕ) → Below 256 bytes → wordAt bytes at < 4294967296
+word-fits : (bytes : List ℕ) (at : ℕ) → Below 256 bytes → wordAt bytes at < wordValues
 unfolding wordAt
 word-fits bytes at b = omega (arith, b .at at, b .at (at + 1), b .at (at + 2), b .at (at + 3))
 
@@ -114,10 +115,10 @@ words-are-bytes (v ∷ ws) =
     (below-cons 256 (v / 256 % 256) _ (omega arith)
     (below-cons 256 (v / 65536 % 256) _ (omega arith) (below-cons 256 (v / 16777216 % 256) _ (omega arith) (words-are-bytes ws))))
 
-pub words-fit : (bytes : List ℕ) (at k : ℕ) → Below 256 bytes → Below 4294967296 (wordsAt bytes at k)
+pub words-fit : (bytes : List ℕ) (at k : ℕ) → Below 256 bytes → Below wordValues (wordsAt bytes at k)
 unfolding wordsAt
 words-fit bytes at zero b = record { at = λ i. lit< tt }
-words-fit bytes at (suc k) b = below-cons 4294967296 (wordAt bytes at) (wordsAt bytes (at + 4) k) (word-fits bytes at b) (words-fit bytes (at + 4) k b)
+words-fit bytes at (suc k) b = below-cons wordValues (wordAt bytes at) (wordsAt bytes (at + 4) k) (word-fits bytes at b) (words-fit bytes (at + 4) k b)
 
 -- k and then m words from a place on are the k + m words from there on
 pub words-split : (bytes : List ℕ) (at k m : ℕ) → wordsAt bytes at (k + m) ≡ wordsAt bytes at k ++ wordsAt bytes (at + 4 * k) m

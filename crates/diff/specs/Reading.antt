@@ -43,6 +43,10 @@ unfoldable pub wordCount : List Run → ℕ
 wordCount [] = 0
 wordCount (r ∷ rs) = r .len + wordCount rs
 
+-- L6: "the number of words it set". "A word that is set to the value it had counts"
+unfoldable pub wordsSet : List ℕ → ℕ
+wordsSet bytes = wordCount (runsIn bytes)
+
 -- the rule of a pair: a length of at least 1, "Offset plus length is at most 32", and an offset of at least from
 unfoldable pub pairHolds : ℕ → ℕ → ℕ → ℕ → Bool
 pairHolds w from offset len = leb from offset && leb 1 len && leb (offset + len) w

@@ -1,20 +1,21 @@
 // The changes of a page as bytes: which bytes are a diff, and a diff carried out on a page of 32 words. Document 01 calls a diff a change.
-// Every contract is an equation with a definition of specs/. Of the public functions only `lay` and `mask` have a `requires`; the others refuse instead.
+// Every contract is an equation with a definition of specs/. Of the public functions only `lay`, `words_set` and `mask` have a `requires`; the others refuse instead.
 ghost use mathlib.Core.Path.{_≡_};
 ghost use Prim.Native.Nat.{_+_, _-_, _*_, _^_, _<_, _≤_};
 ghost use lib.ListN.{length, getD};
 ghost use lib.Seq.{sets};
 ghost use Rattle.limits.specs.Limits.{pageWidth};
-ghost use Rattle.diff.specs.Reading.{runsAt, wordAt, wordsAt, pairHolds, pairsRefusal, readRefusal, settings, applied};
-ghost use Rattle.diff.specs.Answers.{applyRefusal, pageAfter};
+ghost use Rattle.diff.specs.Reading.{runsAt, wordAt, wordsAt, pairHolds, pairsRefusal, readRefusal, wordsSet, settings, applied};
+ghost use Rattle.diff.specs.Answers.{applyRefusal, applyWords, pageAfter};
 ghost use Rattle.diff.specs.inner.Mask.{maskOf};
 ghost use Rattle.diff.specs.inner.Needed.{PairsThere, PairOnPage, Applicable, NextThere, RunThere};
 use limits::PAGE_WIDTH;
 use limits::RUN_LIMIT;
 
-// What applying a diff answers: the number of a refusal, or 0.
+// What applying a diff answers: the number of a refusal, or 0, and how many words were set.
 pub struct Applied {
     pub refusal: u8,
+    pub words: u32,
 }
 
 // The refusal of a byte string that is to be read as a diff, or 0.
@@ -71,24 +72,46 @@ fn pair_holds(from: usize, offset: usize, len: usize) -> bool
     offset + len <= PAGE_WIDTH
 }
 
-// Carries a diff out on a page.
+// Carries a diff out on a page, and says how many words it set.
 pub fn apply(bytes: &[u8], page: &mut [u32]) -> Applied
     ensures answer { λ r. ⌜ r .refusal ≡ applyRefusal pageWidth (now (bytes .entry)) (now (page .entry)) ⌝ }
+    ensures words { λ r. ⌜ r .words ≡ applyWords pageWidth (now (bytes .entry)) (now (page .entry)) ⌝ }
     ensures memory { λ r. ⌜ now (page .exit) ≡ pageAfter pageWidth (now (bytes .entry)) (now (page .entry)) ⌝ }
 {
     if page.len() != PAGE_WIDTH {
-        return Applied { refusal: 14 };
+        return Applied {
+            refusal: 14,
+            words: 0,
+        };
     }
     let refusal = check(bytes);
     if refusal != 0 {
-        return Applied { refusal };
+        return Applied { refusal, words: 0 };
     }
-    lay(bytes, page);
-    Applied { refusal: 0 }
+    let words = lay(bytes, page);
+    Applied { refusal: 0, words }
 }
 
-// Carries a diff out on a page where both are known to be legal: the words of every run, laid into the page.
-pub fn lay(bytes: &[u8], page: &mut [u32])
+// Carries a diff out on a page where both are known to be legal, and says how many words it set.
+pub fn lay(bytes: &[u8], page: &mut [u32]) -> u32
+    requires { ⌜ Applicable (now bytes) (now page) ⌝ }
+    ensures words { λ r. ⌜ r ≡ wordsSet (now (bytes .entry)) ⌝ }
+    ensures memory { λ _. ⌜ now (page .exit) ≡ applied pageWidth (now (bytes .entry)) (now (page .entry)) ⌝ }
+{
+    lay_runs(bytes, page);
+    words_set(bytes)
+}
+
+// How many words a diff sets: four bytes each, they stand behind the pairs and end it.
+pub fn words_set(bytes: &[u8]) -> u32
+    requires { ⌜ readRefusal pageWidth (now bytes) ≡ 0 ⌝ }
+    ensures { λ r. ⌜ r ≡ wordsSet (now (bytes .entry)) ⌝ }
+{
+    ((bytes.len() - 1 - 2 * wide(bytes[0])) / 4) as u32
+}
+
+// The words of every run, laid into the page.
+fn lay_runs(bytes: &[u8], page: &mut [u32])
     requires { ⌜ Applicable (now bytes) (now page) ⌝ }
     ensures { λ _. ⌜ now (page .exit) ≡ applied pageWidth (now (bytes .entry)) (now (page .entry)) ⌝ }
 {

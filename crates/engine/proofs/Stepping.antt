@@ -8,7 +8,7 @@ use lib.ListN.{length, take, drop}
 use borrow.Author.Tests.{not-true, not-false, eq-eqb, ne-eqb}
 use borrow.Author.Needs.{needs}
 use Rattle.limits.specs.inner.Sizes.{boundArea, firstBound, indexArea}
-use Rattle.rules.specs.Refusals.{Step, stepOf, refusedAs, actionOf, effect, refusalInOrder, answerInOrder, nextInOrder}
+use Rattle.rules.specs.Refusals.{Step, stepOf, acceptedAs, refusedAs, actionOf, effect, refusalInOrder, answerInOrder, nextInOrder}
 use Rattle.rules.specs.State.{mainframe, State, own}
 use Rattle.rules.proofs.inorder.Kept.{next-keeps-order}
 use Rattle.layout.specs.Areas.{stateIn, areas, holding}
@@ -37,7 +37,7 @@ module _ (s : State) (t : Step) (n : ℕ) (e : n ≡ refusalInOrder mainframe s 
   unfolding nextInOrder
   refused-next z = rw (← e, ne-eqb n 0 z)
 
-  done-answer : n ≡ 0 → answerInOrder mainframe s t ≡ record { refusal = 0; value = effect mainframe s (t .processor) (actionOf t) .value; count = effect mainframe s (t .processor) (actionOf t) .count }
+  done-answer : n ≡ 0 → answerInOrder mainframe s t ≡ acceptedAs (effect mainframe s (t .processor) (actionOf t))
   unfolding answerInOrder
   done-answer z = rw (← e, eq-eqb n 0 z)
 

@@ -81,7 +81,7 @@ module _ (s₀ : Stand) (chunk : List ℕ) (from : ℕ) (out₀ c₀ w₀ r₀ m
 module _ (s : Stand) (chunk : List ℕ) (i : ℕ) (out c w r m : List ℕ) (h : Passable s chunk i out c w r m) (l : fileRecordWidth ≤ length chunk - i) where
   -- a whole record is there
   pub record-takeable : Takeable s chunk i out c w r m
-  record-takeable = record { few = h .few; there = omega (arith, l); room = omega (arith, l, h .room); order = h .order }
+  record-takeable = record { few = h .few; there = omega (arith, l); room = omega (arith, l, h .room); order = h .order; total = h .total }
 
   -- it is taken
   pub passing-one : (s′ : Stand) (out′ c′ w′ r′ m′ : List ℕ) → s .stopped ≡ false
@@ -97,6 +97,7 @@ module _ (s : Stand) (chunk : List ℕ) (i : ℕ) (out c w r m : List ℕ) (h : 
               within = omega (arith, l);
               room = omega (arith, l, h .room, d .near, d .kept .long);
               order = d .order;
+              total = d .total;
             };
         is =
             ap (λ (f : Feed). bytesTaken f (drop (i + fileRecordWidth) chunk)) (d .is)

@@ -1,5 +1,5 @@
 -- One record taken: the opening, a step, or one too many. Rests on file_record's and the engine's laws. Assumes nothing.
-use Prim.Native.Nat.{_+_, _<_, _≤_, ℕ}
+use Prim.Native.Nat.{_*_, _+_, _<_, _≤_, ℕ}
 use native.Mathlib.Omega.{arith}
 use native.Mathlib.Numerals.{add-one}
 use mathlib.Core.Path.{_∙_, _≡_, ap, refl, sym}
@@ -9,6 +9,7 @@ use lib.ListN.{drop, take}
 use lib.Seq.{getD-take}
 use borrow.Author.Tests.{eq-eqb, le-leb, lt-leb, ne-eqb}
 use Rattle.limits.specs.Files.{fileRecordWidth, stepLimit}
+use Rattle.limits.specs.Limits.{wordValues}
 use Rattle.rules.specs.Refusals.{Answer, Step}
 use Rattle.rules.specs.State.{mainframe}
 use Rattle.layout.specs.Areas.{stateIn, areas}
@@ -24,7 +25,7 @@ use Rattle.step_record.specs.Records.{stepFrom}
 use Rattle.lines.specs.Lines.{lineBytes}
 use Rattle.file_record.specs.Records.{openingTaken, recordTaken, refusalLine, stepTaken, tooManyTaken}
 use Rattle.file_record.specs.declared.Stand.{Stand}
-use Rattle.file_record.specs.inner.Needed.{LinePut, StoppedAt, Takeable, RecordTaken, outcomeLine, standsAt}
+use Rattle.file_record.specs.inner.Needed.{LinePut, StoppedAt, Takeable, RecordTaken, WordsAdded, outcomeLine, standsAt}
 use Rattle.file_record.proofs.Taking.{ready-order, stands}
 
 -- ---- the answer of a step
@@ -71,21 +72,22 @@ module _ (s : Stand) (bytes : List ℕ) (from : ℕ) (out c w r m : List ℕ) wh
   opening-record s′ out′ c′ w′ r′ m′ z h = rw (eq-eqb (s .number) 0 z) h
 
   -- the next 1,000,000 are steps
-  pub step-record : (o : Outcome) (c′ w′ r′ m′ out′ : List ℕ) (end : ℕ) → 1 ≤ s .number → s .number ≤ stepLimit
+  pub step-record : (o : Outcome) (c′ w′ r′ m′ out′ : List ℕ) (end moved : ℕ) → 1 ≤ s .number → s .number ≤ stepLimit → s .words ≤ wordValues * s .number
       → Answered (stepFrom (drop from bytes)) c w r m o (s .ready) c′ w′ r′ m′
-      → LinePut out (s .at) (outcomeLine (s .number) o) out′ end
-      → RecordTaken (recordTaken (standsAt s out (areas c w r m)) (take fileRecordWidth (drop from bytes))) s out (record { number = s .number + 1; stopped = false; ready = s .ready; at = end }) out′ c′ w′ r′ m′
+      → LinePut out (s .at) (outcomeLine (s .number) o) out′ end → WordsAdded (s .words) o moved
+      → RecordTaken (recordTaken (standsAt s out (areas c w r m)) (take fileRecordWidth (drop from bytes))) s out (record { number = s .number + 1; stopped = false; ready = s .ready; at = end; words = moved }) out′ c′ w′ r′ m′
   unfolding recordTaken stepTaken standsAt outcomeLine
-  step-record o c′ w′ r′ m′ out′ end z l a p =
+  step-record o c′ w′ r′ m′ out′ end moved z l bound a p k =
       let t : stepFrom (drop from bytes) ≡ stepFrom (take fileRecordWidth (drop from bytes)) = sym (step-of-eight (drop from bytes)) in
       rw (ne-eqb (s .number) 0 (λ e. omega (arith, z, e)), le-leb (s .number) stepLimit l)
       (record {
         is =
-            stands (s .number + 1) false (s .ready) end out′ (areas c′ w′ r′ m′) _ _
+            stands (s .number + 1) false (s .ready) end moved out′ (areas c′ w′ r′ m′) _ _
             (p .lines ∙ ap (λ (x : Answer). take (s .at) out ++ lineBytes (s .number) (x .refusal) (x .value) (x .count)) (a .outcome ∙ ap (λ (y : Step). answerOf (areas c w r m) y) t))
             (a .left ∙ ap (λ (y : Step). areasAfter (areas c w r m) y) t)
-            ∙ rw (add-one (s .number));
+            ∙ rw (add-one (s .number), k .is ∙ ap (λ (x : Answer). s .words + x .words) (a .outcome ∙ ap (λ (y : Step). answerOf (areas c w r m) y) t));
         few = omega (arith, l);
+        total = omega (arith, k .is, k .few, bound);
         kept = p .kept;
         near = p .near;
         order = a .order;
@@ -99,9 +101,10 @@ module _ (s : Stand) (bytes : List ℕ) (from : ℕ) (out c w r m : List ℕ) wh
       record {
         is =
             ap (λ (x : Stand). standsAt x out′ (areas c w r m)) (d .is)
-            ∙ stands (s .number) true (s .ready) (s′ .at) out′ (areas c w r m) _ _ (d .put .lines) refl
+            ∙ stands (s .number) true (s .ready) (s′ .at) (s .words) out′ (areas c w r m) _ _ (d .put .lines) refl
             ∙ sym (rw (ne-eqb (s .number) 0 (λ e. omega (arith, l, e)), lt-leb (s .number) stepLimit l));
         few = omega (arith, ap (λ (x : Stand). x .number) (d .is), h .few);
+        total = omega (arith, ap (λ (x : Stand). x .number) (d .is), ap (λ (x : Stand). x .words) (d .is), h .total);
         kept = d .put .kept;
         near = d .put .near;
         order = rw (ap (λ (x : Stand). x .ready) (d .is)) (h .order);

@@ -16,7 +16,7 @@ use Rattle.rules.specs.State.{mainframe}
 use Rattle.layout.specs.Areas.{stateIn, areas}
 use Rattle.fetch_index.specs.inner.Index.{unranked, IndexKept}
 use Rattle.fetch_index.proofs.Kept.{new-kept}
-use Rattle.step_act.specs.Telling.{outcomeCount, outcomeRefusal, outcomeValue, told}
+use Rattle.step_act.specs.Telling.{outcomeCount, outcomeRefusal, outcomeValue, outcomeWords, told}
 use Rattle.step_act.specs.declared.Outcome.{Outcome}
 use Rattle.step_act.specs.declared.Outcome.the-variants.{Refused}
 use Rattle.engine.specs.inner.Needed.{SteppedKept}
@@ -26,7 +26,7 @@ use Rattle.step_record.specs.inner.Needed.{StepThere}
 use Rattle.lines.specs.Lines.{lineBytes}
 use Rattle.lines.specs.inner.Needed.{Countable, Counted, Room}
 use Rattle.file_record.specs.declared.Stand.{Stand}
-use Rattle.file_record.specs.inner.Needed.{LinePut, outcomeLine, standsAt, Ahead, AllAhead}
+use Rattle.file_record.specs.inner.Needed.{LinePut, TotalThere, WordsAdded, outcomeLine, standsAt, Ahead, AllAhead}
 use Rattle.file_chunk.specs.Bytes.{bytesTaken}
 use Rattle.file_chunk.specs.inner.Needed.{Passing, RoomForSteps, Runnable, StepsPassable, StepsRefused, StepsTaken}
 use Rattle.file_chunk.proofs.Passing.{passing-begins, passing-on, passing-one}
@@ -35,41 +35,42 @@ use Rattle.file_chunk.proofs.Records.{Answered, answered-in-order, answ
 -- ---- steps one after the other
 
 -- the steps up to a place are taken, from this number on to that, and there are more up to the end; ready says whether the areas are in order
-pub record Going (ready : Bool) (number₀ at₀ : ℕ) (chunk : List ℕ) (from end : ℕ) (out₀ c₀ w₀ r₀ m₀ : List ℕ) (number at i : ℕ) (out c w r m : List ℕ) : Type 0 where
+pub record Going (ready : Bool) (number₀ at₀ moved₀ : ℕ) (chunk : List ℕ) (from end : ℕ) (out₀ c₀ w₀ r₀ m₀ : List ℕ) (number at moved i : ℕ) (out c w r m : List ℕ) : Type 0 where
   pub passing :
-      Passing (record { number = number₀; stopped = false; ready = ready; at = at₀ }) chunk from out₀ c₀ w₀ r₀ m₀ (record { number = number; stopped = false; ready = ready; at = at }) i out c w r m
+      Passing (record { number = number₀; stopped = false; ready = ready; at = at₀; words = moved₀ }) chunk from out₀ c₀ w₀ r₀ m₀ (record { number = number; stopped = false; ready = ready; at = at; words = moved }) i out c w r m
   pub ahead : AllAhead number i end (length chunk)
   pub opened : 1 ≤ number
 
 module _ (ready : Bool) (s : Stand) (chunk : List ℕ) (from end : ℕ) (out c w r m : List ℕ) (h : Runnable ready s chunk from end out c w r m) where
   -- none is taken yet
-  going-begins : Going ready (s .number) (s .at) chunk from end out c w r m (s .number) (s .at) from out c w r m
+  going-begins : Going ready (s .number) (s .at) (s .words) chunk from end out c w r m (s .number) (s .at) (s .words) from out c w r m
   going-begins =
       record {
         passing =
-            passing-begins (record { number = s .number; stopped = false; ready = ready; at = s .at }) chunk from out c w r m
+            passing-begins (record { number = s .number; stopped = false; ready = ready; at = s .at; words = s .words }) chunk from out c w r m
             (record {
               few = h .passable .few;
               within = h .passable .within;
               room = h .passable .room;
               order = rw (← h .said) (h .passable .order);
+              total = h .passable .total;
             });
         ahead = h .ahead;
         opened = h .opened;
       }
 
   -- all are taken: they lead from the first stand to this one
-  going-ends : (number at i : ℕ) (out′ c′ w′ r′ m′ : List ℕ) → Going ready (s .number) (s .at) chunk from end out c w r m number at i out′ c′ w′ r′ m′ → end ≤ i
-      → StepsTaken s chunk from out c w r m (record { number = number; stopped = false; ready = ready; at = at }) i out′ c′ w′ r′ m′
+  going-ends : (number at moved i : ℕ) (out′ c′ w′ r′ m′ : List ℕ) → Going ready (s .number) (s .at) (s .words) chunk from end out c w r m number at moved i out′ c′ w′ r′ m′ → end ≤ i
+      → StepsTaken s chunk from out c w r m (record { number = number; stopped = false; ready = ready; at = at; words = moved }) i out′ c′ w′ r′ m′
   unfolding standsAt
-  going-ends number at i out′ c′ w′ r′ m′ k e =
+  going-ends number at moved i out′ c′ w′ r′ m′ k e =
       record {
         passing =
             record {
               able = k .passing .able;
               is =
                   k .passing .is
-                  ∙ ap (λ (b : Bool). bytesTaken (record { number = s .number; held = []; stopped = b; areas = areas c w r m; lines = take (s .at) out }) (drop from chunk))
+                  ∙ ap (λ (b : Bool). bytesTaken (record { number = s .number; held = []; stopped = b; areas = areas c w r m; lines = take (s .at) out; words = s .words }) (drop from chunk))
                   (sym (h .going));
               whole = k .passing .whole;
               near = k .passing .near;
@@ -87,8 +88,8 @@ module _ (ready : Bool) (s : Stand) (chunk : List ℕ) (from end : ℕ) (out c w
             };
       }
 
-module _ (ready : Bool) (number₀ at₀ : ℕ) (chunk : List ℕ) (from end : ℕ) (out₀ c₀ w₀ r₀ m₀ : List ℕ) (number at i : ℕ) (out c w r m : List ℕ)
-    (h : Going ready number₀ at₀ chunk from end out₀ c₀ w₀ r₀ m₀ number at i out c w r m) (b : i < end) where
+module _ (ready : Bool) (number₀ at₀ moved₀ : ℕ) (chunk : List ℕ) (from end : ℕ) (out₀ c₀ w₀ r₀ m₀ : List ℕ) (number at moved i : ℕ) (out c w r m : List ℕ)
+    (h : Going ready number₀ at₀ moved₀ chunk from end out₀ c₀ w₀ r₀ m₀ number at moved i out c w r m) (b : i < end) where
   -- the next record stands in the chunk, and is a step
   next-within : i + fileRecordWidth ≤ length chunk
   next-within = omega (arith, b, h .ahead .ahead .whole, h .ahead .within)
@@ -97,19 +98,19 @@ module _ (ready : Bool) (number₀ at₀ : ℕ) (chunk : List ℕ) (from end : �
   next-numbered = omega (arith, b, h .ahead .ahead .whole, h .ahead .ahead .few)
 
   -- it is taken
-  going-more : (o : Outcome) (c′ w′ r′ m′ out′ : List ℕ) (at′ : ℕ) → Answered (stepFrom (drop i chunk)) c w r m o ready c′ w′ r′ m′
-      → LinePut out at (outcomeLine number o) out′ at′
+  going-more : (o : Outcome) (c′ w′ r′ m′ out′ : List ℕ) (at′ moved′ : ℕ) → Answered (stepFrom (drop i chunk)) c w r m o ready c′ w′ r′ m′
+      → LinePut out at (outcomeLine number o) out′ at′ → WordsAdded moved o moved′
       → length c′ ≡ length c → length w′ ≡ length w → length r′ ≡ length r → length m′ ≡ length m
-      → Going ready number₀ at₀ chunk from end out₀ c₀ w₀ r₀ m₀ (number + 1) at′ (i + fileRecordWidth) out′ c′ w′ r′ m′
-  going-more o c′ w′ r′ m′ out′ at′ a k ec ew er em =
-      let s₀ : Stand = record { number = number₀; stopped = false; ready = ready; at = at₀ } in
-      let s : Stand = record { number = number; stopped = false; ready = ready; at = at } in
-      let s′ : Stand = record { number = number + 1; stopped = false; ready = ready; at = at′ } in
+      → Going ready number₀ at₀ moved₀ chunk from end out₀ c₀ w₀ r₀ m₀ (number + 1) at′ moved′ (i + fileRecordWidth) out′ c′ w′ r′ m′
+  going-more o c′ w′ r′ m′ out′ at′ moved′ a k v ec ew er em =
+      let s₀ : Stand = record { number = number₀; stopped = false; ready = ready; at = at₀; words = moved₀ } in
+      let s : Stand = record { number = number; stopped = false; ready = ready; at = at; words = moved } in
+      let s′ : Stand = record { number = number + 1; stopped = false; ready = ready; at = at′; words = moved′ } in
       record {
         passing =
             passing-on s₀ chunk from out₀ c₀ w₀ r₀ m₀ s i out c w r m (h .passing) s′ (i + fileRecordWidth) out′ c′ w′ r′ m′
             (passing-one s chunk i out c w r m (h .passing .able) (omega (arith, next-within)) s′ out′ c′ w′ r′ m′ refl
-            (step-record s chunk i out c w r m o c′ w′ r′ m′ out′ at′ (h .opened) next-numbered a k) ec ew er em);
+            (step-record s chunk i out c w r m o c′ w′ r′ m′ out′ at′ moved′ (h .opened) next-numbered (h .passing .able .total) a k v) ec ew er em);
         ahead =
             record {
               ahead =
@@ -127,8 +128,8 @@ module _ (ready : Bool) (number₀ at₀ : ℕ) (chunk : List ℕ) (from end : �
 -- ---- on areas in order
 
 -- the steps so far are taken, and the index is kept
-pub record Running (number₀ at₀ : ℕ) (chunk : List ℕ) (from end : ℕ) (out₀ c₀ w₀ r₀ m₀ : List ℕ) (number at i : ℕ) (out c w r m x : List ℕ) : Type 0 where
-  pub going : Going true number₀ at₀ chunk from end out₀ c₀ w₀ r₀ m₀ number at i out c w r m
+pub record Running (number₀ at₀ moved₀ : ℕ) (chunk : List ℕ) (from end : ℕ) (out₀ c₀ w₀ r₀ m₀ : List ℕ) (number at moved i : ℕ) (out c w r m x : List ℕ) : Type 0 where
+  pub going : Going true number₀ at₀ moved₀ chunk from end out₀ c₀ w₀ r₀ m₀ number at moved i out c w r m
   pub kept : IndexKept c r m x
 
 module _ (s : Stand) (chunk : List ℕ) (from end : ℕ) (out c w r m : List ℕ) (h : Runnable true s chunk from end out c w r m) where
@@ -137,15 +138,15 @@ module _ (s : Stand) (chunk : List ℕ) (from end : ℕ) (out c w r m : List ℕ
   running-marks = ready-when-fine c w r m (s .ready) (h .passable .order) (ap not (h .said)) .lent .marks
 
   -- none is taken yet, and the index is new
-  pub running-begins : (x : List ℕ) → x ≡ unranked m → Running (s .number) (s .at) chunk from end out c w r m (s .number) (s .at) from out c w r m x
+  pub running-begins : (x : List ℕ) → x ≡ unranked m → Running (s .number) (s .at) (s .words) chunk from end out c w r m (s .number) (s .at) (s .words) from out c w r m x
   running-begins x e = record { going = going-begins true s chunk from end out c w r m h; kept = new-kept c r m x e }
 
-  pub running-ends : (number at i : ℕ) (out′ c′ w′ r′ m′ x : List ℕ) → Running (s .number) (s .at) chunk from end out c w r m number at i out′ c′ w′ r′ m′ x → end ≤ i
-      → StepsTaken s chunk from out c w r m (record { number = number; stopped = false; ready = true; at = at }) i out′ c′ w′ r′ m′
-  running-ends number at i out′ c′ w′ r′ m′ x k e = going-ends true s chunk from end out c w r m h number at i out′ c′ w′ r′ m′ (k .going) e
+  pub running-ends : (number at moved i : ℕ) (out′ c′ w′ r′ m′ x : List ℕ) → Running (s .number) (s .at) (s .words) chunk from end out c w r m number at moved i out′ c′ w′ r′ m′ x → end ≤ i
+      → StepsTaken s chunk from out c w r m (record { number = number; stopped = false; ready = true; at = at; words = moved }) i out′ c′ w′ r′ m′
+  running-ends number at moved i out′ c′ w′ r′ m′ x k e = going-ends true s chunk from end out c w r m h number at moved i out′ c′ w′ r′ m′ (k .going) e
 
-module _ (number₀ at₀ : ℕ) (chunk : List ℕ) (from end : ℕ) (out₀ c₀ w₀ r₀ m₀ : List ℕ) (number at i : ℕ) (out c w r m x : List ℕ)
-    (h : Running number₀ at₀ chunk from end out₀ c₀ w₀ r₀ m₀ number at i out c w r m x) where
+module _ (number₀ at₀ moved₀ : ℕ) (chunk : List ℕ) (from end : ℕ) (out₀ c₀ w₀ r₀ m₀ : List ℕ) (number at moved i : ℕ) (out c w r m x : List ℕ)
+    (h : Running number₀ at₀ moved₀ chunk from end out₀ c₀ w₀ r₀ m₀ number at moved i out c w r m x) where
   -- the lent memory keeps its sizes
   pub lines-sized : length out ≡ length out₀
   lines-sized = h .going .passing .kept .long
@@ -164,10 +165,10 @@ module _ (number₀ at₀ : ℕ) (chunk : List ℕ) (from end : ℕ) (out₀ c�
 
   module _ (b : i < end) where
     within : i + fileRecordWidth ≤ length chunk
-    within = next-within true number₀ at₀ chunk from end out₀ c₀ w₀ r₀ m₀ number at i out c w r m (h .going) b
+    within = next-within true number₀ at₀ moved₀ chunk from end out₀ c₀ w₀ r₀ m₀ number at moved i out c w r m (h .going) b
 
     numbered : number ≤ stepLimit
-    numbered = next-numbered true number₀ at₀ chunk from end out₀ c₀ w₀ r₀ m₀ number at i out c w r m (h .going) b
+    numbered = next-numbered true number₀ at₀ moved₀ chunk from end out₀ c₀ w₀ r₀ m₀ number at moved i out c w r m (h .going) b
 
     -- the next number is one of 32 bits
     pub next-fits : Fits w32 (number + 1)
@@ -188,47 +189,52 @@ module _ (number₀ at₀ : ℕ) (chunk : List ℕ) (from end : ℕ) (out₀ c�
     pub room-for-next : Room out at lineLimit
     room-for-next = record { room = omega (arith, within, h .going .passing .able .room) }
 
+    -- the words that have moved
+    pub total-there : TotalThere moved number
+    total-there = record { few = omega (arith, numbered); bounded = h .going .passing .able .total }
+
     -- the digits of its number may be counted on
     pub next-countable : (d : List ℕ) (len : ℕ) → Counted d len number → Countable d len number
     next-countable d len k = record { now-counted = k; few = omega (arith, numbered) }
 
     -- one more is taken
-    pub running-more : (o : Outcome) (c′ w′ r′ m′ x′ out′ : List ℕ) (at′ : ℕ)
+    pub running-more : (o : Outcome) (c′ w′ r′ m′ x′ out′ : List ℕ) (at′ moved′ : ℕ)
         → SteppedKept (stateIn mainframe c w r m) (stepFrom (drop i chunk)) o c′ w′ r′ m′ x′
+        → WordsAdded moved o moved′
         → LinePut out at (outcomeLine number o) out′ at′
         → length c′ ≡ length c → length w′ ≡ length w → length r′ ≡ length r → length m′ ≡ length m
-        → Running number₀ at₀ chunk from end out₀ c₀ w₀ r₀ m₀ (number + 1) at′ (i + fileRecordWidth) out′ c′ w′ r′ m′ x′
-    running-more o c′ w′ r′ m′ x′ out′ at′ d k ec ew er em =
+        → Running number₀ at₀ moved₀ chunk from end out₀ c₀ w₀ r₀ m₀ (number + 1) at′ moved′ (i + fileRecordWidth) out′ c′ w′ r′ m′ x′
+    running-more o c′ w′ r′ m′ x′ out′ at′ moved′ d v k ec ew er em =
         record {
           going =
-              going-more true number₀ at₀ chunk from end out₀ c₀ w₀ r₀ m₀ number at i out c w r m (h .going) b o c′ w′ r′ m′ out′ at′
-              (answered-in-order (stepFrom (drop i chunk)) c w r m (h .going .passing .able .order) o c′ w′ r′ m′ (d .stepped)) k ec ew er em;
+              going-more true number₀ at₀ moved₀ chunk from end out₀ c₀ w₀ r₀ m₀ number at moved i out c w r m (h .going) b o c′ w′ r′ m′ out′ at′ moved′
+              (answered-in-order (stepFrom (drop i chunk)) c w r m (h .going .passing .able .order) o c′ w′ r′ m′ (d .stepped)) k v ec ew er em;
           kept = d .kept;
         }
 
 -- ---- on areas that are not in order
 
 -- the steps so far are refused, whatever the chunk and the areas, and there is room for the lines of the others
-pub record Refusing (number₀ at₀ from end : ℕ) (out₀ : List ℕ) (number at i : ℕ) (out : List ℕ) : Type 0 where
+pub record Refusing (number₀ at₀ moved₀ from end : ℕ) (out₀ : List ℕ) (number at i : ℕ) (out : List ℕ) : Type 0 where
   pub ahead : Ahead number i end
   pub room : at + lineLimit * ((end - i) / fileRecordWidth) ≤ length out
   pub long : length out ≡ length out₀
-  pub is : (chunk c w r m : List ℕ) → Going false number₀ at₀ chunk from end out₀ c w r m number₀ at₀ from out₀ c w r m
-      → Going false number₀ at₀ chunk from end out₀ c w r m number at i out c w r m
+  pub is : (chunk c w r m : List ℕ) → Going false number₀ at₀ moved₀ chunk from end out₀ c w r m number₀ at₀ moved₀ from out₀ c w r m
+      → Going false number₀ at₀ moved₀ chunk from end out₀ c w r m number at moved₀ i out c w r m
 
 module _ (s : Stand) (from end : ℕ) (out : List ℕ) where
-  pub refusing-begins : RoomForSteps s from end out → Refusing (s .number) (s .at) from end out (s .number) (s .at) from out
+  pub refusing-begins : RoomForSteps s from end out → Refusing (s .number) (s .at) (s .words) from end out (s .number) (s .at) from out
   refusing-begins h = record { ahead = h .ahead; room = h .room; long = refl; is = λ chunk c w r m k. k }
 
-  pub refusing-ends : (number at i : ℕ) (out′ : List ℕ) → Refusing (s .number) (s .at) from end out number at i out′ → end ≤ i
-      → StepsRefused s from end out (record { number = number; stopped = false; ready = false; at = at }) i out′
+  pub refusing-ends : (number at i : ℕ) (out′ : List ℕ) → Refusing (s .number) (s .at) (s .words) from end out number at i out′ → end ≤ i
+      → StepsRefused s from end out (record { number = number; stopped = false; ready = false; at = at; words = s .words }) i out′
   refusing-ends number at i out′ k e =
       record {
         is = λ chunk c w r m h.
-            going-ends false s chunk from end out c w r m h number at i out′ c w r m (k .is chunk c w r m (going-begins false s chunk from end out c w r m h)) e;
+            going-ends false s chunk from end out c w r m h number at (s .words) i out′ c w r m (k .is chunk c w r m (going-begins false s chunk from end out c w r m h)) e;
       }
 
-module _ (number₀ at₀ from end : ℕ) (out₀ : List ℕ) (number at i : ℕ) (out : List ℕ) (h : Refusing number₀ at₀ from end out₀ number at i out) where
+module _ (number₀ at₀ moved₀ from end : ℕ) (out₀ : List ℕ) (number at i : ℕ) (out : List ℕ) (h : Refusing number₀ at₀ moved₀ from end out₀ number at i out) where
   pub refusing-sized : length out ≡ length out₀
   refusing-sized = h .long
 
@@ -244,8 +250,8 @@ module _ (number₀ at₀ from end : ℕ) (out₀ : List ℕ) (number at i : ℕ
 
     -- one more is refused
     pub refusing-more : (out′ : List ℕ) (at′ : ℕ) → LinePut out at (lineBytes number 1 0 0) out′ at′
-        → Refusing number₀ at₀ from end out₀ (number + 1) at′ (i + fileRecordWidth) out′
-    unfolding outcomeLine told outcomeRefusal outcomeValue outcomeCount
+        → Refusing number₀ at₀ moved₀ from end out₀ (number + 1) at′ (i + fileRecordWidth) out′
+    unfolding outcomeLine told outcomeRefusal outcomeValue outcomeCount outcomeWords
     refusing-more out′ at′ k =
         record {
           ahead =
@@ -258,8 +264,8 @@ module _ (number₀ at₀ from end : ℕ) (out₀ : List ℕ) (number at i : ℕ
           long = k .kept .long ∙ h .long;
           is = λ chunk c w r m g.
               let now = h .is chunk c w r m g in
-              going-more false number₀ at₀ chunk from end out₀ c w r m number at i out c w r m now b (Refused 1) c w r m out′ at′
-              (answered-out-of-order (stepFrom (drop i chunk)) c w r m (now .passing .able .order)) k refl refl refl refl;
+              going-more false number₀ at₀ moved₀ chunk from end out₀ c w r m number at moved₀ i out c w r m now b (Refused 1) c w r m out′ at′ moved₀
+              (answered-out-of-order (stepFrom (drop i chunk)) c w r m (now .passing .able .order)) k (record { is = omega arith; few = omega arith }) refl refl refl refl;
         }
 
 -- ---- which steps follow
@@ -292,4 +298,4 @@ module _ (s : Stand) (chunk : List ℕ) (from : ℕ) (out c w r m : List ℕ) (h
       pub runnable : not (s .ready) ≡ false → Runnable true s chunk from end out c w r m
       runnable y = record { passable = h .passable; ahead = a; going = z; said = not-false (s .ready) y; opened = omega (arith, n) }
 
-pub ruleset run-laws = (running-marks, running-begins, running-ends, lines-sized, clocks-sized, words-sized, records-sized, marks-sized, next-fits, next-there, room-for-next, next-countable, refusing-begins, refusing-ends, refusing-sized, refusing-fits, refusing-place, refusing-room, refusing-more, run-stopped, run-unopened, refusable, run-refused, runnable, needs)
+pub ruleset run-laws = (running-marks, running-begins, running-ends, lines-sized, clocks-sized, words-sized, records-sized, marks-sized, next-fits, next-there, room-for-next, total-there, next-countable, refusing-begins, refusing-ends, refusing-sized, refusing-fits, refusing-place, refusing-room, refusing-more, run-stopped, run-unopened, refusable, run-refused, runnable, needs)

@@ -8,7 +8,7 @@ use Rattle.file_record.specs.Records.{Feed, recordTaken}
 
 -- bytes that do not complete a record are held
 unfoldable pub heldOn : Feed → List ℕ → Feed
-heldOn f bytes = record { number = f .number; held = bytes; stopped = false; areas = f .areas; lines = f .lines }
+heldOn f bytes = record { number = f .number; held = bytes; stopped = false; areas = f .areas; lines = f .lines; words = f .words }
 
 -- one byte more; after 2 or 16 nothing changes any more
 unfoldable pub byteTaken : Feed → ℕ → Feed

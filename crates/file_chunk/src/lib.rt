@@ -61,6 +61,7 @@ fn take_first(
     if chunk.len() - from < FILE_RECORD_WIDTH {
         return Passed { stand, next: from };
     }
+    let next = from + FILE_RECORD_WIDTH;
     let opened = file_record::take_opening(
         stand,
         chunk,
@@ -73,7 +74,7 @@ fn take_first(
     );
     Passed {
         stand: opened,
-        next: from + FILE_RECORD_WIDTH,
+        next,
     }
 }
 
@@ -150,12 +151,14 @@ fn take_steps(
 {
     let mut number = stand.number;
     let mut at = stand.at;
+    let mut moved = stand.words;
     let mut i = from;
     let mut index = fetch_index::new_index(marks);
     let mut digits = [48u8; 8];
     let mut len = lines::counter(&mut digits, number);
     while i < end {
         let outcome = step_record::step_record(chunk, i, clocks, words, records, marks, &mut index);
+        moved = file_record::add_words(moved, number, outcome);
         at = file_record::put_next(lines, at, digits, len, number, outcome);
         len = lines::count_on(&mut digits, len, number);
         number = number + 1;
@@ -166,6 +169,7 @@ fn take_steps(
         stopped: false,
         ready: true,
         at,
+        words: moved,
     };
     Passed {
         stand: last,
@@ -191,6 +195,7 @@ fn refuse_steps(stand: Stand, from: usize, end: usize, lines: &mut [u8]) -> Pass
         stopped: false,
         ready: false,
         at,
+        words: stand.words,
     };
     Passed {
         stand: last,

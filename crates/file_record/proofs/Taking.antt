@@ -7,7 +7,7 @@ use mathlib.Core.List.{List, [], _++_}
 use lib.ListN.{drop, length, length-append, take}
 use lib.Seq.{drop-at, length-sets, length-take-le, sets, sets-eq, take-at}
 use lib.Dec.{eqb}
-use mir.Syntax.{w32}
+use mir.Syntax.{w32, w64}
 use mir.Val.{Fits}
 use borrow.Author.Tests.{eq-eqb, ne-eqb}
 use borrow.Author.Needs.{needs}
@@ -22,15 +22,15 @@ use Rattle.inorder.specs.Areas.{areasInOrder}
 use Rattle.inorder.specs.Areas.{OrderIs}
 use Rattle.opening.specs.Promises.{areasOpened, openRefusal}
 use Rattle.opening.proofs.Following.{opened-ready}
-use Rattle.step_act.specs.Telling.{outcomeCount, outcomeRefusal, outcomeValue, told}
+use Rattle.step_act.specs.Telling.{outcomeCount, outcomeRefusal, outcomeValue, outcomeWords, told}
 use Rattle.step_act.specs.declared.Outcome.{Outcome}
 use Rattle.step_act.specs.declared.Outcome.the-variants.{Done, Refused}
-use Rattle.lines.specs.Lines.{lineBytes}
+use Rattle.lines.specs.Lines.{lineBytes, wordsLine}
 use Rattle.lines.specs.inner.Needed.{Room}
-use Rattle.lines.proofs.Lines.{at-most-44-bytes}
+use Rattle.lines.proofs.Lines.{at-most-44-bytes, length-words-line}
 use Rattle.file_record.specs.Records.{openingTaken, refusalLine}
 use Rattle.file_record.specs.declared.Stand.{Stand}
-use Rattle.file_record.specs.inner.Needed.{RestKept, LinePut, OpenedAs, Takeable, RecordTaken, outcomeLine, standsAt}
+use Rattle.file_record.specs.inner.Needed.{RestKept, LinePut, OpenedAs, Takeable, RecordTaken, TotalThere, WordsAdded, outcomeLine, standsAt}
 
 -- ---- a line behind those before it
 
@@ -70,16 +70,44 @@ line-put out at n f v k out′ end room fn ff fv fk e s =
 
 module _ (out : List ℕ) (at number : ℕ) (out′ : List ℕ) (end : ℕ) where
   -- the line of a step that was done
-  pub done-line : (o : Outcome) (value count : ℕ) → o ≡ Done value count → LinePut out at (lineBytes number 0 value count) out′ end
+  pub done-line : (o : Outcome) (value count words : ℕ) → o ≡ Done value count words → LinePut out at (lineBytes number 0 value count) out′ end
       → LinePut out at (outcomeLine number o) out′ end
   unfolding outcomeLine told outcomeRefusal outcomeValue outcomeCount
-  done-line o value count e h = rw e h
+  done-line o value count words e h = rw e h
 
   -- of one that was refused
   pub refused-line : (o : Outcome) (refusal n : ℕ) → o ≡ Refused refusal → (n ≡ refusal) × (n ≤ 255) → LinePut out at (lineBytes number n 0 0) out′ end
       → LinePut out at (outcomeLine number o) out′ end
   unfolding outcomeLine told outcomeRefusal outcomeValue outcomeCount
   refused-line o refusal n e f h = rw (e, ← f .0) h
+
+-- the last line stored from a place on
+pub last-line-put : (out : List ℕ) (at n : ℕ) (out′ : List ℕ) (end : ℕ) → Room out at lineLimit → Fits w64 n
+    → end ≡ at + length (wordsLine n) → out′ ≡ sets out at (wordsLine n) → LinePut out at (wordsLine n) out′ end
+last-line-put out at n out′ end room fn e s =
+    let short = length-words-line n (fn .fits) in
+    let fits : at + length (wordsLine n) ≤ length out = omega (arith, short, room .room) in
+    rw (e, s) (record { kept = line-kept out at (wordsLine n) fits; near = omega (arith, short); lines = line-behind out at (wordsLine n) fits })
+
+-- ---- the words of a step
+
+-- those of one that was done
+pub words-done : (o : Outcome) (value count words : ℕ) → o ≡ Done value count words → words ≡ told o .words
+unfolding told outcomeWords
+words-done o value count words e = rw e refl
+
+-- of one that was refused
+pub words-refused : (o : Outcome) (refusal : ℕ) → o ≡ Refused refusal → 0 ≡ told o .words
+unfolding told outcomeWords
+words-refused o refusal e = rw e refl
+
+module _ (total number : ℕ) (o : Outcome) (n : ℕ) (h : TotalThere total number) (is : n ≡ told o .words) (fits : Fits w32 n) where
+  -- the sum is a number of 64 bits
+  pub total-fits : Fits w64 (total + n)
+  total-fits = omega (arith, h .few, h .bounded, fits .fits)
+
+  pub words-added : WordsAdded total o (total + n)
+  words-added = record { is = ap (λ (k : ℕ). total + k) is; few = omega (arith, is, fits .fits) }
 
 -- ---- the order of the areas
 
@@ -103,13 +131,13 @@ same-order b c w r m c′ w′ r′ m′ h e =
 -- ---- what stands after a record
 
 -- the stand, its lines and its areas by their parts
-pub stands : (number : ℕ) (stopped ready : Bool) (end : ℕ) (out : List ℕ) (a : Areas) (lines : List ℕ) (b : Areas) → take end out ≡ lines → a ≡ b
-    → standsAt (record { number = number; stopped = stopped; ready = ready; at = end }) out a
-    ≡ record { number = number; held = []; stopped = stopped; areas = b; lines = lines }
+pub stands : (number : ℕ) (stopped ready : Bool) (end moved : ℕ) (out : List ℕ) (a : Areas) (lines : List ℕ) (b : Areas) → take end out ≡ lines → a ≡ b
+    → standsAt (record { number = number; stopped = stopped; ready = ready; at = end; words = moved }) out a
+    ≡ record { number = number; held = []; stopped = stopped; areas = b; lines = lines; words = moved }
 unfolding standsAt
-stands number stopped ready end out a lines b e f =
-    ap (λ (l : List ℕ). record { number = number; held = []; stopped = stopped; areas = a; lines = l }) e
-    ∙ ap (λ (x : Areas). record { number = number; held = []; stopped = stopped; areas = x; lines = lines }) f
+stands number stopped ready end moved out a lines b e f =
+    ap (λ (l : List ℕ). record { number = number; held = []; stopped = stopped; areas = a; lines = l; words = moved }) e
+    ∙ ap (λ (x : Areas). record { number = number; held = []; stopped = stopped; areas = x; lines = lines; words = moved }) f
 
 module _ (s : Stand) (bytes : List ℕ) (from : ℕ) (out c w r m : List ℕ) where
   -- a refused opening: nothing is laid
@@ -120,32 +148,34 @@ module _ (s : Stand) (bytes : List ℕ) (from : ℕ) (out c w r m : List ℕ) wh
     opening-line = p .lines ∙ ap (λ (j : ℕ). take (s .at) out ++ lineBytes 0 j 0 0) (e .0 ∙ o .refusal)
 
     pub refused-opening-taken : (n ≡ 0 → ⊥)
-        → RecordTaken (openingTaken (standsAt s out (areas c w r m)) (take fileRecordWidth (drop from bytes))) s out (record { number = 1; stopped = true; ready = s .ready; at = end }) out′ c′ w′ r′ m′
+        → RecordTaken (openingTaken (standsAt s out (areas c w r m)) (take fileRecordWidth (drop from bytes))) s out (record { number = 1; stopped = true; ready = s .ready; at = end; words = 0 }) out′ c′ w′ r′ m′
     unfolding openingTaken standsAt areasOpened
     refused-opening-taken z =
         let no : eqb (openRefusal (take fileRecordWidth (drop from bytes)) (areas c w r m)) 0 ≡ false = ne-eqb _ 0 (λ q. z (o .refusal ∙ q)) in
         record {
           is =
-              stands 1 true (s .ready) end out′ (areas c′ w′ r′ m′) _ _ opening-line (o .laid)
-              ∙ ap (λ (b : Bool). record { number = 1; held = []; stopped = not b; areas = areasOpened (take fileRecordWidth (drop from bytes)) (areas c w r m); lines = take (s .at) out ++ refusalLine 0 (openRefusal (take fileRecordWidth (drop from bytes)) (areas c w r m)) })
+              stands 1 true (s .ready) end 0 out′ (areas c′ w′ r′ m′) _ _ opening-line (o .laid)
+              ∙ ap (λ (b : Bool). record { number = 1; held = []; stopped = not b; areas = areasOpened (take fileRecordWidth (drop from bytes)) (areas c w r m); lines = take (s .at) out ++ refusalLine 0 (openRefusal (take fileRecordWidth (drop from bytes)) (areas c w r m)); words = 0 })
               (sym no);
           few = omega arith;
+          total = omega arith;
           kept = p .kept;
           near = p .near;
           order = same-order (s .ready) c w r m c′ w′ r′ m′ (h .order) (o .laid ∙ rw no refl);
         }
 
     pub accepted-opening-taken : n ≡ 0
-        → RecordTaken (openingTaken (standsAt s out (areas c w r m)) (take fileRecordWidth (drop from bytes))) s out (record { number = 1; stopped = false; ready = true; at = end }) out′ c′ w′ r′ m′
+        → RecordTaken (openingTaken (standsAt s out (areas c w r m)) (take fileRecordWidth (drop from bytes))) s out (record { number = 1; stopped = false; ready = true; at = end; words = 0 }) out′ c′ w′ r′ m′
     unfolding openingTaken standsAt
     accepted-opening-taken z =
         let yes : eqb (openRefusal (take fileRecordWidth (drop from bytes)) (areas c w r m)) 0 ≡ true = eq-eqb _ 0 (sym (o .refusal) ∙ z) in
         record {
           is =
-              stands 1 false true end out′ (areas c′ w′ r′ m′) _ _ opening-line (o .laid)
-              ∙ ap (λ (b : Bool). record { number = 1; held = []; stopped = not b; areas = areasOpened (take fileRecordWidth (drop from bytes)) (areas c w r m); lines = take (s .at) out ++ refusalLine 0 (openRefusal (take fileRecordWidth (drop from bytes)) (areas c w r m)) })
+              stands 1 false true end 0 out′ (areas c′ w′ r′ m′) _ _ opening-line (o .laid)
+              ∙ ap (λ (b : Bool). record { number = 1; held = []; stopped = not b; areas = areasOpened (take fileRecordWidth (drop from bytes)) (areas c w r m); lines = take (s .at) out ++ refusalLine 0 (openRefusal (take fileRecordWidth (drop from bytes)) (areas c w r m)); words = 0 })
               (sym yes);
           few = omega arith;
+          total = omega arith;
           kept = p .kept;
           near = p .near;
           order = ready-order c′ w′ r′ m′ (opened-ready (take fileRecordWidth (drop from bytes)) c w r m c′ w′ r′ m′ (sym (o .refusal) ∙ z) (o .laid));
@@ -167,4 +197,4 @@ opened-as bytes from c w r m n c′ w′ r′ m′ e f =
       laid = f ∙ ap (λ (j : ℕ). areasOpened (take j (drop from bytes)) (areas c w r m)) k;
     }
 
-pub ruleset taking-laws = (line-put, done-line, refused-line, refused-opening-taken, accepted-opening-taken, room-for-line, opened-as, needs)
+pub ruleset taking-laws = (line-put, done-line, refused-line, last-line-put, words-done, words-refused, total-fits, words-added, refused-opening-taken, accepted-opening-taken, room-for-line, opened-as, needs)

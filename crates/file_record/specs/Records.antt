@@ -1,5 +1,5 @@
 -- One record of a step file: what stands before it and after it, and its line. Assumes nothing.
-use Prim.Native.Nat.{ℕ, suc}
+use Prim.Native.Nat.{ℕ, suc, _+_}
 use mathlib.Core.Bool.{Bool, true, false, cond, not}
 use mathlib.Core.List.{List, [], _++_}
 use lib.Dec.{leb, eqb}
@@ -26,6 +26,8 @@ pub record Feed : Type 0 where
   pub areas : Areas
   -- the lines so far
   pub lines : List ℕ
+  -- L6: the words moved so far
+  pub words : ℕ
 
 -- the first record: the opening; a refused one ends the run
 unfoldable pub openingTaken : Feed → List ℕ → Feed
@@ -36,6 +38,7 @@ openingTaken f bytes =
       stopped = not (eqb (openRefusal bytes (f .areas)) 0);
       areas = areasOpened bytes (f .areas);
       lines = f .lines ++ refusalLine 0 (openRefusal bytes (f .areas));
+      words = 0;
     }
 
 -- a step's record
@@ -48,11 +51,12 @@ stepTaken f bytes =
       stopped = false;
       areas = areasAfter (f .areas) (stepFrom bytes);
       lines = f .lines ++ lineBytes (f .number) (a .refusal) (a .value) (a .count);
+      words = f .words + a .words;
     }
 
 -- 16: "a whole record follows the 1,000,000th step record"
 unfoldable pub tooManyTaken : Feed → Feed
-tooManyTaken f = record { number = f .number; held = []; stopped = true; areas = f .areas; lines = f .lines ++ refusalLine (f .number) 16 }
+tooManyTaken f = record { number = f .number; held = []; stopped = true; areas = f .areas; lines = f .lines ++ refusalLine (f .number) 16; words = f .words }
 
 -- a whole record
 unfoldable pub recordTaken : Feed → List ℕ → Feed

@@ -5,21 +5,23 @@ ghost use lib.ListN.{length, take, drop};
 ghost use Rattle.limits.specs.Files.{fileRecordWidth, lineLimit};
 ghost use Rattle.limits.specs.inner.Sizes.{fileRecordLimit};
 ghost use Rattle.layout.specs.Areas.{areas};
-ghost use Rattle.lines.specs.Lines.{lineBytes};
+ghost use Rattle.step_act.specs.Telling.{told};
+ghost use Rattle.lines.specs.Lines.{lineBytes, wordsLine};
 ghost use Rattle.lines.specs.inner.Needed.{Room, Counted};
 ghost use Rattle.file_record.specs.Records.{openingTaken};
-ghost use Rattle.file_record.specs.inner.Needed.{LinePut, outcomeLine, standsAt, Takeable, StoppedAt, RecordTaken, OpenedAs, AllAhead};
+ghost use Rattle.file_record.specs.inner.Needed.{LinePut, outcomeLine, standsAt, Takeable, StoppedAt, RecordTaken, TotalThere, WordsAdded, OpenedAs, AllAhead};
 use limits::FILE_RECORD_LIMIT;
 use limits::FILE_RECORD_WIDTH;
 use step_act::Outcome;
 
-// What stands between two records: the number of the next, whether the run has stopped, whether the areas are in order, and how many
-// bytes of lines are written.
+// What stands between two records: the number of the next, whether the run has stopped, whether the areas are in order, how many
+// bytes of lines are written, and how many words have moved.
 pub struct Stand {
     pub number: u32,
     pub stopped: bool,
     pub ready: bool,
     pub at: usize,
+    pub words: u64,
 }
 
 // The opening; a refused one ends the run.
@@ -45,6 +47,7 @@ pub fn take_opening(
             stopped: true,
             ready: stand.ready,
             at,
+            words: 0,
         };
     }
     Stand {
@@ -52,6 +55,7 @@ pub fn take_opening(
         stopped: false,
         ready: true,
         at,
+        words: 0,
     }
 }
 
@@ -66,6 +70,7 @@ pub fn too_many(stand: Stand, lines: &mut [u8]) -> Stand
         stopped: true,
         ready: stand.ready,
         at,
+        words: stand.words,
     }
 }
 
@@ -83,18 +88,44 @@ pub fn put_next(
     ensures { λ r. ⌜ LinePut (now (out .entry)) at (outcomeLine number outcome) (now (out .exit)) r ⌝ }
 {
     match outcome {
-        Outcome::Done { value, count } => put_counted(
-            out,
-            at,
-            digits,
-            len,
-            number,
-            0,
+        Outcome::Done {
             value,
             count,
-        ),
+            words: _,
+        } => put_counted(out, at, digits, len, number, 0, value, count),
         Outcome::Refused(refusal) => put_counted(out, at, digits, len, number, wide(refusal), 0, 0),
     }
+}
+
+// The words that have moved with those of a step's outcome, before which so many had, and the step has this number, which is named for the contract
+// alone: 64 bits are enough for the steps of a file.
+pub fn add_words(total: u64, number: u32, outcome: Outcome) -> u64
+    requires { ⌜ TotalThere total number ⌝ }
+    ensures { λ r. ⌜ WordsAdded total outcome r ⌝ }
+{
+    total + words_of(outcome) as u64
+}
+
+// How many words a step's outcome says: none where it was refused.
+fn words_of(outcome: Outcome) -> u32
+    ensures { λ r. ⌜ r ≡ told outcome .words ⌝ }
+{
+    match outcome {
+        Outcome::Done {
+            value: _,
+            count: _,
+            words,
+        } => words,
+        Outcome::Refused(_) => 0,
+    }
+}
+
+// Writes the last line of a run, how many words have moved, from a place on, and says the place behind it.
+pub fn put_last_line(out: &mut [u8], at: usize, words: u64) -> usize
+    requires { ⌜ Room (now out) at lineLimit ⌝ }
+    ensures { λ r. ⌜ LinePut (now (out .entry)) at (wordsLine words) (now (out .exit)) r ⌝ }
+{
+    lines::put_words_line(out, at, words)
 }
 
 // Writes a line from a place on, and says the place behind it. `LinePut` says so in one record, by which lines are put behind one another.

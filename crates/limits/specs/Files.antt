@@ -9,6 +9,10 @@ fileRecordWidth = 8
 abbrev pub stepLimit : ℕ
 stepLimit = 1000000
 
+-- an answer as words: refusal, value, count, and L6's words moved
+abbrev pub answerWidth : ℕ
+answerWidth = 4
+
 -- the bytes of the longest line: four numbers of ten digits, each with a byte behind it
 abbrev pub lineLimit : ℕ
 lineLimit = 44

@@ -14,6 +14,10 @@ pageLimit = 8
 abbrev pub pageWidth : ℕ
 pageWidth = 32
 
+-- a word has 32 bits: how many values it can have
+abbrev pub wordValues : ℕ
+wordValues = 4294967296
+
 -- "locks 1 to 16"
 abbrev pub lockLimit : ℕ
 lockLimit = 16

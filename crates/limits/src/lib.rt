@@ -8,6 +8,9 @@ pub const PAGE_LIMIT: usize = 8;
 // The words of a page.
 pub const PAGE_WIDTH: usize = 32;
 
+// The values that a word can have.
+pub const WORD_VALUES: u64 = 4294967296;
+
 pub const LOCK_LIMIT: usize = 16;
 
 pub const RECORD_LIMIT: usize = 128;
@@ -133,5 +136,7 @@ pub const FILE_RECORD_WIDTH: usize = 8;
 pub const STEP_LIMIT: u32 = 1000000;
 
 pub const FILE_RECORD_LIMIT: u32 = STEP_LIMIT + 1;
+// An answer as words: refusal, value, count, words.
+pub const ANSWER_WIDTH: usize = 4;
 // The bytes of the longest line: four numbers of ten digits, each with a byte behind it.
 pub const LINE_LIMIT: usize = 44;

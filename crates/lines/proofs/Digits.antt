@@ -1,5 +1,5 @@
 -- The digits of a number are right: read back they say the number, the first is no zero unless the number is 0, each is a digit, and a
--- number of 32 bits has at most 10 of them. Assumes nothing.
+-- number of 32 bits has at most 10 of them, one of 64 bits at most 20. Assumes nothing.
 use Prim.Native.Nat.{ℕ, zero, suc, _+_, _-_, _*_, _/_, _%_, _^_, _≤_, _<_}
 use native.Mathlib.Numerals.{add-one}
 use native.Mathlib.Omega.{arith}
@@ -129,6 +129,10 @@ digits-at-most (suc k) n h = go (ltb n 10) refl (λ (r : n / 10 < 10 ^ suc k). d
 -- a number of 32 bits has at most 10 digits
 pub at-most-ten-digits : (n : ℕ) → n < 2 ^ 32 → length (digits n) ≤ 10
 at-most-ten-digits n h = digits-at-most 9 n (omega arith)
+
+-- a number of 64 bits has at most 20 digits
+pub at-most-twenty-digits : (n : ℕ) → n < 18446744073709551616 → length (digits n) ≤ 20
+at-most-twenty-digits n h = digits-at-most 19 n (omega arith)
 
 -- ---- which bytes
 

@@ -3,3 +3,4 @@ pub mod Lines
 pub mod Writing
 pub mod Counting
 pub mod CountedLines
+pub mod Totals

@@ -6,9 +6,9 @@ use mathlib.Core.List.{[], _∷_, _++_, append-assoc}
 use lib.ListN.{length, length-append}
 use Rattle.limits.specs.Files.{lineLimit}
 use Rattle.lines.specs.Decimal.{digitsWithin, digits}
-use Rattle.lines.specs.Lines.{lineBytes}
+use Rattle.lines.specs.Lines.{lineBytes, wordsLine}
 use Rattle.lines.specs.inner.Needed.{fieldBytes, halfBytes}
-use Rattle.lines.proofs.Digits.{at-most-ten-digits}
+use Rattle.lines.proofs.Digits.{at-most-ten-digits, at-most-twenty-digits}
 
 -- a line is its two halves, one behind the other
 pub line-is-halves : (number refusal value count : ℕ) → lineBytes number refusal value count ≡ halfBytes number refusal 32 ++ halfBytes value count 10
@@ -20,6 +20,11 @@ pub length-line : (number refusal value count : ℕ)
     → length (lineBytes number refusal value count) ≡ length (digits number) + length (digits refusal) + length (digits value) + length (digits count) + 4
 unfolding lineBytes
 length-line number refusal value count = simp length-append (omega arith)
+
+-- a total of 64 bits fits the longest line
+pub length-words-line : (n : ℕ) → n < 18446744073709551616 → length (wordsLine n) ≤ lineLimit
+unfolding wordsLine
+length-words-line n h = omega (arith, length-append (digits n) (10 ∷ []), at-most-twenty-digits n h)
 
 -- a line of numbers of 32 bits has at most 44 bytes
 pub at-most-44-bytes : (number refusal value count : ℕ) → number < 2 ^ 32 → refusal < 2 ^ 32 → value < 2 ^ 32 → count < 2 ^ 32

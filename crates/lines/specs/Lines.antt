@@ -15,6 +15,10 @@ use Rattle.lines.specs.declared.Placed.the-variants.{End, NoRoom}
 unfoldable pub lineBytes : ℕ → ℕ → ℕ → ℕ → List ℕ
 lineBytes number refusal value count = digits number ++ 32 ∷ digits refusal ++ 32 ∷ digits value ++ 32 ∷ digits count ++ 10 ∷ []
 
+-- L6: "one extra line, "words", a space and the total", and the line end
+unfoldable pub wordsLine : ℕ → List ℕ
+wordsLine total = 119 ∷ 111 ∷ 114 ∷ 100 ∷ 115 ∷ 32 ∷ digits total ++ 10 ∷ []
+
 -- whether the longest line, of 44 bytes, fits from a place on into memory of so many bytes
 unfoldable pub lineFits : ℕ → ℕ → Bool
 lineFits bytes at = leb (at + lineLimit) bytes

@@ -1,11 +1,11 @@
-// The lines of the run program: four numbers in base ten, each with a space or the line end behind it.
+// The lines of the run program: four numbers in base ten, each with a space or the line end behind it, and the last line, the words moved.
 ghost use mathlib.Core.Path.{_≡_};
 ghost use Prim.Native.Nat.{_+_, _≤_, _<_};
 ghost use lib.ListN.{length};
 ghost use lib.Seq.{sets};
 ghost use Rattle.limits.specs.Files.{lineLimit};
 ghost use Rattle.lines.specs.Decimal.{digits};
-ghost use Rattle.lines.specs.Lines.{lineBytes, lineFits, lineAnswer, placeSaid, lineLeft};
+ghost use Rattle.lines.specs.Lines.{lineBytes, wordsLine, lineFits, lineAnswer, placeSaid, lineLeft};
 ghost use Rattle.lines.specs.inner.Needed.{Room, DigitsFit, PairFits, Put, digitPair, fieldBytes, halfBytes, Eight, Counted, Countable, EightFit, ShortFits, behindNumber};
 use limits::LINE_LIMIT;
 
@@ -160,6 +160,66 @@ pub fn put_number(out: &mut [u8], at: usize, n: u32) -> usize
     put_digits(out, at, len, n);
     at + len
 }
+
+// ---- the last line: how many words moved
+
+// Writes the line of the words that a run moved from a place on, and says the place behind it. It is written once a run, digit by digit.
+pub fn put_words_line(out: &mut [u8], at: usize, total: u64) -> usize
+    requires { ⌜ Room (now out) at lineLimit ⌝ }
+    ensures { λ r. ⌜ r ≡ at + length (wordsLine total) ⌝ }
+    ensures { λ r. ⌜ now (out .exit) ≡ sets (now (out .entry)) at (wordsLine total) ⌝ }
+{
+    out[at] = 119;
+    out[at + 1] = 111;
+    out[at + 2] = 114;
+    out[at + 3] = 100;
+    out[at + 4] = 115;
+    out[at + 5] = 32;
+    put_total(out, at + 6, total)
+}
+
+// Writes a total with a line end behind, and says the place behind both.
+fn put_total(out: &mut [u8], at: usize, total: u64) -> usize
+    requires { ⌜ Room (now out) at 21 ⌝ }
+    ensures { λ r. ⌜ r ≡ at + length (fieldBytes total 10) ⌝ }
+    ensures { λ r. ⌜ now (out .exit) ≡ sets (now (out .entry)) at (fieldBytes total 10) ⌝ }
+{
+    let len = total_width(total);
+    put_total_digits(out, at, len, total);
+    out[at + len] = 10;
+    at + len + 1
+}
+
+// How many digits a total has.
+fn total_width(total: u64) -> usize
+    ensures { λ r. ⌜ r ≡ length (digits total) ⌝ }
+    ensures { λ r. ⌜ r ≤ 20 ⌝ }
+{
+    let mut len: usize = 1;
+    let mut rest = total;
+    while 10 <= rest {
+        len = len + 1;
+        rest = rest / 10;
+    }
+    len
+}
+
+// Writes the digits of a total, of which there are len, from the last to the first.
+fn put_total_digits(out: &mut [u8], at: usize, len: usize, total: u64)
+    requires { ⌜ DigitsFit (now out) at len total ⌝ }
+    ensures { λ _. ⌜ now (out .exit) ≡ sets (now (out .entry)) at (digits total) ⌝ }
+{
+    let mut i = at + len;
+    let mut rest = total;
+    while 10 <= rest {
+        i = i - 1;
+        out[i] = (48 + rest % 10) as u8;
+        rest = rest / 10;
+    }
+    out[at] = (48 + rest) as u8;
+}
+
+// ---- the digits of a number that is counted on
 
 // Writes the digits of a number into eight bytes, from the first on, and says how many they are.
 pub fn counter(bytes: &mut [u8], number: u32) -> usize

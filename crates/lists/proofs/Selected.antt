@@ -1,6 +1,6 @@
 -- Laws of lists: what holds of every element, the elements that pass a test, and sorted elements: how many there are and which comes first.
 -- Rests on the definitions alone. Assumes nothing.
-use Prim.Native.Nat.{ℕ, zero, suc, _<_}
+use Prim.Native.Nat.{ℕ, zero, suc, _≤_, _<_}
 use native.Mathlib.Omega.{arith}
 use mathlib.Core.Path.{_≡_, refl, ap, _∙_}
 use mathlib.Core.Bool.{Bool, true, false, cond}
@@ -47,6 +47,16 @@ module _ {A : Type 0} where
       go : (b : Bool) → t x ≡ b → Each Q (select t l) → Each Q (cond b (x ∷ select t l) (select t l))
       go true h k = (f x h (e .0), k)
       go false h k = k
+
+  -- no more are selected than there are
+  pub select-few : (t : A → Bool) (l : List A) → length (select t l) ≤ length l
+  unfolding select
+  select-few t [] = omega arith
+  select-few t (x ∷ l) = go (t x) (select-few t l)
+    where
+      go : (b : Bool) → length (select t l) ≤ length l → length (cond b (x ∷ select t l) (select t l)) ≤ suc (length l)
+      go true h = omega (arith, h)
+      go false h = omega (arith, h)
 
   -- a sorted list has the elements of the list
   pub each-insert : (P : A → Type 0) (sooner : A → A → Bool) (x : A) (l : List A) → P x → Each P l → Each P (insertBy sooner x l)

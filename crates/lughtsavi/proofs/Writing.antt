@@ -9,7 +9,7 @@ use lib.ListN.{length}
 use lib.Dec.{eqb, ltb}
 use borrow.Author.Tests.{eqb-true, eqb-false, eq-eqb, ne-eqb}
 use borrow.Author.Needs.{needs}
-use Rattle.limits.specs.Limits.{pageWidth}
+use Rattle.limits.specs.Limits.{pageWidth, wordValues}
 use Rattle.limits.specs.inner.Sizes.{diffLimit}
 use Rattle.diff.specs.Format.{written}
 use Rattle.diff.proofs.Theorems.{at-most-131-bytes}
@@ -56,10 +56,10 @@ module _ (old new out : List ℕ) where
   refused-from-256 z = let e = ne-eqb (writeRefusal pageWidth old new out) 0 z in rw e (rw e)
 
   -- either has 32 bits
-  answer-small : writeReturn (writeAnswer pageWidth old new out) < 4294967296
+  answer-small : writeReturn (writeAnswer pageWidth old new out) < wordValues
   answer-small = go (eqb (writeRefusal pageWidth old new out) 0) refl
     where
-      go : (b : Bool) → eqb (writeRefusal pageWidth old new out) 0 ≡ b → writeReturn (writeAnswer pageWidth old new out) < 4294967296
+      go : (b : Bool) → eqb (writeRefusal pageWidth old new out) 0 ≡ b → writeReturn (writeAnswer pageWidth old new out) < wordValues
       go true e = omega (arith, written-at-most-131 (eqb-true _ _ e))
       go false e = omega (arith, refused-from-256 (eqb-false _ _ e), refusal-at-most-14)
 
@@ -74,12 +74,12 @@ number-returned (Refused n) a h = sym (rw (← h .accepted) (ap (λ (b : WriteAn
 
 module _ (x : Written) where
   -- what is written has a number of 32 bits
-  pub written-small : (old new out : List ℕ) → Says x (writeAnswer pageWidth old new out) → writtenNumber x < 4294967296
+  pub written-small : (old new out : List ℕ) → Says x (writeAnswer pageWidth old new out) → writtenNumber x < wordValues
   written-small old new out h = rw (number-returned x (writeAnswer pageWidth old new out) h) (answer-small old new out)
 
   module _ (n : ℕ) where
     -- a length
-    pub length-small : writtenNumber x < 4294967296 → x ≡ Length n → n < 4294967296
+    pub length-small : writtenNumber x < wordValues → x ≡ Length n → n < wordValues
     unfolding writtenNumber
     length-small h e = rw e at h
 

@@ -5,18 +5,20 @@ ghost use mathlib.Core.Path.{_≡_};
 ghost use mathlib.Core.List.{_∷_, []};
 ghost use Prim.Native.Nat.{_<_};
 ghost use lib.ListN.{length};
+ghost use Rattle.limits.specs.Files.{answerWidth};
 ghost use Rattle.limits.specs.Limits.{pageWidth};
 ghost use Rattle.diff.specs.Reading.{readRefusal};
-ghost use Rattle.diff.specs.Answers.{applyRefusal, pageAfter};
+ghost use Rattle.diff.specs.Answers.{pageAfter};
 ghost use Rattle.diff_writer.specs.Answers.{writeAnswer, outAfter};
 ghost use Rattle.rules.specs.Refusals.{stepOf};
 ghost use Rattle.layout.specs.Areas.{areas};
 ghost use Rattle.inorder.specs.Areas.{areasInOrder};
 ghost use Rattle.opening.specs.Promises.{openRefusal, areasOpened};
 ghost use Rattle.run_list.specs.Runs.{Ran};
-ghost use Rattle.lughtsavi.specs.Numbers.{stepReturn, slices, slicesAfter, writeReturn};
+ghost use Rattle.lughtsavi.specs.Numbers.{stepReturn, slices, slicesAfter, writeReturn, applyReturn};
 ghost use Rattle.lughtsavi.specs.inner.Needed.{ToldAs, writtenNumber};
 use diff_writer::Written;
+use limits::ANSWER_WIDTH;
 use step_act::Outcome;
 
 // Opens a mainframe: 1 for areas of a wrong size, 2 for an opening that is not eight bytes or does not fit, else 0, and the areas
@@ -48,7 +50,7 @@ pub extern "C" fn lughtsavi_in_order(
     inorder::in_order(clocks, words, records, marks)
 }
 
-// A step: the refusal, or 0, and in the three words of `answer` refusal, value and count. An answer that has not three words gets 1,
+// A step: the refusal, or 0, and in the four words of `answer` refusal, value, count and words. An answer that has not four words gets 1,
 // and every slice is left as it was.
 #[no_mangle]
 pub extern "C" fn lughtsavi_step(
@@ -65,7 +67,7 @@ pub extern "C" fn lughtsavi_step(
     ensures answer { λ r. ⌜ r ≡ stepReturn (now (answer .entry)) (areas (now (clocks .entry)) (now (words .entry)) (now (records .entry)) (now (marks .entry))) (stepOf kind processor object value) ⌝ }
     ensures memory { λ r. ⌜ slices (now (answer .exit)) (areas (now (clocks .exit)) (now (words .exit)) (now (records .exit)) (now (marks .exit))) ≡ slicesAfter (now (answer .entry)) (areas (now (clocks .entry)) (now (words .entry)) (now (records .entry)) (now (marks .entry))) (stepOf kind processor object value) ⌝ }
 {
-    if answer.len() != 3 {
+    if answer.len() != ANSWER_WIDTH {
         return 1;
     }
     let outcome = engine::step(
@@ -81,35 +83,40 @@ pub extern "C" fn lughtsavi_step(
     tell(outcome, answer)
 }
 
-// An outcome's refusal, or 0, and its three numbers in the answer.
+// An outcome's refusal, or 0, and its four numbers in the answer.
 fn tell(outcome: Outcome, answer: &mut [u32]) -> u8
-    requires { ⌜ length (now answer) ≡ 3 ⌝ }
+    requires { ⌜ length (now answer) ≡ answerWidth ⌝ }
     ensures { λ r. ⌜ ToldAs outcome r (now (answer .exit)) ⌝ }
 {
     match outcome {
-        Outcome::Done { value, count } => {
-            lay(answer, 0, value, count);
+        Outcome::Done {
+            value,
+            count,
+            words,
+        } => {
+            lay(answer, 0, value, count, words);
             0
         }
         Outcome::Refused(refusal) => {
-            lay(answer, wide(refusal), 0, 0);
+            lay(answer, wide(refusal), 0, 0, 0);
             refusal
         }
     }
 }
 
-// Three numbers laid into the answer.
-fn lay(answer: &mut [u32], refusal: u32, value: u32, count: u32)
-    requires { ⌜ length (now answer) ≡ 3 ⌝ }
-    ensures { λ _. ⌜ now (answer .exit) ≡ refusal ∷ value ∷ count ∷ [] ⌝ }
+// Four numbers laid into the answer.
+fn lay(answer: &mut [u32], refusal: u32, value: u32, count: u32, words: u32)
+    requires { ⌜ length (now answer) ≡ answerWidth ⌝ }
+    ensures { λ _. ⌜ now (answer .exit) ≡ refusal ∷ value ∷ count ∷ words ∷ [] ⌝ }
 {
     answer[0] = refusal;
     answer[1] = value;
     answer[2] = count;
+    answer[3] = words;
 }
 
-// Runs an opening and the step records behind it, eight bytes each, and writes three words for each record into `answers`: refusal, value,
-// count. Says how many records were run: as many whole ones as there are and as the answers have room for, the opening alone where that is
+// Runs an opening and the step records behind it, eight bytes each, and writes four words for each record into `answers`: refusal, value,
+// count, words. Says how many records were run: as many whole ones as there are and as the answers have room for, the opening alone where that is
 // refused. Happens-before-1 judges every read that it answers.
 #[no_mangle]
 pub extern "C" fn lughtsavi_run(
@@ -154,14 +161,17 @@ pub extern "C" fn lughtsavi_diff_check(bytes: &[u8]) -> u8
     diff::check(bytes)
 }
 
-// Carries a diff out on a page: the refusal, or 0.
+// Carries a diff out on a page: how many words it set, or 256 + the refusal.
 #[no_mangle]
-pub extern "C" fn lughtsavi_diff_apply(bytes: &[u8], page: &mut [u32]) -> u8
-    ensures answer { λ r. ⌜ r ≡ applyRefusal pageWidth (now (bytes .entry)) (now (page .entry)) ⌝ }
+pub extern "C" fn lughtsavi_diff_apply(bytes: &[u8], page: &mut [u32]) -> u32
+    ensures answer { λ r. ⌜ r ≡ applyReturn pageWidth (now (bytes .entry)) (now (page .entry)) ⌝ }
     ensures memory { λ r. ⌜ now (page .exit) ≡ pageAfter pageWidth (now (bytes .entry)) (now (page .entry)) ⌝ }
 {
     let applied = diff::apply(bytes, page);
-    applied.refusal
+    if applied.refusal != 0 {
+        return 256 + wide(applied.refusal);
+    }
+    applied.words
 }
 
 fn wide(x: u8) -> u32

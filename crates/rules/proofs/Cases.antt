@@ -6,7 +6,7 @@ use mathlib.Core.Path.{_≡_, refl, sym, ap, _∙_}
 use mathlib.Core.Bool.{Bool, true, false, cond}
 use mathlib.Core.List.{List, [], _∷_, _++_}
 use lib.ListN.{length}
-use Rattle.limits.specs.Limits.{processorLimit}
+use Rattle.limits.specs.Limits.{processorLimit, wordValues}
 use Rattle.clock.specs.Clocks.{zeros}
 use Rattle.diff.specs.Format.{written}
 use Rattle.diff.specs.Reading.{readRefusal}
@@ -47,7 +47,7 @@ pub record CaseF : Type 0 where
   pub in-any-state : (s : State) (p w v l : ℕ) → ((g : ℕ) → dirtyAt (s .pages) p g ≡ false) → refusal mainframe s (writes p w v) ≡ 0
       → refusal mainframe (next mainframe s (writes p w v)) (releases p l) ≡ 0
       → OneInterval s (stateAfter mainframe s (writes p w v ∷ releases p l ∷ [])) p (pageOfWord mainframe w) (written (pageFetched mainframe s p w) (pageStored mainframe s p w v))
-  pub same-value : (s : State) (p w v : ℕ) → wordOf mainframe (fetched mainframe s p (pageOfWord mainframe w)) p w ≡ v % 4294967296
+  pub same-value : (s : State) (p w v : ℕ) → wordOf mainframe (fetched mainframe s p (pageOfWord mainframe w)) p w ≡ v % wordValues
       → written (pageFetched mainframe s p w) (pageStored mainframe s p w v) ≡ 0 ∷ []
   pub nothing-dirty : (s : State) (p l : ℕ) → ((g : ℕ) → dirtyAt (s .pages) p g ≡ false) → NoInterval s (next mainframe s (releases p l))
 

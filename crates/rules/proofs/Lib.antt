@@ -8,6 +8,8 @@ pub mod StoresNoted
 pub mod TallyReads
 pub mod TallyCases
 pub mod SkippingCases
+pub mod WordsMoved
+pub mod FewWords
 pub mod Fetching
 pub mod DemandThree
 pub mod Cases

@@ -5,7 +5,7 @@ use Rattle.rules.specs.State.{mainframe}
 use Rattle.rules.specs.InOrder.{inRange, countsInRange}
 use Rattle.rules.specs.Refusals.{Step}
 use Rattle.rules.specs.Runs.{answers, answersInOrder}
-use Rattle.rules.proofs.runs.Listing.{reads, writes, acquires, releases, arrives, wants, start, answering}
+use Rattle.rules.proofs.runs.Listing.{reads, writes, acquires, releases, arrives, wants, start, moving, answering}
 use Rattle.rules.proofs.runs.FromStart.{answers-from-start}
 use Rattle.rules.proofs.runs.StoredCases.{accepted}
 
@@ -45,17 +45,17 @@ inCollection =
 
 pub record SkippingCases : Type 0 where
   pub partly : answers mainframe (start 3 1 1) partly
-      ≡ accepted ∷ accepted ∷ accepted ∷ accepted ∷ accepted ∷ answering 0 0 1 ∷ accepted ∷ accepted ∷ answering 0 11 2 ∷ answering 0 22 0 ∷ []
+      ≡ accepted ∷ accepted ∷ accepted ∷ accepted ∷ accepted ∷ moving 0 0 1 2 ∷ accepted ∷ accepted ∷ moving 0 11 2 3 ∷ answering 0 22 0 ∷ []
   pub together : answers mainframe (start 4 1 1) together
-      ≡ accepted ∷ accepted ∷ accepted ∷ accepted ∷ accepted ∷ answering 0 0 1 ∷ accepted ∷ accepted ∷ answering 0 0 2 ∷ accepted ∷ accepted
+      ≡ accepted ∷ accepted ∷ accepted ∷ accepted ∷ accepted ∷ moving 0 0 1 2 ∷ accepted ∷ accepted ∷ moving 0 0 2 3 ∷ accepted ∷ accepted
       ∷ answering 0 21 2 ∷ answering 0 32 0 ∷ []
   pub chain : answers mainframe (start 5 1 1) chain
-      ≡ accepted ∷ accepted ∷ accepted ∷ accepted ∷ answering 0 0 1 ∷ accepted ∷ accepted ∷ accepted ∷ answering 0 0 1 ∷ accepted ∷ accepted
-      ∷ answering 0 0 2 ∷ accepted ∷ accepted ∷ answering 0 4 2 ∷ answering 0 3 0 ∷ []
+      ≡ accepted ∷ accepted ∷ accepted ∷ accepted ∷ answering 0 0 1 ∷ accepted ∷ accepted ∷ accepted ∷ moving 0 0 1 2 ∷ accepted ∷ accepted
+      ∷ moving 0 0 2 3 ∷ accepted ∷ accepted ∷ answering 0 4 2 ∷ answering 0 3 0 ∷ []
   pub without-words : answers mainframe (start 2 1 1) withoutWords
       ≡ accepted ∷ accepted ∷ accepted ∷ accepted ∷ accepted ∷ accepted ∷ []
   pub in-race : answers mainframe (start 3 1 1) inRace
-      ≡ accepted ∷ accepted ∷ accepted ∷ accepted ∷ accepted ∷ accepted ∷ answering 0 6 1 ∷ answering 0 6 1 ∷ answering 0 5 1 ∷ []
+      ≡ accepted ∷ accepted ∷ accepted ∷ accepted ∷ accepted ∷ accepted ∷ moving 0 6 1 2 ∷ moving 0 6 1 2 ∷ answering 0 5 1 ∷ []
   pub in-collection : answers mainframe (start 3 2 1) inCollection
       ≡ accepted ∷ accepted ∷ accepted ∷ accepted ∷ accepted ∷ answering 0 0 1 ∷ accepted ∷ accepted ∷ accepted ∷ accepted ∷ answering 0 0 4
       ∷ answering 0 7 0 ∷ answering 0 6 0 ∷ []
@@ -63,19 +63,19 @@ pub record SkippingCases : Type 0 where
 -- ---- the runs, computed
 
 computed-partly : answersInOrder mainframe (start 3 1 1) partly
-    ≡ accepted ∷ accepted ∷ accepted ∷ accepted ∷ accepted ∷ answering 0 0 1 ∷ accepted ∷ accepted ∷ answering 0 11 2 ∷ answering 0 22 0 ∷ []
+    ≡ accepted ∷ accepted ∷ accepted ∷ accepted ∷ accepted ∷ moving 0 0 1 2 ∷ accepted ∷ accepted ∷ moving 0 11 2 3 ∷ answering 0 22 0 ∷ []
 unfolding start partly
 computed-partly = refl
 
 computed-together : answersInOrder mainframe (start 4 1 1) together
-    ≡ accepted ∷ accepted ∷ accepted ∷ accepted ∷ accepted ∷ answering 0 0 1 ∷ accepted ∷ accepted ∷ answering 0 0 2 ∷ accepted ∷ accepted
+    ≡ accepted ∷ accepted ∷ accepted ∷ accepted ∷ accepted ∷ moving 0 0 1 2 ∷ accepted ∷ accepted ∷ moving 0 0 2 3 ∷ accepted ∷ accepted
     ∷ answering 0 21 2 ∷ answering 0 32 0 ∷ []
 unfolding start together
 computed-together = refl
 
 computed-chain : answersInOrder mainframe (start 5 1 1) chain
-    ≡ accepted ∷ accepted ∷ accepted ∷ accepted ∷ answering 0 0 1 ∷ accepted ∷ accepted ∷ accepted ∷ answering 0 0 1 ∷ accepted ∷ accepted
-    ∷ answering 0 0 2 ∷ accepted ∷ accepted ∷ answering 0 4 2 ∷ answering 0 3 0 ∷ []
+    ≡ accepted ∷ accepted ∷ accepted ∷ accepted ∷ answering 0 0 1 ∷ accepted ∷ accepted ∷ accepted ∷ moving 0 0 1 2 ∷ accepted ∷ accepted
+    ∷ moving 0 0 2 3 ∷ accepted ∷ accepted ∷ answering 0 4 2 ∷ answering 0 3 0 ∷ []
 unfolding start chain
 computed-chain = refl
 
@@ -85,7 +85,7 @@ unfolding start withoutWords
 computed-without-words = refl
 
 computed-in-race : answersInOrder mainframe (start 3 1 1) inRace
-    ≡ accepted ∷ accepted ∷ accepted ∷ accepted ∷ accepted ∷ accepted ∷ answering 0 6 1 ∷ answering 0 6 1 ∷ answering 0 5 1 ∷ []
+    ≡ accepted ∷ accepted ∷ accepted ∷ accepted ∷ accepted ∷ accepted ∷ moving 0 6 1 2 ∷ moving 0 6 1 2 ∷ answering 0 5 1 ∷ []
 unfolding start inRace
 computed-in-race = refl
 

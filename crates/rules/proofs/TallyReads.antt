@@ -16,6 +16,7 @@ use lib.Dec.{ltb, eqb}
 use borrow.Author.Tests.{eqb-true, eqb-false, eq-eqb, ne-eqb}
 use Rattle.lists.specs.Tables.{total}
 use Rattle.lists.proofs.Tables.{total-same}
+use Rattle.limits.specs.Limits.{wordValues}
 use Rattle.rules.specs.State.{Limits, Counts, Shared, postedOf, addsOf, State}
 use Rattle.rules.specs.Tallies.{tallyAdded, tallyTotal, totalAfter, posting}
 use Rattle.rules.specs.Opening.{Opening, openingRefusal, opened}
@@ -39,33 +40,33 @@ use Rattle.rules.proofs.demand.ListRuns.{eventsOf, timeline, state-at, 
 
 -- the posted total with the adds of processors 1, 2, .., n taken in this order, wrapped after each
 unfoldable pub takenUp : Shared → ℕ → ℕ → ℕ
-takenUp h t zero = postedOf h t % 4294967296
-takenUp h t (suc k) = (takenUp h t k + addsOf h (suc k) t) % 4294967296
+takenUp h t zero = postedOf h t % wordValues
+takenUp h t (suc k) = (takenUp h t k + addsOf h (suc k) t) % wordValues
 
 -- x with the adds of processors n, n - 1, .., 1 taken in this order, wrapped after each
 unfoldable pub takenFrom : Shared → ℕ → ℕ → ℕ → ℕ
 takenFrom h t zero x = x
-takenFrom h t (suc k) x = takenFrom h t k ((x + addsOf h (suc k) t) % 4294967296)
+takenFrom h t (suc k) x = takenFrom h t k ((x + addsOf h (suc k) t) % wordValues)
 
 -- the posted total with them
 unfoldable pub takenDown : Shared → ℕ → ℕ → ℕ
-takenDown h t n = takenFrom h t n (postedOf h t % 4294967296)
+takenDown h t n = takenFrom h t n (postedOf h t % wordValues)
 
 up-is-total : (h : Shared) (n t : ℕ) → takenUp h t n ≡ totalAfter h n t
 unfolding takenUp totalAfter total
 up-is-total h zero t = omega arith
 up-is-total h (suc n) t =
-    ap (λ (x : ℕ). (x + addsOf h (suc n) t) % 4294967296) (up-is-total h n t)
+    ap (λ (x : ℕ). (x + addsOf h (suc n) t) % wordValues) (up-is-total h n t)
     ∙ wrap-first (postedOf h t + total n (λ k. addsOf h (suc k) t)) (addsOf h (suc n) t)
-    ∙ ap (λ (y : ℕ). y % 4294967296) (omega arith)
+    ∙ ap (λ (y : ℕ). y % wordValues) (omega arith)
 
-from-is-total : (h : Shared) (n t x : ℕ) → takenFrom h t n (x % 4294967296) ≡ (x + total n (λ k. addsOf h (suc k) t)) % 4294967296
+from-is-total : (h : Shared) (n t x : ℕ) → takenFrom h t n (x % wordValues) ≡ (x + total n (λ k. addsOf h (suc k) t)) % wordValues
 unfolding takenFrom total
 from-is-total h zero t x = omega arith
 from-is-total h (suc n) t x =
     ap (takenFrom h t n) (wrap-first x (addsOf h (suc n) t))
     ∙ from-is-total h n t (x + addsOf h (suc n) t)
-    ∙ ap (λ (y : ℕ). y % 4294967296) (omega arith)
+    ∙ ap (λ (y : ℕ). y % wordValues) (omega arith)
 
 -- both are the total that a round of n processors posts
 pub posting-any-order : (h : Shared) (n t : ℕ) → (takenUp h t n ≡ totalAfter h n t) × (takenDown h t n ≡ totalAfter h n t)
@@ -88,11 +89,11 @@ countsFor n es p j i = ltb (rounds n es i) (rounds n es j) || eqb (eventAt es i 
 
 -- "the posted total plus the card's own adds since, wrapped", from the list alone: the sum of the value fields of the adds to t before place j that count
 unfoldable pub tallyDue : ℕ → List Event → ℕ → ℕ → ℕ → ℕ
-tallyDue n es p t j = total j (λ i. cond (isAddTo (eventAt es i) t && countsFor n es p j i) (valueField (eventAt es i .step .value)) 0) % 4294967296
+tallyDue n es p t j = total j (λ i. cond (isAddTo (eventAt es i) t && countsFor n es p j i) (valueField (eventAt es i .step .value)) 0) % wordValues
 
 -- "the sum of all accepted adds of finished rounds": the same of those adds alone
 unfoldable pub postedDue : ℕ → List Event → ℕ → ℕ → ℕ
-postedDue n es t j = total j (λ i. cond (isAddTo (eventAt es i) t && ltb (rounds n es i) (rounds n es j)) (valueField (eventAt es i .step .value)) 0) % 4294967296
+postedDue n es t j = total j (λ i. cond (isAddTo (eventAt es i) t && ltb (rounds n es i) (rounds n es j)) (valueField (eventAt es i .step .value)) 0) % wordValues
 
 -- every accepted read of a tally answers what is due, for n processors
 pub record TalliesJudged (n : ℕ) (ts : List Step) (answered : List Answer) : Type 0 where
@@ -143,8 +144,8 @@ module _ (lim : Limits) (c : Counts) (es : List Event) (r : Timeline lim c es) (
 
   -- the tally at place j: posted is what was added in the rounds before, and what each processor has added is its adds of the open round
   record Tallied (j : ℕ) (h : Shared) : Type 0 where
-    posted : postedOf h t ≡ before j % 4294967296
-    adds : (q : ℕ) → addsOf h q t ≡ since q j % 4294967296
+    posted : postedOf h t ≡ before j % wordValues
+    adds : (q : ℕ) → addsOf h q t ≡ since q j % wordValues
 
   -- only processors that are there add
   adders : (i : ℕ) → (added i ≡ 0) ⊎ ((1 ≤ who i) × (who i ≤ n))
@@ -160,8 +161,8 @@ module _ (lim : Limits) (c : Counts) (es : List Event) (r : Timeline lim c es) (
   quiet : (j : ℕ) (h : Shared) → round (suc j) ≡ round j → added j ≡ 0 → Tallied j h → Tallied (suc j) h
   quiet j h e z ih =
       record {
-        posted = ih .posted ∙ ap (λ (x : ℕ). x % 4294967296) (sym (before-same-round round added who j e));
-        adds = λ q. ih .adds q ∙ ap (λ (x : ℕ). x % 4294967296) (sym (since-same-round round added who q j e ∙ none (eqb (who j) q) (since q j) (added j) z));
+        posted = ih .posted ∙ ap (λ (x : ℕ). x % wordValues) (sym (before-same-round round added who j e));
+        adds = λ q. ih .adds q ∙ ap (λ (x : ℕ). x % wordValues) (sym (since-same-round round added who q j e ∙ none (eqb (who j) q) (since q j) (added j) z));
       }
     where
       none : (b : Bool) (x y : ℕ) → y ≡ 0 → x + cond b y 0 ≡ x
@@ -173,26 +174,26 @@ module _ (lim : Limits) (c : Counts) (es : List Event) (r : Timeline lim c es) (
   unfolding valueField
   adding j h p u v e w z ih =
       record {
-        posted = posted-added h p u v t ∙ ih .posted ∙ ap (λ (x : ℕ). x % 4294967296) (sym (before-same-round round added who j e));
+        posted = posted-added h p u v t ∙ ih .posted ∙ ap (λ (x : ℕ). x % wordValues) (sym (before-same-round round added who j e));
         adds = λ q.
             adds-added h p u v q t
             ∙ go q (eqb q p) (eqb t u) refl refl
-            ∙ ap (λ (x : ℕ). x % 4294967296) (sym (since-same-round round added who q j e));
+            ∙ ap (λ (x : ℕ). x % wordValues) (sym (since-same-round round added who q j e));
       }
     where
       go : (q : ℕ) (a b : Bool) → eqb q p ≡ a → eqb t u ≡ b
-          → cond (a && b) ((addsOf h p u + v) % 4294967296) (addsOf h q t) ≡ (since q j + cond (eqb (who j) q) (added j) 0) % 4294967296
+          → cond (a && b) ((addsOf h p u + v) % wordValues) (addsOf h q t) ≡ (since q j + cond (eqb (who j) q) (added j) 0) % wordValues
       go q true true d k =
           let same : q ≡ p = eqb-true q p d in
           let tally : t ≡ u = eqb-true t u k in
           rw (w, z, eq-eqb p q (sym same), eq-eqb u t (sym tally))
-          (ap (λ (x : ℕ). (x + v) % 4294967296) (rw (← same, ← tally) (ih .adds q)) ∙ wrap-first (since q j) v ∙ sym (wrap-second (since q j) v))
-      go q true false d k = rw (z, ne-eqb u t (λ y. eqb-false t u k (sym y))) (ih .adds q ∙ ap (λ (x : ℕ). x % 4294967296) (none (eqb (who j) q) (since q j)))
+          (ap (λ (x : ℕ). (x + v) % wordValues) (rw (← same, ← tally) (ih .adds q)) ∙ wrap-first (since q j) v ∙ sym (wrap-second (since q j) v))
+      go q true false d k = rw (z, ne-eqb u t (λ y. eqb-false t u k (sym y))) (ih .adds q ∙ ap (λ (x : ℕ). x % wordValues) (none (eqb (who j) q) (since q j)))
         where
           none : (b : Bool) (x : ℕ) → x ≡ x + cond b 0 0
           none true x = omega arith
           none false x = omega arith
-      go q false b d k = rw (w, ne-eqb p q (λ y. eqb-false q p d (sym y))) (ih .adds q ∙ ap (λ (x : ℕ). x % 4294967296) (none (since q j)))
+      go q false b d k = rw (w, ne-eqb p q (λ y. eqb-false q p d (sym y))) (ih .adds q ∙ ap (λ (x : ℕ). x % wordValues) (none (since q j)))
         where
           none : (x : ℕ) → x ≡ x + 0
           none x = omega arith
@@ -204,10 +205,10 @@ module _ (lim : Limits) (c : Counts) (es : List Event) (r : Timeline lim c es) (
       record {
         posted =
             posted-posted h n t (rw long present)
-            ∙ ap₂ (λ (x y : ℕ). (x + y) % 4294967296) (ih .posted) (total-same n (λ k. addsOf h (suc k) t) (λ k. since (suc k) j % 4294967296) (λ k l. ih .adds (suc k)))
+            ∙ ap₂ (λ (x y : ℕ). (x + y) % wordValues) (ih .posted) (total-same n (λ k. addsOf h (suc k) t) (λ k. since (suc k) j % wordValues) (λ k l. ih .adds (suc k)))
             ∙ wrap-onto (before j) n (λ k. since (suc k) j)
-            ∙ ap (λ (x : ℕ). x % 4294967296) (before-and-all round added who n j (λ i l. adders i) ∙ omega (arith, z) ∙ sym (before-new-round round added who j e up));
-        adds = λ q. adds-posted h n q t ∙ ap (λ (x : ℕ). x % 4294967296) (sym (since-new-round round added who q j e up));
+            ∙ ap (λ (x : ℕ). x % wordValues) (before-and-all round added who n j (λ i l. adders i) ∙ omega (arith, z) ∙ sym (before-new-round round added who j e up));
+        adds = λ q. adds-posted h n q t ∙ ap (λ (x : ℕ). x % wordValues) (sym (since-new-round round added who q j e up));
       }
     where
       up : (i : ℕ) → i ≤ j → round i ≤ round j
@@ -253,7 +254,7 @@ module _ (lim : Limits) (c : Counts) (es : List Event) (r : Timeline lim c es) (
   unfolding postedDue addedBefore addedAt
   posted-is-due j =
       tallied j .posted
-      ∙ ap (λ (x : ℕ). x % 4294967296)
+      ∙ ap (λ (x : ℕ). x % wordValues)
       (total-same j (λ i. cond (ltb (round i) (round j)) (added i) 0) (λ i. cond (isAddTo (eventAt es i) t && ltb (round i) (round j)) (valueField (eventAt es i .step .value)) 0)
       (λ i l. both-tests (isAddTo (eventAt es i) t) (ltb (round i) (round j)) (valueField (eventAt es i .step .value))))
 
@@ -262,9 +263,9 @@ module _ (lim : Limits) (c : Counts) (es : List Event) (r : Timeline lim c es) (
   unfolding tallyTotal tallyDue countsFor addedAt
   total-is-due j p =
       let h = tallied j in
-      ap₂ (λ (x y : ℕ). (x + y) % 4294967296) (h .posted) (h .adds p)
+      ap₂ (λ (x y : ℕ). (x + y) % wordValues) (h .posted) (h .adds p)
       ∙ wrap-both (before j) (since p j)
-      ∙ ap (λ (x : ℕ). x % 4294967296)
+      ∙ ap (λ (x : ℕ). x % wordValues)
       (before-and-since round added who p j
       ∙ total-same j (λ i. cond (countsFor n es p j i) (added i) 0) (λ i. cond (isAddTo (eventAt es i) t && countsFor n es p j i) (valueField (eventAt es i .step .value)) 0)
       (λ i l. both-tests (isAddTo (eventAt es i) t) (countsFor n es p j i) (valueField (eventAt es i .step .value))))

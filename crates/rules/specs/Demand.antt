@@ -6,6 +6,7 @@ use mathlib.Core.Logic.{_⊎_}
 use mathlib.Core.List.{List}
 use lib.ListN.{getD}
 use lib.Dec.{eqb}
+use Rattle.limits.specs.Limits.{wordValues}
 use Rattle.rules.specs.State.{Limits, Counts}
 use Rattle.rules.specs.Opening.{opened}
 use Rattle.rules.specs.Fetch.{earlier}
@@ -16,7 +17,7 @@ use Rattle.rules.specs.Order.{Event, events, eventAt, Took, Before, Orde
 
 -- the value field as the four bytes of a step's record hold it
 unfoldable pub valueField : ℕ → ℕ
-valueField v = v % 4294967296
+valueField v = v % wordValues
 
 -- an accepted write to w
 unfoldable pub isWriteTo : Event → ℕ → Bool

@@ -1,5 +1,5 @@
 -- Document 01, "Pending" and "Fetch": how the changed words of a page follow to a processor that touches it. Assumes nothing.
-use Prim.Native.Nat.{ℕ}
+use Prim.Native.Nat.{ℕ, _+_}
 use mathlib.Core.Bool.{Bool, true, false, cond, not, _&&_, _||_}
 use mathlib.Core.Option.{Option, none, some}
 use mathlib.Core.List.{List, [], _∷_}
@@ -7,7 +7,7 @@ use lib.ListN.{length, getD}
 use lib.Dec.{leb, ltb, eqb}
 use Rattle.lists.specs.Tables.{putCell, every, select, sortBy}
 use Rattle.clock.specs.Clocks.{entryOf, sumOf}
-use Rattle.diff.specs.Reading.{settings, applied}
+use Rattle.diff.specs.Reading.{settings, wordsSet, applied}
 use Rattle.rules.specs.State.{Limits, Processor, Applied, Interval, Clocks, clockOf, withClock, Pages, copyOf, Record, State, withClocks, withPages, clock, standing}
 
 -- "records of g by another card q, with interval above q's entry in the applied clock and not above q's entry in p's clock"
@@ -64,6 +64,13 @@ unfoldable pub skipped : ℕ → List Record → List Record
 skipped w [] = []
 skipped w (r ∷ rs) = cond (replaced w r rs) (r ∷ skipped w rs) (skipped w rs)
 
+-- ---- L6: "the number of words it set"
+
+-- how many words records set when each of them is applied: all its words, also those that a later one sets again
+unfoldable pub wordsIn : List Record → ℕ
+wordsIn [] = 0
+wordsIn (r ∷ rs) = wordsSet (r .diff) + wordsIn rs
+
 -- ---- the fetch
 
 -- one copy replaced
@@ -83,6 +90,10 @@ fetched lim s p g =
 -- "The count is the records applied"
 unfoldable pub fetchCount : Limits → State → ℕ → ℕ → ℕ
 fetchCount lim s p g = length (applying lim s p g)
+
+-- how many words they set
+unfoldable pub fetchWords : Limits → State → ℕ → ℕ → ℕ
+fetchWords lim s p g = wordsIn (applying lim s p g)
 
 -- and how many were skipped
 unfoldable pub fetchSkipped : Limits → State → ℕ → ℕ → ℕ

@@ -5,7 +5,7 @@ use lib.Dec.{leb, ltb, eqb}
 use Rattle.rules.specs.State.{Limits, dirtyAt, State, own, holder, hasArrived}
 use Rattle.rules.specs.Lines.{waits}
 use Rattle.rules.specs.InOrder.{present, dirtyPages, inOrder}
-use Rattle.rules.specs.Steps.{Effect, pageOfWord, read, write, acquire, release, arrive, want, tallyAdd, tallyRead}
+use Rattle.rules.specs.Steps.{Effect, silent, pageOfWord, read, write, acquire, release, arrive, want, tallyAdd, tallyRead}
 
 -- a step's four fields, any numbers: kind, processor, object (a word or a lock) and value
 pub record Step : Type 0 where
@@ -103,29 +103,34 @@ refusalInOrder lim s t = refusalBy lim s (own s (t .processor)) t
 unfoldable pub effect : Limits → State → ℕ → Action → Effect
 effect lim s p (Read w) = read lim s p w
 effect lim s p (Write w v) = write lim s p w v
-effect lim s p (Acquire l) = record { after = acquire s p l; value = 0; count = 0 }
-effect lim s p (Release l) = record { after = release s p l; value = 0; count = 0 }
-effect lim s p Arrive = record { after = arrive lim s p .after; value = 0; count = arrive lim s p .count }
-effect lim s p Want = record { after = want s; value = 0; count = 0 }
-effect lim s p (TallyAdd t v) = record { after = tallyAdd s p t v; value = 0; count = 0 }
+effect lim s p (Acquire l) = silent (acquire s p l)
+effect lim s p (Release l) = silent (release s p l)
+effect lim s p Arrive = record { after = arrive lim s p .after; value = 0; count = arrive lim s p .count; words = arrive lim s p .words }
+effect lim s p Want = silent (want s)
+effect lim s p (TallyAdd t v) = silent (tallyAdd s p t v)
 effect lim s p (TallyRead t) = tallyRead s p t
-effect lim s p Unknown = record { after = s; value = 0; count = 0 }
+effect lim s p Unknown = silent s
 
 -- what a step answers
 pub record Answer : Type 0 where
   pub refusal : ℕ
   pub value : ℕ
   pub count : ℕ
+  pub words : ℕ
 
--- a refusal: "Value 0, count 0"
+-- an accepted step
+abbrev pub acceptedAs : Effect → Answer
+acceptedAs e = record { refusal = 0; value = e .value; count = e .count; words = e .words }
+
+-- a refusal: "Value 0, count 0", and no words
 unfoldable pub refusedAs : ℕ → Answer
-refusedAs n = record { refusal = n; value = 0; count = 0 }
+refusedAs n = record { refusal = n; value = 0; count = 0; words = 0 }
 
 -- what a step answers and leaves where the state is in order; on a refusal "every lent area untouched"
 unfoldable pub answerInOrder : Limits → State → Step → Answer
 answerInOrder lim s t =
     cond (eqb (refusalInOrder lim s t) 0)
-    (record { refusal = 0; value = effect lim s (t .processor) (actionOf t) .value; count = effect lim s (t .processor) (actionOf t) .count })
+    (acceptedAs (effect lim s (t .processor) (actionOf t)))
     (refusedAs (refusalInOrder lim s t))
 
 -- the state that a step leaves there

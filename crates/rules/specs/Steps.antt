@@ -5,18 +5,24 @@ use mathlib.Core.List.{[], map}
 use lib.ListN.{getD, set}
 use lib.Dec.{eqb}
 use Rattle.lists.specs.Tables.{put, putCell, every}
+use Rattle.limits.specs.Limits.{wordValues}
 use Rattle.clock.specs.Clocks.{joined}
 use Rattle.rules.specs.State.{Limits, Holder, Processor, Lock, Barrier, Clocks, clockOf, withClock, cleared, Pages, copyOf, dirtyAt, withArrived, withWanted, State, withClocks, withPages, withRecords, withMarks, withShared, holder, hasArrived}
 use Rattle.rules.specs.Lines.{firstInLine, lockAsked, lockHanded}
 use Rattle.rules.specs.Close.{closed}
-use Rattle.rules.specs.Fetch.{withCopy, fetched, fetchCount}
+use Rattle.rules.specs.Fetch.{withCopy, fetched, fetchCount, fetchWords}
 use Rattle.rules.specs.Tallies.{tallyAdded, tallyTotal, posting}
 
--- what an accepted step leaves and answers. "Only a read has a value other than 0. Where no count is named it is 0"
+-- what an accepted step leaves and answers: a value, the count of the records applied, and L6's number of words that they set
 pub record Effect : Type 0 where
   pub after : State
   pub value : ℕ
   pub count : ℕ
+  pub words : ℕ
+
+-- "Only a read has a value other than 0. Where no count is named it is 0"
+abbrev pub silent : State → Effect
+silent s = record { after = s; value = 0; count = 0; words = 0 }
 
 -- "word w lies on page w / 32"
 unfoldable pub pageOfWord : Limits → ℕ → ℕ
@@ -36,7 +42,7 @@ wordOf lim s p w = getD (copyOf (s .pages) p (pageOfWord lim w)) (offsetOfWord l
 unfoldable pub read : Limits → State → ℕ → ℕ → Effect
 read lim s p w =
     let s₁ = fetched lim s p (pageOfWord lim w) in
-    record { after = s₁; value = wordOf lim s₁ p w; count = fetchCount lim s p (pageOfWord lim w) }
+    record { after = s₁; value = wordOf lim s₁ p w; count = fetchCount lim s p (pageOfWord lim w); words = fetchWords lim s p (pageOfWord lim w) }
 
 -- ---- 2. "Write: fetch; if the page is clean, take the twin; store"
 
@@ -51,14 +57,14 @@ twinTaken m p g = cond (dirtyAt m p g) m (newTwin m p g)
 -- a word has 32 bits
 unfoldable pub stored : Limits → Pages → ℕ → ℕ → ℕ → Pages
 stored lim m p w v =
-    withCopy m p (pageOfWord lim w) (set (copyOf m p (pageOfWord lim w)) (offsetOfWord lim w) (v % 4294967296))
+    withCopy m p (pageOfWord lim w) (set (copyOf m p (pageOfWord lim w)) (offsetOfWord lim w) (v % wordValues))
 
 -- fetch, twin and store in this order
 unfoldable pub write : Limits → State → ℕ → ℕ → ℕ → Effect
 write lim s p w v =
     let s₁ = fetched lim s p (pageOfWord lim w) in
     let s₂ = withPages s₁ (stored lim (twinTaken (s₁ .pages) p (pageOfWord lim w)) p w v) in
-    record { after = s₂; value = 0; count = fetchCount lim s p (pageOfWord lim w) }
+    record { after = s₂; value = 0; count = fetchCount lim s p (pageOfWord lim w); words = fetchWords lim s p (pageOfWord lim w) }
 
 -- ---- 3. "Acquire: close; the card becomes holder; its clock joins the lock's". L1: "An acquire of a lock held by another card is now accepted:
 -- the asker's interval closes and the card waits"
@@ -117,25 +123,30 @@ roundDone s =
     let s₂ = withMarks s₁ (withArrived (s .marks) (map (λ mark. 0) (s .marks .arrived))) in
     withShared s₂ (posting (s .shared) (s .counts .processors))
 
--- fetches of several pages, and the sum of their counts
+-- fetches of several pages, and the sums of their counts and words
 pub record Fetches : Type 0 where
   pub after : State
   pub count : ℕ
+  pub words : ℕ
+
+-- no fetch
+abbrev pub noneFetched : State → Fetches
+noneFetched s = record { after = s; count = 0; words = 0 }
 
 -- one processor "fetches each page upwards", for the pages below n
 unfoldable pub pagesFetched : Limits → State → ℕ → ℕ → Fetches
-pagesFetched lim s p zero = record { after = s; count = 0 }
+pagesFetched lim s p zero = noneFetched s
 pagesFetched lim s p (suc g) =
     let f = pagesFetched lim s p g in
-    record { after = fetched lim (f .after) p g; count = f .count + fetchCount lim (f .after) p g }
+    record { after = fetched lim (f .after) p g; count = f .count + fetchCount lim (f .after) p g; words = f .words + fetchWords lim (f .after) p g }
 
 -- "each card upwards", for the first n processors
 unfoldable pub allFetched : Limits → State → ℕ → Fetches
-allFetched lim s zero = record { after = s; count = 0 }
+allFetched lim s zero = noneFetched s
 allFetched lim s (suc k) =
     let f = allFetched lim s k in
     let h = pagesFetched lim (f .after) (suc k) (s .counts .pages) in
-    record { after = h .after; count = f .count + h .count }
+    record { after = h .after; count = f .count + h .count; words = f .words + h .words }
 
 -- "all clocks (of cards, applied, of locks, of intervals) become zeros"
 unfoldable pub allCleared : Clocks → Clocks
@@ -159,7 +170,7 @@ emptied s =
 unfoldable pub collected : Limits → State → Fetches
 collected lim s =
     let f = allFetched lim s (s .counts .processors) in
-    record { after = emptied (f .after); count = f .count }
+    record { after = emptied (f .after); count = f .count; words = f .words }
 
 -- "If collection is wanted"
 unfoldable pub wantsCollection : State → Bool
@@ -170,8 +181,8 @@ unfoldable pub arrive : Limits → State → ℕ → Fetches
 arrive lim s p =
     let s₁ = atBarrier s p in
     cond (allArrived s₁)
-    (cond (wantsCollection s₁) (collected lim (roundDone s₁)) (record { after = roundDone s₁; count = 0 }))
-    (record { after = s₁; count = 0 })
+    (cond (wantsCollection s₁) (collected lim (roundDone s₁)) (noneFetched (roundDone s₁)))
+    (noneFetched s₁)
 
 -- ---- 6. "Want collection: set the wish; setting it again changes nothing"
 
@@ -187,4 +198,4 @@ tallyAdd s p t v = withShared s (tallyAdded (s .shared) p t v)
 
 -- a read: it changes nothing, and brings nothing
 abbrev pub tallyRead : State → ℕ → ℕ → Effect
-tallyRead s p t = record { after = s; value = tallyTotal (s .shared) p t; count = 0 }
+tallyRead s p t = record { after = s; value = tallyTotal (s .shared) p t; count = 0; words = 0 }

@@ -10,7 +10,7 @@ use lib.Seq.{sets, length-sets}
 use lib.Dec.{eqb}
 use borrow.Author.Tests.{eq-eqb, ne-eqb}
 use borrow.Author.Needs.{needs}
-use Rattle.limits.specs.Files.{fileRecordWidth}
+use Rattle.limits.specs.Files.{fileRecordWidth, answerWidth}
 use Rattle.rules.specs.Demand.{ReadsJudged, DemandThree}
 use Rattle.rules.specs.Opening.{opened}
 use Rattle.rules.specs.Refusals.{Answer, Step, refusedAs, nextInOrder}
@@ -32,11 +32,11 @@ use Rattle.run_list.proofs.Laying.{laid-behind, laid-read-back}
 -- ---- how many records
 
 module _ (bytes words : ℕ) where
-  pub fewer-records : bytes / fileRecordWidth < words / 3 → CountIs bytes words (bytes / fileRecordWidth)
+  pub fewer-records : bytes / fileRecordWidth < words / answerWidth → CountIs bytes words (bytes / fileRecordWidth)
   unfolding recordsRun
   fewer-records l = record { is = omega (arith, l) }
 
-  pub fewer-words : words / 3 ≤ bytes / fileRecordWidth → CountIs bytes words (words / 3)
+  pub fewer-words : words / answerWidth ≤ bytes / fileRecordWidth → CountIs bytes words (words / answerWidth)
   unfolding recordsRun
   fewer-words l = record { is = omega (arith, l) }
 
@@ -60,11 +60,11 @@ words-there = omega arith
 -- ---- the opening
 
 pub opening-laid : (bs out c w r m : List ℕ) (refusal n : ℕ) (out′ c′ w′ r′ m′ : List ℕ) → refusal ≡ openRefusal (take fileRecordWidth bs) (areas c w r m)
-    → areas c′ w′ r′ m′ ≡ areasOpened (take fileRecordWidth bs) (areas c w r m) → (n ≡ refusal) × (n ≤ 255) → out′ ≡ sets out 0 (n ∷ 0 ∷ 0 ∷ [])
+    → areas c′ w′ r′ m′ ≡ areasOpened (take fileRecordWidth bs) (areas c w r m) → (n ≡ refusal) × (n ≤ 255) → out′ ≡ sets out 0 (n ∷ 0 ∷ 0 ∷ 0 ∷ [])
     → OpeningLaid bs out (areas c w r m) refusal out′ (areas c′ w′ r′ m′)
 unfolding firstRefusal answerWords refusedAs
 opening-laid bs out c w r m refusal n out′ c′ w′ r′ m′ e a same l =
-    record { refusal = e; laid = l ∙ ap (λ (x : ℕ). sets out 0 (x ∷ 0 ∷ 0 ∷ [])) (same .0); areas = a }
+    record { refusal = e; laid = l ∙ ap (λ (x : ℕ). sets out 0 (x ∷ 0 ∷ 0 ∷ 0 ∷ [])) (same .0); areas = a }
 
 -- ---- no record
 
@@ -93,7 +93,7 @@ module _ (bs out : List ℕ) (n : ℕ) (h : RecordsThere bs out n) where
   unfolding recordsRun
   bytes-there = omega (arith, h .count)
 
-  room-there : 3 * n ≤ length out
+  room-there : answerWidth * n ≤ length out
   unfolding recordsRun
   room-there = omega (arith, h .count)
 
@@ -215,10 +215,10 @@ module _ (bs out : List ℕ) (n : ℕ) (h : RecordsThere bs out n) where
         all-laid : out″ ≡ sets out 0 (answerWords (refusedAs refusal ∷ answered))
         all-laid = laid-behind out (refusedAs refusal) answered out′ out″ (o .laid) (d .laid)
 
-        read-back : answersIn (n - 1) (drop 3 out″) ≡ answered
+        read-back : answersIn (n - 1) (drop answerWidth out″) ≡ answered
         read-back =
-            ap (λ (l : List ℕ). answersIn (n - 1) (drop 3 l)) all-laid
-            ∙ ap (λ (k : ℕ). answersIn k (drop 3 (sets out 0 (answerWords (refusedAs refusal ∷ answered))))) (sym as-many)
+            ap (λ (l : List ℕ). answersIn (n - 1) (drop answerWidth l)) all-laid
+            ∙ ap (λ (k : ℕ). answersIn k (drop answerWidth (sets out 0 (answerWords (refusedAs refusal ∷ answered))))) (sym as-many)
             ∙ laid-read-back out (refusedAs refusal) answered (omega (arith, count, room-there))
 
 pub ruleset running-laws = (fewer-records, fewer-words, opening-laid, none-run, some-there, opening-there, refused-run, steps-there, all-run, needs)

@@ -6,7 +6,7 @@ use mathlib.Core.List.{List, [], _∷_}
 use lib.ListN.{length, drop}
 use lib.Seq.{sets, length-sets, drop-drop}
 use borrow.Author.Needs.{needs}
-use Rattle.limits.specs.Files.{fileRecordWidth}
+use Rattle.limits.specs.Files.{fileRecordWidth, answerWidth}
 use Rattle.limits.specs.inner.Sizes.{markArea}
 use Rattle.rules.specs.Refusals.{Answer, Step, nextInOrder}
 use Rattle.rules.specs.Runs.{answersInOrder, stateInOrder}
@@ -29,13 +29,13 @@ step-there bs i out c w r m x h = record { ready = h .ready; there = h .there }
 
 -- the outcome of a step tells the rules' answer
 pub step-laid : (bs : List ℕ) (i : ℕ) (s : State) (y : Outcome) (out out′ c w r m x : List ℕ) → SteppedKept s (stepFrom (drop (fileRecordWidth * i) bs)) y c w r m x
-    → OutcomeLaid out (3 * i) y out′ → StepLaid bs i s out out′ c w r m x
+    → OutcomeLaid out (answerWidth * i) y out′ → StepLaid bs i s out out′ c w r m x
 step-laid bs i s y out out′ c w r m x k l =
     let d = k .stepped in
     record {
       laid =
           l .is
-          ∙ ap (λ (a : Answer). sets out (3 * i) (answerWords (a ∷ [])))
+          ∙ ap (λ (a : Answer). sets out (answerWidth * i) (answerWords (a ∷ [])))
           (d .outcome .numbers);
       areas = d .areas;
       kept = k .kept;
@@ -49,10 +49,10 @@ pub record StepsLeft (bs : List ℕ) (n : ℕ) (s₀ : State) (out₀ out c w r 
   pub ready : ReadyKept c w r m x
   pub upto : i ≤ n
   pub there : fileRecordWidth * n ≤ length bs
-  pub room : 3 * n ≤ length out
+  pub room : answerWidth * n ≤ length out
   pub as-long : length out ≡ length out₀
-  pub laid : sets out (3 * i) (answerWords (answersInOrder mainframe (stateIn mainframe c w r m) (stepsIn (n - i) (drop (fileRecordWidth * i) bs))))
-      ≡ sets out₀ 3 (answerWords (answersInOrder mainframe s₀ (stepsIn (n - 1) (drop fileRecordWidth bs))))
+  pub laid : sets out (answerWidth * i) (answerWords (answersInOrder mainframe (stateIn mainframe c w r m) (stepsIn (n - i) (drop (fileRecordWidth * i) bs))))
+      ≡ sets out₀ answerWidth (answerWords (answersInOrder mainframe s₀ (stepsIn (n - 1) (drop fileRecordWidth bs))))
   pub state : stateInOrder mainframe (stateIn mainframe c w r m) (stepsIn (n - i) (drop (fileRecordWidth * i) bs)) ≡ stateInOrder mainframe s₀ (stepsIn (n - 1) (drop fileRecordWidth bs))
 
 -- the marks have their size
@@ -92,16 +92,16 @@ module _ (bs : List ℕ) (n : ℕ) (s₀ : State) (out₀ out c w r m x : List �
     rest = stepsIn (n - (i + 1)) (drop (fileRecordWidth * (i + 1)) bs)
 
     -- the answers from record i on: its own is laid, and the others behind it
-    one-laid : sets out (3 * i) (answerWords (answersInOrder mainframe s (stepsIn (n - i) (drop (fileRecordWidth * i) bs))))
-        ≡ sets out′ (3 * (i + 1)) (answerWords (answersInOrder mainframe (stateIn mainframe c′ w′ r′ m′) rest))
+    one-laid : sets out (answerWidth * i) (answerWords (answersInOrder mainframe s (stepsIn (n - i) (drop (fileRecordWidth * i) bs))))
+        ≡ sets out′ (answerWidth * (i + 1)) (answerWords (answersInOrder mainframe (stateIn mainframe c′ w′ r′ m′) rest))
     unfolding answerWords answersInOrder s t rest
     one-laid =
-        ap (λ (ts : List Step). sets out (3 * i) (answerWords (answersInOrder mainframe s ts))) (steps-from bs n i l)
-        ∙ ap (λ (ws : List ℕ). sets ws (suc (suc (suc (3 * i)))) (answerWords (answersInOrder mainframe (nextInOrder mainframe s t) rest))) (sym (d .laid))
+        ap (λ (ts : List Step). sets out (answerWidth * i) (answerWords (answersInOrder mainframe s ts))) (steps-from bs n i l)
+        ∙ ap (λ (ws : List ℕ). sets ws (suc (suc (suc (suc (answerWidth * i))))) (answerWords (answersInOrder mainframe (nextInOrder mainframe s t) rest))) (sym (d .laid))
         ∙ ap (λ (k : ℕ). sets out′ k (answerWords (answersInOrder mainframe (nextInOrder mainframe s t) rest))) e
-        ∙ ap (λ (x : State). sets out′ (3 * (i + 1)) (answerWords (answersInOrder mainframe x rest))) (sym (d .areas .is))
+        ∙ ap (λ (x : State). sets out′ (answerWidth * (i + 1)) (answerWords (answersInOrder mainframe x rest))) (sym (d .areas .is))
       where
-        e : suc (suc (suc (3 * i))) ≡ 3 * (i + 1)
+        e : suc (suc (suc (suc (answerWidth * i)))) ≡ answerWidth * (i + 1)
         e = omega arith
 
     one-taken : stateInOrder mainframe s (stepsIn (n - i) (drop (fileRecordWidth * i) bs)) ≡ stateInOrder mainframe (stateIn mainframe c′ w′ r′ m′) rest

@@ -6,7 +6,7 @@ use mathlib.Core.List.{List, [], _∷_}
 use lib.ListN.{length, take, drop}
 use lib.Seq.{sets}
 use lib.Dec.{eqb}
-use Rattle.limits.specs.Files.{fileRecordWidth}
+use Rattle.limits.specs.Files.{fileRecordWidth, answerWidth}
 use Rattle.rules.specs.Demand.{ReadsJudged}
 use Rattle.rules.specs.Opening.{opened}
 use Rattle.rules.specs.Refusals.{Answer, refusedAs}
@@ -16,10 +16,10 @@ use Rattle.layout.specs.Areas.{Areas, holding}
 use Rattle.opening.specs.Promises.{openingOf, openRefusal}
 use Rattle.step_record.specs.Records.{stepsIn, answerWords, answersIn}
 
--- how many records are run, the opening among them: as many whole records of eight bytes as there are, and as the answers, three words
+-- how many records are run, the opening among them: as many whole records of eight bytes as there are, and as the answers, four words
 -- each, have room for; bytes and words beyond are not looked at
 unfoldable pub recordsRun : ℕ → ℕ → ℕ
-recordsRun bytes words = min (bytes / fileRecordWidth) (words / 3)
+recordsRun bytes words = min (bytes / fileRecordWidth) (words / answerWidth)
 
 -- the refusal of the opening, the first record
 unfoldable pub firstRefusal : List ℕ → Areas → ℕ
@@ -49,4 +49,4 @@ pub record Ran (bytes out : List ℕ) (a : Areas) (n : ℕ) (out′ : List ℕ) 
   pub areas : a′ ≡ runAreas (recordsRun (length bytes) (length out)) bytes a
   -- "happens-before-1 judges every accepted read"
   pub judged : 0 < n → firstRefusal bytes a ≡ 0
-      → ReadsJudged (openingOf (take fileRecordWidth bytes) .counts .processors) (stepsIn (n - 1) (drop fileRecordWidth bytes)) (answersIn (n - 1) (drop 3 out′))
+      → ReadsJudged (openingOf (take fileRecordWidth bytes) .counts .processors) (stepsIn (n - 1) (drop fileRecordWidth bytes)) (answersIn (n - 1) (drop answerWidth out′))

@@ -4,16 +4,18 @@ ghost use mathlib.Core.List.{_∷_, []};
 ghost use Prim.Native.Nat.{_+_, _≤_};
 ghost use lib.ListN.{length};
 ghost use lib.Seq.{sets};
+ghost use Rattle.limits.specs.Files.{answerWidth};
 ghost use Rattle.rules.specs.State.{mainframe};
 ghost use Rattle.layout.specs.Areas.{stateIn, areas};
 ghost use Rattle.run_list.specs.Runs.{Ran};
 ghost use Rattle.run_list.specs.inner.Needed.{OutcomeLaid, RecordReady, StepLaid, CountIs, RecordsThere, OpeningThere, OpeningLaid, StepsThere, StepsLaid};
+use limits::ANSWER_WIDTH;
 use limits::FILE_RECORD_WIDTH;
 use step_act::Outcome;
 
 // Runs an opening and the step records behind it, and says how many records it has run: of a refused opening only that one.
-// Each answer is laid as three words: refusal, value, count. Of odd sizes: as many whole records are run as there are and as the answers
-// have room for, three words each; the rest is not looked at.
+// Each answer is laid as four words: refusal, value, count, words. Of odd sizes: as many whole records are run as there are and as the answers
+// have room for, four words each; the rest is not looked at.
 pub fn run(
     bytes: &[u8],
     answers: &mut [u32],
@@ -36,7 +38,7 @@ fn records_run(bytes: usize, words: usize) -> usize
     ensures { λ r. ⌜ CountIs bytes words r ⌝ }
 {
     let whole = bytes / FILE_RECORD_WIDTH;
-    let room = words / 3;
+    let room = words / ANSWER_WIDTH;
     if whole < room {
         return whole;
     }
@@ -77,7 +79,7 @@ fn run_opening(
     ensures { λ r. ⌜ OpeningLaid (now (bytes .entry)) (now (answers .entry)) (areas (now (clocks .entry)) (now (words .entry)) (now (records .entry)) (now (marks .entry))) r (now (answers .exit)) (areas (now (clocks .exit)) (now (words .exit)) (now (records .exit)) (now (marks .exit))) ⌝ }
 {
     let refusal = opening::open_mainframe(&bytes[0..8], clocks, words, records, marks);
-    lay_answer(answers, 0, wide(refusal), 0, 0);
+    lay_answer(answers, 0, wide(refusal), 0, 0, 0);
     refusal
 }
 
@@ -118,28 +120,33 @@ fn run_step(
 {
     let at = FILE_RECORD_WIDTH * i;
     let outcome = step_record::step_record(bytes, at, clocks, words, records, marks, index);
-    lay_outcome(answers, 3 * i, outcome);
+    lay_outcome(answers, ANSWER_WIDTH * i, outcome);
 }
 
 // Lays what a step answers from a place on.
 fn lay_outcome(answers: &mut [u32], at: usize, outcome: Outcome)
-    requires { ⌜ at + 3 ≤ length (now answers) ⌝ }
+    requires { ⌜ at + answerWidth ≤ length (now answers) ⌝ }
     ensures { λ _. ⌜ OutcomeLaid (now (answers .entry)) at outcome (now (answers .exit)) ⌝ }
 {
     match outcome {
-        Outcome::Done { value, count } => lay_answer(answers, at, 0, value, count),
-        Outcome::Refused(refusal) => lay_answer(answers, at, wide(refusal), 0, 0),
+        Outcome::Done {
+            value,
+            count,
+            words,
+        } => lay_answer(answers, at, 0, value, count, words),
+        Outcome::Refused(refusal) => lay_answer(answers, at, wide(refusal), 0, 0, 0),
     }
 }
 
-// Lays the three numbers of an answer from a place on.
-fn lay_answer(answers: &mut [u32], at: usize, refusal: u32, value: u32, count: u32)
-    requires { ⌜ at + 3 ≤ length (now answers) ⌝ }
-    ensures { λ _. ⌜ now (answers .exit) ≡ sets (now (answers .entry)) at (refusal ∷ value ∷ count ∷ []) ⌝ }
+// Lays the four numbers of an answer from a place on.
+fn lay_answer(answers: &mut [u32], at: usize, refusal: u32, value: u32, count: u32, words: u32)
+    requires { ⌜ at + answerWidth ≤ length (now answers) ⌝ }
+    ensures { λ _. ⌜ now (answers .exit) ≡ sets (now (answers .entry)) at (refusal ∷ value ∷ count ∷ words ∷ []) ⌝ }
 {
     answers[at] = refusal;
     answers[at + 1] = value;
     answers[at + 2] = count;
+    answers[at + 3] = words;
 }
 
 // A byte as a number of 32 bits.

@@ -41,9 +41,9 @@ after-stopped a₀ read rest e = taken-together (begun a₀) read rest ∙ taken
 -- there is no line at its end
 no-last-line : (p : Progress) → p .stopped ≡ true → finishLine p ≡ []
 unfolding finishLine lastLine
-no-last-line p e = ap (λ (b : Bool). lastLine (p .number) (take (p .held) (p .bytes)) b) e ∙ none (take (p .held) (p .bytes))
+no-last-line p e = ap (λ (b : Bool). lastLine (p .number) (take (p .held) (p .bytes)) b (p .words)) e ∙ none (take (p .held) (p .bytes))
   where
-    none : (xs : List ℕ) → lastLine (p .number) xs true ≡ []
+    none : (xs : List ℕ) → lastLine (p .number) xs true (p .words) ≡ []
     none [] = refl
     none (x ∷ xs) = refl
 

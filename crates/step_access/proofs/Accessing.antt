@@ -50,12 +50,12 @@ module _ (c w r m : List ℕ) (p a : ℕ) (x : List ℕ) (q : AccessesKept c w r
         kept = q .kept;
       }
 
-  module _ (c₁ w₁ : List ℕ) (k : ℕ) (x₁ : List ℕ) (skips : ℕ) (f : BroughtKept c w r m p (a / pageWidth) c₁ w₁ k x₁ skips) where
+  module _ (c₁ w₁ : List ℕ) (k : ℕ) (x₁ : List ℕ) (skips moved : ℕ) (f : BroughtKept c w r m p (a / pageWidth) c₁ w₁ k x₁ skips moved) where
     abbrev b : Brought c w r m p (a / pageWidth) c₁ w₁ k
     b = f .brought
 
     -- the word answered, and the state that a read leaves
-    pub read-done : (v : ℕ) → v ≡ getD w₁ (wordPlace p a) 0 → AnsweredKept (read mainframe (stateIn mainframe c w r m) p a) v k c₁ w₁ r m x₁
+    pub read-done : (v : ℕ) → v ≡ getD w₁ (wordPlace p a) 0 → AnsweredKept (read mainframe (stateIn mainframe c w r m) p a) v k moved c₁ w₁ r m x₁
     unfolding read wordOf pageOfWord offsetOfWord wordPlace mainframe stateIn
     read-done v is =
         let o : OnWord p a = word-within in
@@ -67,13 +67,14 @@ module _ (c w r m : List ℕ) (p a : ℕ) (x : List ℕ) (q : AccessesKept c w r
                     ∙ ap (λ (page : List ℕ). getD page (a % pageWidth) 0) (sym (copy-read w₁ m p (a / pageWidth) (o .from) (o .to) (omega (arith, o .word))))
                     ∙ ap (λ (s : State). getD (copyOf (s .pages) p (a / pageWidth)) (a % pageWidth) 0) (b .holds);
                 applied = b .counted;
+                moved-is = f .moved-is;
                 areas = record { lent = b .lent; is = b .holds };
               };
           kept = f .kept;
         }
 
     -- the count answered, and the state that a write leaves
-    pub write-done : (w₂ m₂ : List ℕ) (v : ℕ) → Stored w₁ m w₂ m₂ p a v → AnsweredKept (write mainframe (stateIn mainframe c w r m) p a v) 0 k c₁ w₂ r m₂ x₁
+    pub write-done : (w₂ m₂ : List ℕ) (v : ℕ) → Stored w₁ m w₂ m₂ p a v → AnsweredKept (write mainframe (stateIn mainframe c w r m) p a v) 0 k moved c₁ w₂ r m₂ x₁
     unfolding write wordStored pageOfWord mainframe
     write-done w₂ m₂ v t =
         record {
@@ -81,6 +82,7 @@ module _ (c w r m : List ℕ) (p a : ℕ) (x : List ℕ) (q : AccessesKept c w r
               record {
                 answer = refl;
                 applied = b .counted;
+                moved-is = f .moved-is;
                 areas =
                     record {
                       lent = record { clocks = b .lent .clocks; words = t .words; records = b .lent .records; marks = t .marks };
@@ -91,7 +93,7 @@ module _ (c w r m : List ℕ) (p a : ℕ) (x : List ℕ) (q : AccessesKept c w r
         }
 
 -- the words have their size after the fetch
-pub fetched-words : (c w r m : List ℕ) (p g : ℕ) (c₁ w₁ : List ℕ) (k : ℕ) (x₁ : List ℕ) (skips : ℕ) → BroughtKept c w r m p g c₁ w₁ k x₁ skips → length w₁ ≡ wordArea
-fetched-words c w r m p g c₁ w₁ k x₁ skips f = f .brought .lent .words
+pub fetched-words : (c w r m : List ℕ) (p g : ℕ) (c₁ w₁ : List ℕ) (k : ℕ) (x₁ : List ℕ) (skips moved : ℕ) → BroughtKept c w r m p g c₁ w₁ k x₁ skips moved → length w₁ ≡ wordArea
+fetched-words c w r m p g c₁ w₁ k x₁ skips moved f = f .brought .lent .words
 
 pub ruleset access-laws = (word-fetchable, word-within, marks-long, fetched-words, read-done, write-done, needs)

@@ -19,10 +19,11 @@ use layout::marks::mark_dirty;
 use layout::twin_row;
 use limits::PAGE_WIDTH;
 
-// What a read answers: the word, and how many records its fetch applied.
+// What a read or a write answers: the word that was read or 0, how many records its fetch applied, and how many words those set.
 pub struct Answered {
     pub value: u32,
     pub count: u32,
+    pub words: u32,
 }
 
 // Read: fetches the word's page, then answers the word.
@@ -36,7 +37,7 @@ pub fn read_word(
     index: &mut [u32],
 ) -> Answered
     requires { ⌜ AccessesKept (now clocks) (now words) (now records) (now marks) (p .0) w (now index) ⌝ }
-    ensures { λ r. ⌜ AnsweredKept (read mainframe (stateIn mainframe (now (clocks .entry)) (now (words .entry)) (now (records .entry)) (now (marks .entry))) (p .0) w) (r .value) (r .count) (now (clocks .exit)) (now (words .exit)) (now (records .entry)) (now (marks .entry)) (now (index .exit)) ⌝ }
+    ensures { λ r. ⌜ AnsweredKept (read mainframe (stateIn mainframe (now (clocks .entry)) (now (words .entry)) (now (records .entry)) (now (marks .entry))) (p .0) w) (r .value) (r .count) (r .words) (now (clocks .exit)) (now (words .exit)) (now (records .entry)) (now (marks .entry)) (now (index .exit)) ⌝ }
 {
     let g = PageId(w / PAGE_WIDTH);
     let fetched = fetch::fetch_unless_settled(p, g, clocks, words, records, marks, index);
@@ -44,10 +45,11 @@ pub fn read_word(
     Answered {
         value,
         count: fetched.applied,
+        words: fetched.words,
     }
 }
 
-// Write: fetches the word's page, takes the twin if the page is clean, and stores. Yields how many records the fetch applied.
+// Write: fetches the word's page, takes the twin if the page is clean, and stores.
 pub fn write_word(
     p: ProcessorId,
     w: usize,
@@ -57,14 +59,18 @@ pub fn write_word(
     records: &[u8],
     marks: &mut [u8],
     index: &mut [u32],
-) -> u32
+) -> Answered
     requires { ⌜ AccessesKept (now clocks) (now words) (now records) (now marks) (p .0) w (now index) ⌝ }
-    ensures { λ r. ⌜ AnsweredKept (write mainframe (stateIn mainframe (now (clocks .entry)) (now (words .entry)) (now (records .entry)) (now (marks .entry))) (p .0) w v) 0 r (now (clocks .exit)) (now (words .exit)) (now (records .entry)) (now (marks .exit)) (now (index .exit)) ⌝ }
+    ensures { λ r. ⌜ AnsweredKept (write mainframe (stateIn mainframe (now (clocks .entry)) (now (words .entry)) (now (records .entry)) (now (marks .entry))) (p .0) w v) (r .value) (r .count) (r .words) (now (clocks .exit)) (now (words .exit)) (now (records .entry)) (now (marks .exit)) (now (index .exit)) ⌝ }
 {
     let g = PageId(w / PAGE_WIDTH);
     let fetched = fetch::fetch_unless_settled(p, g, clocks, words, records, marks, index);
     store(words, marks, p, w, v);
-    fetched.applied
+    Answered {
+        value: 0,
+        count: fetched.applied,
+        words: fetched.words,
+    }
 }
 
 // Takes the twin of the word's page if that is clean, then stores.

@@ -44,8 +44,8 @@ done-by e f o c w r m q d =
       areas = record { lent = d .areas .lent; is = d .areas .is ∙ ap (λ (x : Effect). x .after) (sym q) };
     }
 
-done-with : (e : Effect) (x n : ℕ) (c w r m : List ℕ) → x ≡ e .value → n ≡ e .count → Holds c w r m (e .after) → DoneAs e (Done x n) c w r m
-done-with e x n c w r m ex en h = record { outcome = rw (← ex, ← en) (done-tells x n); areas = h }
+done-with : (e : Effect) (x n j : ℕ) (c w r m : List ℕ) → x ≡ e .value → n ≡ e .count → j ≡ e .words → Holds c w r m (e .after) → DoneAs e (Done x n j) c w r m
+done-with e x n j c w r m ex en ej h = record { outcome = rw (← ex, ← en, ← ej) (done-tells x n j); areas = h }
 
 -- ---- what the steps ask
 
@@ -138,16 +138,16 @@ module _ (c w r m : List ℕ) (k p o v : ℕ) (x : List ℕ) (q : AccessingKept 
   read-there e = record { word = word-of-read e; kept = q .kept }
 
   -- a read was done
-  pub read-done : (y n : ℕ) (c′ w′ x′ : List ℕ) → k ≡ 1 → AnsweredKept (read mainframe (stateIn mainframe c w r m) p o) y n c′ w′ r m x′
-      → DoneKept (effect mainframe (stateIn mainframe c w r m) p (actionOf (stepOf k p o v))) (Done y n) c′ w′ r m x′
+  pub read-done : (y n j : ℕ) (c′ w′ x′ : List ℕ) → k ≡ 1 → AnsweredKept (read mainframe (stateIn mainframe c w r m) p o) y n j c′ w′ r m x′
+      → DoneKept (effect mainframe (stateIn mainframe c w r m) p (actionOf (stepOf k p o v))) (Done y n j) c′ w′ r m x′
   unfolding effect
-  read-done y n c′ w′ x′ e f =
+  read-done y n j c′ w′ x′ e f =
       let a = f .answered in
       record {
         done =
-            done-by (effect mainframe (stateIn mainframe c w r m) p (actionOf (stepOf k p o v))) (read mainframe (stateIn mainframe c w r m) p o) (Done y n) c′ w′ r m
+            done-by (effect mainframe (stateIn mainframe c w r m) p (actionOf (stepOf k p o v))) (read mainframe (stateIn mainframe c w r m) p o) (Done y n j) c′ w′ r m
             (effect-by (stateIn mainframe c w r m) p (actionOf (stepOf k p o v)) (Read o) (reads k p o v e))
-            (done-with (read mainframe (stateIn mainframe c w r m) p o) y n c′ w′ r m (a .answer) (a .applied) (a .areas));
+            (done-with (read mainframe (stateIn mainframe c w r m) p o) y n j c′ w′ r m (a .answer) (a .applied) (a .moved-is) (a .areas));
         kept = f .kept;
       }
 
@@ -165,16 +165,16 @@ module _ (c w r m : List ℕ) (k p o v : ℕ) (x : List ℕ) (q : AccessingKept 
   write-there z = record { word = word-of-write z; kept = q .kept }
 
   -- a write was done
-  pub write-done : (n : ℕ) (c′ w′ m′ x′ : List ℕ) → (k ≡ 1 → ⊥) → AnsweredKept (write mainframe (stateIn mainframe c w r m) p o v) 0 n c′ w′ r m′ x′
-      → DoneKept (effect mainframe (stateIn mainframe c w r m) p (actionOf (stepOf k p o v))) (Done 0 n) c′ w′ r m′ x′
-  unfolding effect
-  write-done n c′ w′ m′ x′ z f =
+  pub write-done : (y n j : ℕ) (c′ w′ m′ x′ : List ℕ) → (k ≡ 1 → ⊥) → AnsweredKept (write mainframe (stateIn mainframe c w r m) p o v) y n j c′ w′ r m′ x′
+      → DoneKept (effect mainframe (stateIn mainframe c w r m) p (actionOf (stepOf k p o v))) (Done 0 n j) c′ w′ r m′ x′
+  unfolding effect write
+  write-done y n j c′ w′ m′ x′ z f =
       let a = f .answered in
       record {
         done =
-            done-by (effect mainframe (stateIn mainframe c w r m) p (actionOf (stepOf k p o v))) (write mainframe (stateIn mainframe c w r m) p o v) (Done 0 n) c′ w′ r m′
+            done-by (effect mainframe (stateIn mainframe c w r m) p (actionOf (stepOf k p o v))) (write mainframe (stateIn mainframe c w r m) p o v) (Done 0 n j) c′ w′ r m′
             (effect-by (stateIn mainframe c w r m) p (actionOf (stepOf k p o v)) (Write o v) (writes k p o v (is-write z)))
-            (done-with (write mainframe (stateIn mainframe c w r m) p o v) 0 n c′ w′ r m′ (a .answer) (a .applied) (a .areas));
+            (done-with (write mainframe (stateIn mainframe c w r m) p o v) 0 n j c′ w′ r m′ refl (a .applied) (a .moved-is) (a .areas));
         kept = f .kept;
       }
 
@@ -188,14 +188,15 @@ module _ (c w r m : List ℕ) (k p o v : ℕ) (h : Locking c w r m k p o v) wher
       (acquire-there mainframe (stateIn mainframe c w r m) (stepOf k p o v) o (acquires k p o v e) (accepted c w r m k p o v (h .acting)))
 
   -- an acquire was done
-  pub acquire-done : (c′ r′ m′ : List ℕ) → k ≡ 3 → Holds c′ w r′ m′ (acquire (stateIn mainframe c w r m) p o)
-      → DoneAs (effect mainframe (stateIn mainframe c w r m) p (actionOf (stepOf k p o v))) (Done 0 0) c′ w r′ m′
+  pub acquire-done : (y : Outcome) (c′ r′ m′ : List ℕ) → k ≡ 3 → Holds c′ w r′ m′ (acquire (stateIn mainframe c w r m) p o) → y ≡ Done 0 0 0
+      → DoneAs (effect mainframe (stateIn mainframe c w r m) p (actionOf (stepOf k p o v))) y c′ w r′ m′
   unfolding effect
-  acquire-done c′ r′ m′ e a =
+  acquire-done y c′ r′ m′ e a is =
       let f = effect mainframe (stateIn mainframe c w r m) p (Acquire o) in
-      done-by (effect mainframe (stateIn mainframe c w r m) p (actionOf (stepOf k p o v))) f (Done 0 0) c′ w r′ m′
+      rw is
+      (done-by (effect mainframe (stateIn mainframe c w r m) p (actionOf (stepOf k p o v))) f (Done 0 0 0) c′ w r′ m′
       (effect-by (stateIn mainframe c w r m) p (actionOf (stepOf k p o v)) (Acquire o) (acquires k p o v e))
-      (done-with f 0 0 c′ w r′ m′ refl refl a)
+      (done-with f 0 0 0 c′ w r′ m′ refl refl refl a))
 
   is-release : (k ≡ 3 → ⊥) → k ≡ 4
   is-release z = omega (arith, z, h .first, h .last)
@@ -207,14 +208,15 @@ module _ (c w r m : List ℕ) (k p o v : ℕ) (h : Locking c w r m k p o v) wher
       (release-there mainframe (stateIn mainframe c w r m) (stepOf k p o v) o (releases k p o v (is-release z)) (accepted c w r m k p o v (h .acting)))
 
   -- a release was done
-  pub release-done : (c′ r′ m′ : List ℕ) → (k ≡ 3 → ⊥) → Holds c′ w r′ m′ (release (stateIn mainframe c w r m) p o)
-      → DoneAs (effect mainframe (stateIn mainframe c w r m) p (actionOf (stepOf k p o v))) (Done 0 0) c′ w r′ m′
+  pub release-done : (y : Outcome) (c′ r′ m′ : List ℕ) → (k ≡ 3 → ⊥) → Holds c′ w r′ m′ (release (stateIn mainframe c w r m) p o) → y ≡ Done 0 0 0
+      → DoneAs (effect mainframe (stateIn mainframe c w r m) p (actionOf (stepOf k p o v))) y c′ w r′ m′
   unfolding effect
-  release-done c′ r′ m′ z a =
+  release-done y c′ r′ m′ z a is =
       let f = effect mainframe (stateIn mainframe c w r m) p (Release o) in
-      done-by (effect mainframe (stateIn mainframe c w r m) p (actionOf (stepOf k p o v))) f (Done 0 0) c′ w r′ m′
+      rw is
+      (done-by (effect mainframe (stateIn mainframe c w r m) p (actionOf (stepOf k p o v))) f (Done 0 0 0) c′ w r′ m′
       (effect-by (stateIn mainframe c w r m) p (actionOf (stepOf k p o v)) (Release o) (releases k p o v (is-release z)))
-      (done-with f 0 0 c′ w r′ m′ refl refl a)
+      (done-with f 0 0 0 c′ w r′ m′ refl refl refl a))
 
 -- ---- the index is kept by a step that is no access and no arrival
 
@@ -257,16 +259,16 @@ module _ (c w r m : List ℕ) (k p o v : ℕ) (x : List ℕ) (q : MeetingKept c 
       record { arrives = record { acts = acts c w r m k p o v (t .acting); not-arrived = accepted c w r m k p o v (t .acting) .not-arrived; not-waiting = accepted c w r m k p o v (t .acting) .not-waiting }; kept = q .kept }
 
   -- an arrival was done
-  pub arrival-done : (n : ℕ) (c′ w′ r′ m′ x′ : List ℕ) → k ≡ 5 → CountedKept (arrive mainframe (stateIn mainframe c w r m) p) n c′ w′ r′ m′ x′
-      → DoneKept (effect mainframe (stateIn mainframe c w r m) p (actionOf (stepOf k p o v))) (Done 0 n) c′ w′ r′ m′ x′
+  pub arrival-done : (n j : ℕ) (c′ w′ r′ m′ x′ : List ℕ) → k ≡ 5 → CountedKept (arrive mainframe (stateIn mainframe c w r m) p) n j c′ w′ r′ m′ x′
+      → DoneKept (effect mainframe (stateIn mainframe c w r m) p (actionOf (stepOf k p o v))) (Done 0 n j) c′ w′ r′ m′ x′
   unfolding effect
-  arrival-done n c′ w′ r′ m′ x′ e a =
+  arrival-done n j c′ w′ r′ m′ x′ e a =
       let f = effect mainframe (stateIn mainframe c w r m) p Arrive in
       record {
         done =
-            done-by (effect mainframe (stateIn mainframe c w r m) p (actionOf (stepOf k p o v))) f (Done 0 n) c′ w′ r′ m′
+            done-by (effect mainframe (stateIn mainframe c w r m) p (actionOf (stepOf k p o v))) f (Done 0 n j) c′ w′ r′ m′
             (effect-by (stateIn mainframe c w r m) p (actionOf (stepOf k p o v)) Arrive (arrives k p o v e))
-            (done-with f 0 n c′ w′ r′ m′ refl (a .counted .applied) (a .counted .areas));
+            (done-with f 0 n j c′ w′ r′ m′ refl (a .counted .applied) (a .counted .moved-is) (a .counted .areas));
         kept = a .kept;
       }
 
@@ -275,18 +277,19 @@ module _ (c w r m : List ℕ) (k p o v : ℕ) (x : List ℕ) (q : MeetingKept c 
   wish-there z = t .acting .ready .lent .marks
 
   -- the wish was set
-  pub wish-done : (m′ : List ℕ) → (k ≡ 5 → ⊥) → Wanted m m′
-      → DoneKept (effect mainframe (stateIn mainframe c w r m) p (actionOf (stepOf k p o v))) (Done 0 0) c w r m′ x
+  pub wish-done : (y : Outcome) (m′ : List ℕ) → (k ≡ 5 → ⊥) → Wanted m m′ → y ≡ Done 0 0 0
+      → DoneKept (effect mainframe (stateIn mainframe c w r m) p (actionOf (stepOf k p o v))) y c w r m′ x
   unfolding effect
-  wish-done m′ z a =
+  wish-done y m′ z a is =
       let f = effect mainframe (stateIn mainframe c w r m) p Want in
       let l = t .acting .ready .lent in
       let six : k ≡ 6 = omega (arith, z, t .first, t .last) in
-      apart-done c w r m k p o v x (record { acting = t .acting; kept = q .kept }) (omega (arith, t .first)) z (Done 0 0) c w r m′
-      (done-by (effect mainframe (stateIn mainframe c w r m) p (actionOf (stepOf k p o v))) f (Done 0 0) c w r m′
+      rw is
+      (apart-done c w r m k p o v x (record { acting = t .acting; kept = q .kept }) (omega (arith, t .first)) z (Done 0 0 0) c w r m′
+      (done-by (effect mainframe (stateIn mainframe c w r m) p (actionOf (stepOf k p o v))) f (Done 0 0 0) c w r m′
       (effect-by (stateIn mainframe c w r m) p (actionOf (stepOf k p o v)) Want (wants k p o v six))
-      (done-with f 0 0 c w r m′ refl refl
-      (record { lent = record { clocks = l .clocks; words = l .words; records = l .records; marks = a .marks }; is = a .is c w r })))
+      (done-with f 0 0 0 c w r m′ refl refl refl
+      (record { lent = record { clocks = l .clocks; words = l .words; records = l .records; marks = a .marks }; is = a .is c w r }))))
 
 -- ---- tallies
 
@@ -303,23 +306,23 @@ module _ (w : List ℕ) (k p o v : ℕ) (h : Tallying w k p o) where
       go (inr e) = absurd (z e)
 
   -- an add was done
-  pub add-tallied : (w′ : List ℕ) → (k ≡ 9 → ⊥) → AddDone w w′ p o v → Tallied w w′ k p o v (Done 0 0)
+  pub add-tallied : (y : Outcome) (w′ : List ℕ) → (k ≡ 9 → ⊥) → AddDone w w′ p o v → y ≡ Done 0 0 0 → Tallied w w′ k p o v y
   unfolding effect stateIn
-  add-tallied w′ z a =
+  add-tallied y w′ z a done =
       record {
         words = a .words;
         is = λ c r m. a .is c r m ∙ ap (λ (x : Effect). x .after) (sym (effect-by (stateIn mainframe c w r m) p (actionOf (stepOf k p o v)) (TallyAdd o v) (adds k p o v (is-add z))));
-        outcome = λ c r m. rw (adds k p o v (is-add z)) (done-tells 0 0);
+        outcome = λ c r m. rw (adds k p o v (is-add z), done) (done-tells 0 0 0);
       }
 
   -- a total was read
-  pub total-tallied : (x : ℕ) → k ≡ 9 → x ≡ tallyTotal (sharedIn mainframe w) p o → Tallied w w k p o v (Done x 0)
+  pub total-tallied : (x : ℕ) → k ≡ 9 → x ≡ tallyTotal (sharedIn mainframe w) p o → Tallied w w k p o v (Done x 0 0)
   unfolding effect stateIn
   total-tallied x nine e =
       record {
         words = h .tally .words;
         is = λ c r m. ap (λ (y : Effect). y .after) (sym (effect-by (stateIn mainframe c w r m) p (actionOf (stepOf k p o v)) (TallyRead o) (totals k p o v nine)));
-        outcome = λ c r m. rw (totals k p o v nine, ← e) (done-tells x 0);
+        outcome = λ c r m. rw (totals k p o v nine, ← e) (done-tells x 0 0);
       }
 
 -- ---- the kinds

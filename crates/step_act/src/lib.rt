@@ -1,14 +1,15 @@
 // What an accepted step does to the four areas of lent memory, by its kind, and what it answers. The index is kept by every step.
 // Every contract determines the answer and what each area holds afterwards, by the rules' effect on the state that the areas hold.
+ghost use mathlib.Core.Path.{_≡_};
 ghost use Rattle.rules.specs.State.{mainframe};
 ghost use Rattle.rules.specs.Refusals.{stepOf, actionOf, effect};
 ghost use Rattle.layout.specs.Areas.{stateIn};
 ghost use Rattle.step_act.specs.inner.Needed.{ActingKept, AccessingKept, Locking, MeetingKept, Tallying, DoneAs, DoneKept, Tallied};
 use clock::ProcessorId;
 
-// What a step answers: its value and count where it was done, else its refusal.
+// What a step answers: its value, its count and how many words it moved where it was done, else its refusal.
 pub enum Outcome {
-    Done { value: u32, count: u32 },
+    Done { value: u32, count: u32, words: u32 },
     Refused(u8),
 }
 
@@ -39,6 +40,17 @@ pub fn act(
     tally(kind, p, object, value, words)
 }
 
+// A step that was done, and of which there is nothing else to say.
+fn done() -> Outcome
+    ensures { λ r. ⌜ r ≡ Outcome.Done 0 0 0 ⌝ }
+{
+    Outcome::Done {
+        value: 0,
+        count: 0,
+        words: 0,
+    }
+}
+
 // Kinds 1 and 2: read and write.
 fn access(
     kind: u32,
@@ -59,10 +71,15 @@ fn access(
         return Outcome::Done {
             value: answered.value,
             count: answered.count,
+            words: answered.words,
         };
     }
-    let count = step_access::write_word(p, object, value, clocks, words, records, marks, index);
-    Outcome::Done { value: 0, count }
+    let answered = step_access::write_word(p, object, value, clocks, words, records, marks, index);
+    Outcome::Done {
+        value: 0,
+        count: answered.count,
+        words: answered.words,
+    }
 }
 
 // Kinds 3 and 4: acquire and release.
@@ -81,10 +98,10 @@ fn lock(
 {
     if kind == 3 {
         step_lock::acquire(p, object, clocks, words, records, marks);
-        return Outcome::Done { value: 0, count: 0 };
+        return done();
     }
     step_lock::release(p, object, clocks, words, records, marks);
-    Outcome::Done { value: 0, count: 0 }
+    done()
 }
 
 // Kinds 5 and 6: arrive and want collection.
@@ -103,11 +120,15 @@ fn meet(
     ensures { λ r. ⌜ DoneKept (effect mainframe (stateIn mainframe (now (clocks .entry)) (now (words .entry)) (now (records .entry)) (now (marks .entry))) (p .0) (actionOf (stepOf kind (p .0) object value))) r (now (clocks .exit)) (now (words .exit)) (now (records .exit)) (now (marks .exit)) (now (index .exit)) ⌝ }
 {
     if kind == 5 {
-        let count = step_barrier::arrive(p, clocks, words, records, marks, index);
-        return Outcome::Done { value: 0, count };
+        let moved = step_barrier::arrive(p, clocks, words, records, marks, index);
+        return Outcome::Done {
+            value: 0,
+            count: moved.count,
+            words: moved.words,
+        };
     }
     step_barrier::want(marks);
-    Outcome::Done { value: 0, count: 0 }
+    done()
 }
 
 // Kinds 8 and 9: an add to a tally, and a read of one.
@@ -120,8 +141,9 @@ fn tally(kind: u32, p: ProcessorId, object: usize, value: u32, words: &mut [u32]
         return Outcome::Done {
             value: total,
             count: 0,
+            words: 0,
         };
     }
     step_tally::add_to(words, p, object, value);
-    Outcome::Done { value: 0, count: 0 }
+    done()
 }

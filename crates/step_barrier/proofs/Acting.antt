@@ -16,7 +16,7 @@ use Rattle.clock.specs.Clocks.{joined}
 use Rattle.rules.specs.Close.{closed}
 use Rattle.rules.specs.InOrder.{present}
 use Rattle.rules.specs.State.{mainframe, Processor, Barrier, Clocks, withArrived, State, withClocks, withMarks, hasArrived}
-use Rattle.rules.specs.Steps.{learned, atBarrier, allArrived, roundDone, Fetches, arrive}
+use Rattle.rules.specs.Steps.{learned, atBarrier, allArrived, roundDone, Fetches, noneFetched, arrive}
 use Rattle.rules.proofs.inorder.KeptBarrier.{round-parts, waiting-parts}
 use Rattle.rules.proofs.inorder.Facts.{InOrder, Within}
 use Rattle.rules.proofs.inorder.KeptParts.{among-when, parts-of, in-order-of}
@@ -76,7 +76,7 @@ module _ (c w r m : List ℕ) (p : ℕ) (a : Acts c w r m p) (c₁ r₁ m₁ : L
 
 -- ---- arrive
 
-arrive-waits : (s : State) (p : ℕ) → allArrived (atBarrier s p) ≡ false → arrive mainframe s p ≡ record { after = atBarrier s p; count = 0 }
+arrive-waits : (s : State) (p : ℕ) → allArrived (atBarrier s p) ≡ false → arrive mainframe s p ≡ noneFetched (atBarrier s p)
 unfolding arrive
 arrive-waits s p e = rw e
 
@@ -153,17 +153,18 @@ module _ (c w r m : List ℕ) (p : ℕ) (x : List ℕ) (k : ArrivesKept c w r m 
       answer-is = one .is c w r ∙ last-arrives s p (a .acts .from) (a .acts .to) (a .not-arrived)
 
       -- others are awaited, and what stood stands
-      pub not-the-last : not b ≡ true → CountedKept (arrive mainframe (stateIn mainframe c w r m) p) 0 c₁ w r₁ m₁ x
+      pub not-the-last : (n v : ℕ) → not b ≡ true → (n ≡ 0) × (v ≡ 0) → CountedKept (arrive mainframe (stateIn mainframe c w r m) p) n v c₁ w r₁ m₁ x
       unfolding atBarrier closed
-      not-the-last z =
+      not-the-last n v z none =
           let missing : allArrived (atBarrier s p) ≡ false = sym answer-is ∙ not-true b z in
-          let waiting : arrive mainframe s p ≡ record { after = atBarrier s p; count = 0 } = arrive-waits s p missing in
+          let waiting : arrive mainframe s p ≡ noneFetched (atBarrier s p) = arrive-waits s p missing in
           let order : InOrder mainframe (atBarrier s p) =
           in-order-of mainframe (atBarrier s p) (waiting-parts mainframe s p (parts-of mainframe s (a .acts .in-order)) (among-when (s .counts) p (a .acts .from) (a .acts .to)) (a .not-waiting) missing) in
           record {
             counted =
                 record {
-                  applied = ap (λ (f : Fetches). f .count) (sym waiting);
+                  applied = none .0 ∙ ap (λ (f : Fetches). f .count) (sym waiting);
+                  moved-is = none .1 ∙ ap (λ (f : Fetches). f .words) (sym waiting);
                   areas = record { lent = h .lent; is = h .is ∙ ap (λ (f : Fetches). f .after) (sym waiting) };
                 };
             kept =
@@ -172,15 +173,16 @@ module _ (c w r m : List ℕ) (p : ℕ) (x : List ℕ) (k : ArrivesKept c w r m 
           }
 
       -- the last completes the round
-      pub last-completes : (n : ℕ) (c₂ w₂ m₂ x₂ : List ℕ) → not b ≡ false → CountedKept (completed (stateIn mainframe c₁ w r₁ m₁)) n c₂ w₂ r₁ m₂ x₂
-          → CountedKept (arrive mainframe (stateIn mainframe c w r m) p) n c₂ w₂ r₁ m₂ x₂
-      last-completes n c₂ w₂ m₂ x₂ z e =
+      pub last-completes : (n v : ℕ) (c₂ w₂ m₂ x₂ : List ℕ) → not b ≡ false → CountedKept (completed (stateIn mainframe c₁ w r₁ m₁)) n v c₂ w₂ r₁ m₂ x₂
+          → CountedKept (arrive mainframe (stateIn mainframe c w r m) p) n v c₂ w₂ r₁ m₂ x₂
+      last-completes n v c₂ w₂ m₂ x₂ z e =
           let completing : completed (stateIn mainframe c₁ w r₁ m₁) ≡ arrive mainframe s p =
           ap (λ (t : State). completed t) (h .is) ∙ sym (arrive-completes s p (sym answer-is ∙ not-false b z)) in
           record {
             counted =
                 record {
                   applied = e .counted .applied ∙ ap (λ (f : Fetches). f .count) completing;
+                  moved-is = e .counted .moved-is ∙ ap (λ (f : Fetches). f .words) completing;
                   areas = record { lent = e .counted .areas .lent; is = e .counted .areas .is ∙ ap (λ (f : Fetches). f .after) completing };
                 };
             kept = e .kept;

@@ -9,7 +9,7 @@ use borrow.Author.Tests.{not-true, not-false}
 use borrow.Author.Needs.{needs}
 use Rattle.limits.specs.inner.Sizes.{markArea}
 use Rattle.rules.specs.State.{mainframe, State}
-use Rattle.rules.specs.Steps.{roundDone, Fetches, collected, wantsCollection}
+use Rattle.rules.specs.Steps.{roundDone, Fetches, noneFetched, collected, wantsCollection}
 use Rattle.layout.specs.Areas.{stateIn}
 use Rattle.layout.specs.inner.Needed.{Lent, Ready}
 use Rattle.layout.specs.inner.Marks.{wishMark}
@@ -19,7 +19,7 @@ use Rattle.step_collect.specs.inner.Effects.{CountedAs, CountedKept}
 use Rattle.step_barrier.specs.inner.Needed.{RoundComplete, CompleteKept, RoundThere}
 use Rattle.step_barrier.specs.inner.Effects.{RoundDone, completed}
 
-completed-plain : (s : State) → wantsCollection s ≡ false → completed s ≡ record { after = roundDone s; count = 0 }
+completed-plain : (s : State) → wantsCollection s ≡ false → completed s ≡ noneFetched (roundDone s)
 unfolding completed
 completed-plain s e = rw e
 
@@ -44,7 +44,7 @@ module _ (c w r m c₁ w₁ m₁ : List ℕ) (h : RoundComplete c w r m) (d : Ro
     unfolding wantsCollection roundDone
     wish-is = is ∙ ap (λ (x : ℕ). not (eqb x 0)) (sym (wanted-read c₁ w₁ r m₁) ∙ ap (λ (s : State). s .marks .wanted) (d .is r))
 
-    plain : b ≡ false → completed (stateIn mainframe c w r m) ≡ record { after = roundDone (stateIn mainframe c w r m); count = 0 }
+    plain : b ≡ false → completed (stateIn mainframe c w r m) ≡ noneFetched (roundDone (stateIn mainframe c w r m))
     plain e = completed-plain (stateIn mainframe c w r m) (sym wish-is ∙ e)
 
     with-collection : b ≡ true → collected mainframe (stateIn mainframe c₁ w₁ r m₁) ≡ completed (stateIn mainframe c w r m)
@@ -52,21 +52,23 @@ module _ (c w r m c₁ w₁ m₁ : List ℕ) (h : RoundComplete c w r m) (d : Ro
         ap (λ (s : State). collected mainframe s) (d .is r) ∙ sym (completed-collects (stateIn mainframe c w r m) (sym wish-is ∙ e))
 
     -- nothing is collected
-    plain-done : not b ≡ true → CountedAs (completed (stateIn mainframe c w r m)) 0 c₁ w₁ r m₁
+    plain-done : not b ≡ true → CountedAs (completed (stateIn mainframe c w r m)) 0 0 c₁ w₁ r m₁
     plain-done e =
         let none-wanted = plain (not-true b e) in
         record {
           applied = ap (λ (f : Fetches). f .count) (sym none-wanted);
+          moved-is = ap (λ (f : Fetches). f .words) (sym none-wanted);
           areas = record { lent = lent-after; is = d .is r ∙ ap (λ (f : Fetches). f .after) (sym none-wanted) };
         }
 
     -- garbage is collected
-    collecting-done : (x : ℕ) (c₂ w₂ m₂ : List ℕ) → not b ≡ false → CountedAs (collected mainframe (stateIn mainframe c₁ w₁ r m₁)) x c₂ w₂ r m₂
-        → CountedAs (completed (stateIn mainframe c w r m)) x c₂ w₂ r m₂
-    collecting-done x c₂ w₂ m₂ t e =
+    collecting-done : (x v : ℕ) (c₂ w₂ m₂ : List ℕ) → not b ≡ false → CountedAs (collected mainframe (stateIn mainframe c₁ w₁ r m₁)) x v c₂ w₂ r m₂
+        → CountedAs (completed (stateIn mainframe c w r m)) x v c₂ w₂ r m₂
+    collecting-done x v c₂ w₂ m₂ t e =
         let wish = with-collection (not-false b t) in
         record {
           applied = e .applied ∙ ap (λ (f : Fetches). f .count) wish;
+          moved-is = e .moved-is ∙ ap (λ (f : Fetches). f .words) wish;
           areas = record { lent = e .areas .lent; is = e .areas .is ∙ ap (λ (f : Fetches). f .after) wish };
         }
 
@@ -83,12 +85,12 @@ module _ (c w r m x c₁ w₁ m₁ : List ℕ) (h : CompleteKept c w r m x) (d :
 
   module _ (b : Bool) (is : b ≡ not (eqb (wishMark m₁) 0)) where
     -- nothing is collected
-    pub complete-plain : not b ≡ true → CountedKept (completed (stateIn mainframe c w r m)) 0 c₁ w₁ r m₁ x
-    complete-plain e = record { counted = plain-done c w r m c₁ w₁ m₁ (h .complete) d b is e; kept = h .kept c₁ w₁ m₁ d }
+    pub complete-plain : (n v : ℕ) → not b ≡ true → (n ≡ 0) × (v ≡ 0) → CountedKept (completed (stateIn mainframe c w r m)) n v c₁ w₁ r m₁ x
+    complete-plain n v e z = rw (z .0, z .1) (record { counted = plain-done c w r m c₁ w₁ m₁ (h .complete) d b is e; kept = h .kept c₁ w₁ m₁ d })
 
     -- garbage is collected
-    pub complete-collects : (n : ℕ) (c₂ w₂ m₂ x₂ : List ℕ) → not b ≡ false → CountedKept (collected mainframe (stateIn mainframe c₁ w₁ r m₁)) n c₂ w₂ r m₂ x₂
-        → CountedKept (completed (stateIn mainframe c w r m)) n c₂ w₂ r m₂ x₂
-    complete-collects n c₂ w₂ m₂ x₂ t e = record { counted = collecting-done c w r m c₁ w₁ m₁ (h .complete) d b is n c₂ w₂ m₂ t (e .counted); kept = e .kept }
+    pub complete-collects : (n v : ℕ) (c₂ w₂ m₂ x₂ : List ℕ) → not b ≡ false → CountedKept (collected mainframe (stateIn mainframe c₁ w₁ r m₁)) n v c₂ w₂ r m₂ x₂
+        → CountedKept (completed (stateIn mainframe c w r m)) n v c₂ w₂ r m₂ x₂
+    complete-collects n v c₂ w₂ m₂ x₂ t e = record { counted = collecting-done c w r m c₁ w₁ m₁ (h .complete) d b is n v c₂ w₂ m₂ t (e .counted); kept = e .kept }
 
 pub ruleset complete-laws = (round-there, wish-there, complete-plain, complete-ready, complete-collects, needs)

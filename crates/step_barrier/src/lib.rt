@@ -24,9 +24,10 @@ use layout::marks::put_wanted;
 use layout::put_clock;
 use layout::wide;
 use limits::PROCESSOR_LIMIT;
+use step_collect::Moved;
 
 // Arrive: closes the interval; the barrier's clock joins the processor's; the processor is marked. When the last processor arrives the
-// round is completed. Yields how many records were applied then.
+// round is completed. Yields how many records were applied then, and how many words they set.
 pub fn arrive(
     p: ProcessorId,
     clocks: &mut [u8],
@@ -34,16 +35,23 @@ pub fn arrive(
     records: &mut [u8],
     marks: &mut [u8],
     index: &mut [u32],
-) -> u32
+) -> Moved
     requires { ⌜ ArrivesKept (now clocks) (now words) (now records) (now marks) (p .0) (now index) ⌝ }
-    ensures { λ r. ⌜ CountedKept (arrive mainframe (stateIn mainframe (now (clocks .entry)) (now (words .entry)) (now (records .entry)) (now (marks .entry))) (p .0)) r (now (clocks .exit)) (now (words .exit)) (now (records .exit)) (now (marks .exit)) (now (index .exit)) ⌝ }
+    ensures { λ r. ⌜ CountedKept (arrive mainframe (stateIn mainframe (now (clocks .entry)) (now (words .entry)) (now (records .entry)) (now (marks .entry))) (p .0)) (r .count) (r .words) (now (clocks .exit)) (now (words .exit)) (now (records .exit)) (now (marks .exit)) (now (index .exit)) ⌝ }
 {
     let last = one_missing(marks);
     at_barrier(p, clocks, words, records, marks);
     if !last {
-        return 0;
+        return nothing();
     }
     complete_round(clocks, words, records, marks, index)
+}
+
+// Where nothing was fetched.
+fn nothing() -> Moved
+    ensures { λ r. ⌜ (r .count ≡ 0) × (r .words ≡ 0) ⌝ }
+{
+    Moved { count: 0, words: 0 }
 }
 
 // Whether all processors but one have arrived. Every mark is counted, those of absent processors too, which are 0: one loop without a
@@ -88,20 +96,20 @@ fn at_barrier(
     mark_arrived(marks, p);
 }
 
-// Completes a round, and collects garbage if that is wanted. Yields how many records were applied.
+// Completes a round, and collects garbage if that is wanted. Yields how many records were applied, and how many words they set.
 fn complete_round(
     clocks: &mut [u8],
     words: &mut [u32],
     records: &[u8],
     marks: &mut [u8],
     index: &mut [u32],
-) -> u32
+) -> Moved
     requires { ⌜ CompleteKept (now clocks) (now words) (now records) (now marks) (now index) ⌝ }
-    ensures { λ r. ⌜ CountedKept (completed (stateIn mainframe (now (clocks .entry)) (now (words .entry)) (now (records .entry)) (now (marks .entry)))) r (now (clocks .exit)) (now (words .exit)) (now (records .entry)) (now (marks .exit)) (now (index .exit)) ⌝ }
+    ensures { λ r. ⌜ CountedKept (completed (stateIn mainframe (now (clocks .entry)) (now (words .entry)) (now (records .entry)) (now (marks .entry)))) (r .count) (r .words) (now (clocks .exit)) (now (words .exit)) (now (records .entry)) (now (marks .exit)) (now (index .exit)) ⌝ }
 {
     round_done(clocks, words, marks);
     if !is_wanted(marks) {
-        return 0;
+        return nothing();
     }
     step_collect::collect(clocks, words, records, marks, index)
 }

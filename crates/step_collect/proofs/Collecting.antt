@@ -8,9 +8,9 @@ use lib.ListN.{length}
 use mir.Syntax.{w32}
 use mir.Val.{Fits}
 use borrow.Author.Needs.{needs}
-use Rattle.limits.specs.Limits.{pageLimit, processorLimit, recordLimit}
+use Rattle.limits.specs.Limits.{pageLimit, pageWidth, processorLimit, recordLimit}
 use Rattle.limits.specs.inner.Sizes.{keyArea, markArea}
-use Rattle.rules.specs.Fetch.{fetched, fetchCount}
+use Rattle.rules.specs.Fetch.{fetched, fetchCount, fetchWords}
 use Rattle.rules.specs.State.{mainframe, Counts, State}
 use Rattle.rules.specs.Steps.{Fetches, pagesFetched, allFetched}
 use Rattle.rules.proofs.inorder.Facts.{InOrder}
@@ -54,7 +54,7 @@ same-counts c c′ w w′ r r′ m = refl
 -- ---- fetch_pages
 
 -- processor p has fetched the first g pages
-pub record PagesFetching (c₀ w₀ r m : List ℕ) (p n : ℕ) (c w x : List ℕ) (count g : ℕ) : Type 0 where
+pub record PagesFetching (c₀ w₀ r m : List ℕ) (p n : ℕ) (c w x : List ℕ) (count moved g : ℕ) : Type 0 where
   pub ready : Ready c w r m
   pub kept : IndexKept c r m x
   pub from : 1 ≤ p
@@ -64,7 +64,9 @@ pub record PagesFetching (c₀ w₀ r m : List ℕ) (p n : ℕ) (c w x : List �
   pub upto : g ≤ n
   pub holds : stateIn mainframe c w r m ≡ pagesFetched mainframe (stateIn mainframe c₀ w₀ r m) p g .after
   pub counted : count ≡ pagesFetched mainframe (stateIn mainframe c₀ w₀ r m) p g .count
+  pub moved-is : moved ≡ pagesFetched mainframe (stateIn mainframe c₀ w₀ r m) p g .words
   pub few : count ≤ recordLimit * g
+  pub moved-few : moved ≤ pageWidth * count
 
 module _ (c w r m : List ℕ) (p : ℕ) (x : List ℕ) (h : ProcessorFetches c w r m p x) where
   -- the marks have their size
@@ -72,7 +74,7 @@ module _ (c w r m : List ℕ) (p : ℕ) (x : List ℕ) (h : ProcessorFetches c w
   pages-marks = h .ready .lent .marks
 
   -- no page is fetched yet
-  pub pages-begin : (n : ℕ) → (n ≡ pageCount m) × (n < 256) → PagesFetching c w r m p n c w x 0 0
+  pub pages-begin : (n : ℕ) → (n ≡ pageCount m) × (n < 256) → PagesFetching c w r m p n c w x 0 0 0
   unfolding pagesFetched mainframe
   pages-begin n e =
       let is : n ≡ stateIn mainframe c w r m .counts .pages = e .0 ∙ sym (pages-read c w r m) in
@@ -86,10 +88,12 @@ module _ (c w r m : List ℕ) (p : ℕ) (x : List ℕ) (h : ProcessorFetches c w
         upto = omega arith;
         holds = refl;
         counted = refl;
+        moved-is = refl;
         few = omega arith;
+        moved-few = omega arith;
       }
 
-module _ (c₀ w₀ r m : List ℕ) (p n : ℕ) (c w x : List ℕ) (count g : ℕ) (t : PagesFetching c₀ w₀ r m p n c w x count g) where
+module _ (c₀ w₀ r m : List ℕ) (p n : ℕ) (c w x : List ℕ) (count moved g : ℕ) (t : PagesFetching c₀ w₀ r m p n c w x count moved g) where
   page-fetchable : g < n → Fetchable c w r m p g
   page-fetchable b =
       record {
@@ -104,7 +108,7 @@ module _ (c₀ w₀ r m : List ℕ) (p n : ℕ) (c w x : List ℕ) (count g : �
   pub pages-next : g < n → FetchableKept c w r m p g x
   pages-next b = record { fetchable = page-fetchable b; kept = t .kept }
 
-  module _ (c′ w′ : List ℕ) (y : ℕ) (x′ : List ℕ) (skips : ℕ) (b : g < n) (k : BroughtKept c w r m p g c′ w′ y x′ skips) where
+  module _ (c′ w′ : List ℕ) (y : ℕ) (x′ : List ℕ) (skips v : ℕ) (b : g < n) (k : BroughtKept c w r m p g c′ w′ y x′ skips v) where
     few-more : y ≤ recordLimit
     few-more = fetch-few c w r m p g (page-fetchable b) c′ w′ y (k .brought)
 
@@ -112,8 +116,12 @@ module _ (c₀ w₀ r m : List ℕ) (p n : ℕ) (c w x : List ℕ) (count g : �
     pub pages-fit : Fits w32 (count + y)
     pages-fit = omega (arith, t .few, t .few-pages, b, few-more)
 
+    -- so do the words
+    pub pages-words-fit : Fits w32 (moved + v)
+    pages-words-fit = omega (arith, t .few, t .moved-few, t .few-pages, b, few-more, k .moved-few)
+
     -- one page more is fetched
-    pub pages-more : PagesFetching c₀ w₀ r m p n c′ w′ x′ (count + y) (g + 1)
+    pub pages-more : PagesFetching c₀ w₀ r m p n c′ w′ x′ (count + y) (moved + v) (g + 1)
     unfolding pagesFetched
     pages-more =
         let counts : stateIn mainframe c′ w′ r m .counts ≡ stateIn mainframe c w r m .counts = same-counts c c′ w w′ r r m in
@@ -131,25 +139,30 @@ module _ (c₀ w₀ r m : List ℕ) (p n : ℕ) (c w x : List ℕ) (count g : �
           upto = omega (arith, b);
           holds = rw (add-one g) (k .brought .holds ∙ ap (λ (s : State). fetched mainframe s p g) (t .holds));
           counted = rw (add-one g) (ap₂ _+_ (t .counted) (k .brought .counted ∙ ap (λ (s : State). fetchCount mainframe s p g) (t .holds)));
+          moved-is = rw (add-one g) (ap₂ _+_ (t .moved-is) (k .moved-is ∙ ap (λ (s : State). fetchWords mainframe s p g) (t .holds)));
           few = omega (arith, t .few, few-more);
+          moved-few = omega (arith, t .moved-few, k .moved-few);
         }
 
   -- all are
-  pub pages-end : n ≤ g → n ≡ pageCount m → CountedKept (pagesFetched mainframe (stateIn mainframe c₀ w₀ r m) p (pageCount m)) count c w r m x
+  pub pages-end : n ≤ g → n ≡ pageCount m → CountedKept (pagesFetched mainframe (stateIn mainframe c₀ w₀ r m) p (pageCount m)) count moved c w r m x
   pages-end b e =
       let is : g ≡ pageCount m = omega (arith, b, t .upto, e) in
       record {
-        counted = record { applied = rw (← is) (t .counted); areas = record { lent = t .ready .lent; is = rw (← is) (t .holds) } };
+        counted = record { applied = rw (← is) (t .counted); moved-is = rw (← is) (t .moved-is); areas = record { lent = t .ready .lent; is = rw (← is) (t .holds) } };
         kept = t .kept;
       }
 
   pub pages-few : n ≤ g → count ≤ keyArea
   pages-few b = omega (arith, t .few, t .few-pages, t .upto, b)
 
+  pub pages-words-few : n ≤ g → moved ≤ pageWidth * count
+  pages-words-few b = t .moved-few
+
 -- ---- fetch_all
 
 -- the first k processors have fetched every page
-pub record AllFetching (c₀ w₀ r m : List ℕ) (n : ℕ) (c w x : List ℕ) (count k : ℕ) : Type 0 where
+pub record AllFetching (c₀ w₀ r m : List ℕ) (n : ℕ) (c w x : List ℕ) (count moved k : ℕ) : Type 0 where
   pub ready : Ready c w r m
   pub kept : IndexKept c r m x
   pub processors : n ≡ stateIn mainframe c w r m .counts .processors
@@ -157,7 +170,9 @@ pub record AllFetching (c₀ w₀ r m : List ℕ) (n : ℕ) (c w x : List ℕ) (
   pub upto : k ≤ n
   pub holds : stateIn mainframe c w r m ≡ allFetched mainframe (stateIn mainframe c₀ w₀ r m) k .after
   pub counted : count ≡ allFetched mainframe (stateIn mainframe c₀ w₀ r m) k .count
+  pub moved-is : moved ≡ allFetched mainframe (stateIn mainframe c₀ w₀ r m) k .words
   pub few : count ≤ keyArea * k
+  pub moved-few : moved ≤ pageWidth * count
 
 module _ (c w r m x : List ℕ) (h : ReadyKept c w r m x) where
   -- the marks have their size
@@ -165,7 +180,7 @@ module _ (c w r m x : List ℕ) (h : ReadyKept c w r m x) where
   all-marks = h .ready .lent .marks
 
   -- no processor has fetched yet
-  pub all-begin : (n : ℕ) → (n ≡ processorCount m) × (n < 256) → AllFetching c w r m n c w x 0 0
+  pub all-begin : (n : ℕ) → (n ≡ processorCount m) × (n < 256) → AllFetching c w r m n c w x 0 0 0
   unfolding allFetched mainframe
   all-begin n e =
       let is : n ≡ stateIn mainframe c w r m .counts .processors = e .0 ∙ sym (processors-read c w r m) in
@@ -177,19 +192,25 @@ module _ (c w r m x : List ℕ) (h : ReadyKept c w r m x) where
         upto = omega arith;
         holds = refl;
         counted = refl;
+        moved-is = refl;
         few = omega arith;
+        moved-few = omega arith;
       }
 
-module _ (c₀ w₀ r m : List ℕ) (n : ℕ) (c w x : List ℕ) (count k : ℕ) (t : AllFetching c₀ w₀ r m n c w x count k) where
+module _ (c₀ w₀ r m : List ℕ) (n : ℕ) (c w x : List ℕ) (count moved k : ℕ) (t : AllFetching c₀ w₀ r m n c w x count moved k) where
   -- the next processor can fetch
   pub all-next : k < n → ProcessorFetches c w r m (k + 1) x
   all-next b = record { ready = t .ready; kept = t .kept; from = omega arith; to = omega (arith, b, t .processors) }
 
-  module _ (c′ w′ : List ℕ) (y : ℕ) (x′ : List ℕ) (b : k < n) (d : y ≤ keyArea)
-      (e : CountedKept (pagesFetched mainframe (stateIn mainframe c w r m) (k + 1) (pageCount m)) y c′ w′ r m x′) where
+  module _ (c′ w′ : List ℕ) (y v : ℕ) (x′ : List ℕ) (b : k < n) (d : y ≤ keyArea) (few : v ≤ pageWidth * y)
+      (e : CountedKept (pagesFetched mainframe (stateIn mainframe c w r m) (k + 1) (pageCount m)) y v c′ w′ r m x′) where
     -- the counts fit
     pub all-fit : Fits w32 (count + y)
     all-fit = omega (arith, t .few, t .few-processors, b, d)
+
+    -- so do the words
+    pub all-words-fit : Fits w32 (moved + v)
+    all-words-fit = omega (arith, t .few, t .moved-few, t .few-processors, b, d, few)
 
     counts : stateIn mainframe c′ w′ r m .counts ≡ stateIn mainframe c w r m .counts
     counts = same-counts c c′ w w′ r r m
@@ -198,7 +219,7 @@ module _ (c₀ w₀ r m : List ℕ) (n : ℕ) (c w x : List ℕ) (count k : ℕ)
     pages = sym (pages-read c₀ w₀ r m)
 
     -- one processor more has
-    pub all-more : AllFetching c₀ w₀ r m n c′ w′ x′ (count + y) (k + 1)
+    pub all-more : AllFetching c₀ w₀ r m n c′ w′ x′ (count + y) (moved + v) (k + 1)
     unfolding allFetched
     all-more =
         let same : pagesFetched mainframe (stateIn mainframe c w r m) (k + 1) (pageCount m)
@@ -212,7 +233,9 @@ module _ (c₀ w₀ r m : List ℕ) (n : ℕ) (c w x : List ℕ) (count k : ℕ)
           upto = omega (arith, b);
           holds = rw (add-one k) (e .counted .areas .is ∙ ap (λ (f : Fetches). f .after) same);
           counted = rw (add-one k) (ap₂ _+_ (t .counted) (e .counted .applied ∙ ap (λ (f : Fetches). f .count) same));
+          moved-is = rw (add-one k) (ap₂ _+_ (t .moved-is) (e .counted .moved-is ∙ ap (λ (f : Fetches). f .words) same));
           few = omega (arith, t .few, d);
+          moved-few = omega (arith, t .moved-few, few);
         }
       where
         after : InOrder mainframe (stateIn mainframe c′ w′ r m)
@@ -221,12 +244,12 @@ module _ (c₀ w₀ r m : List ℕ) (n : ℕ) (c w x : List ℕ) (count k : ℕ)
             (pages-kept (stateIn mainframe c w r m) (k + 1) (pageCount m) (t .ready .in-order) (omega arith) (omega (arith, b, t .processors)) (omega (arith, pages-read c w r m)) .0)
 
   -- all have
-  pub all-end : n ≤ k → n ≡ processorCount m → CountedKept (allFetched mainframe (stateIn mainframe c₀ w₀ r m) (processorCount m)) count c w r m x
+  pub all-end : n ≤ k → n ≡ processorCount m → CountedKept (allFetched mainframe (stateIn mainframe c₀ w₀ r m) (processorCount m)) count moved c w r m x
   all-end b e =
       let is : k ≡ processorCount m = omega (arith, b, t .upto, e) in
       record {
-        counted = record { applied = rw (← is) (t .counted); areas = record { lent = t .ready .lent; is = rw (← is) (t .holds) } };
+        counted = record { applied = rw (← is) (t .counted); moved-is = rw (← is) (t .moved-is); areas = record { lent = t .ready .lent; is = rw (← is) (t .holds) } };
         kept = t .kept;
       }
 
-pub ruleset fetches-laws = (pages-marks, pages-begin, pages-next, pages-fit, pages-more, pages-end, pages-few, all-marks, all-begin, all-next, all-fit, all-more, all-end, needs)
+pub ruleset fetches-laws = (pages-marks, pages-begin, pages-next, pages-fit, pages-words-fit, pages-more, pages-end, pages-few, pages-words-few, all-marks, all-begin, all-next, all-fit, all-words-fit, all-more, all-end, needs)

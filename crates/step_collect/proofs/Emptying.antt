@@ -64,14 +64,14 @@ fetched-emptiable c w r m h =
       marks = h .lent .marks;
     }
 
-module _ (c w r m x : List ℕ) (h : ReadyKept c w r m x) (n : ℕ) (c₁ w₁ x₁ : List ℕ)
-    (f : CountedKept (allFetched mainframe (stateIn mainframe c w r m) (processorCount m)) n c₁ w₁ r m x₁) where
+module _ (c w r m x : List ℕ) (h : ReadyKept c w r m x) (n moved : ℕ) (c₁ w₁ x₁ : List ℕ)
+    (f : CountedKept (allFetched mainframe (stateIn mainframe c w r m) (processorCount m)) n moved c₁ w₁ r m x₁) where
   -- the index has its size
   pub index-long : length x₁ ≡ indexArea
   index-long = f .kept .ranked .long
 
   -- and then all is collected
-  pub collected-done : (c₂ m₂ x₂ : List ℕ) → Emptied c₁ m c₂ m₂ → x₂ ≡ forgotten x₁ → CountedKept (collected mainframe (stateIn mainframe c w r m)) n c₂ w₁ r m₂ x₂
+  pub collected-done : (c₂ m₂ x₂ : List ℕ) → Emptied c₁ m c₂ m₂ → x₂ ≡ forgotten x₁ → CountedKept (collected mainframe (stateIn mainframe c w r m)) n moved c₂ w₁ r m₂ x₂
   unfolding collected emptied
   collected-done c₂ m₂ x₂ e ex =
       let all : processorCount m ≡ stateIn mainframe c w r m .counts .processors = sym (processors-read c w r m) in
@@ -79,6 +79,7 @@ module _ (c w r m x : List ℕ) (h : ReadyKept c w r m x) (n : ℕ) (c₁ w₁ x
         counted =
             record {
               applied = f .counted .applied ∙ ap (λ (k : ℕ). allFetched mainframe (stateIn mainframe c w r m) k .count) all;
+              moved-is = f .counted .moved-is ∙ ap (λ (k : ℕ). allFetched mainframe (stateIn mainframe c w r m) k .words) all;
               areas =
                   record {
                     lent = record { clocks = e .clocks; words = f .counted .areas .lent .words; records = f .counted .areas .lent .records; marks = e .marks };

@@ -4,7 +4,7 @@ ghost use mathlib.Core.Path.{_≡_};
 ghost use Prim.Native.Nat.{_*_, _≤_};
 ghost use lib.ListN.{length, replicate};
 ghost use lib.Seq.{sets};
-ghost use Rattle.limits.specs.Limits.{intervalLimit};
+ghost use Rattle.limits.specs.Limits.{intervalLimit, pageWidth};
 ghost use Rattle.limits.specs.inner.Sizes.{clockWidth, keyArea};
 ghost use Rattle.rules.specs.State.{mainframe};
 ghost use Rattle.rules.specs.Steps.{pagesFetched, allFetched, collected};
@@ -26,47 +26,59 @@ use limits::CLOCK_WIDTH;
 use limits::FIRST_INTERVAL_ROW;
 use limits::INTERVAL_LIMIT;
 
+// How many records fetches applied, and how many words those set.
+pub struct Moved {
+    pub count: u32,
+    pub words: u32,
+}
+
 // Garbage collection: every processor, upwards, fetches every page, upwards; then the records go, and none is ranked. Yields how many records
-// were applied.
+// were applied, and how many words they set.
 pub fn collect(
     clocks: &mut [u8],
     words: &mut [u32],
     records: &[u8],
     marks: &mut [u8],
     index: &mut [u32],
-) -> u32
+) -> Moved
     requires { ⌜ ReadyKept (now clocks) (now words) (now records) (now marks) (now index) ⌝ }
-    ensures { λ r. ⌜ CountedKept (collected mainframe (stateIn mainframe (now (clocks .entry)) (now (words .entry)) (now (records .entry)) (now (marks .entry)))) r (now (clocks .exit)) (now (words .exit)) (now (records .entry)) (now (marks .exit)) (now (index .exit)) ⌝ }
+    ensures { λ r. ⌜ CountedKept (collected mainframe (stateIn mainframe (now (clocks .entry)) (now (words .entry)) (now (records .entry)) (now (marks .entry)))) (r .count) (r .words) (now (clocks .exit)) (now (words .exit)) (now (records .entry)) (now (marks .exit)) (now (index .exit)) ⌝ }
 {
-    let count = fetch_all(clocks, words, records, marks, index);
+    let moved = fetch_all(clocks, words, records, marks, index);
     empty(clocks, marks);
     fetch_index::forget(index);
-    count
+    moved
 }
 
-// Every processor, upwards, fetches every page. Yields how many records were applied.
+// Every processor, upwards, fetches every page. Yields how many records were applied, and how many words they set.
 fn fetch_all(
     clocks: &mut [u8],
     words: &mut [u32],
     records: &[u8],
     marks: &[u8],
     index: &mut [u32],
-) -> u32
+) -> Moved
     requires { ⌜ ReadyKept (now clocks) (now words) (now records) (now marks) (now index) ⌝ }
-    ensures { λ r. ⌜ CountedKept (allFetched mainframe (stateIn mainframe (now (clocks .entry)) (now (words .entry)) (now (records .entry)) (now (marks .entry))) (processorCount (now (marks .entry)))) r (now (clocks .exit)) (now (words .exit)) (now (records .entry)) (now (marks .entry)) (now (index .exit)) ⌝ }
+    ensures { λ r. ⌜ CountedKept (allFetched mainframe (stateIn mainframe (now (clocks .entry)) (now (words .entry)) (now (records .entry)) (now (marks .entry))) (processorCount (now (marks .entry)))) (r .count) (r .words) (now (clocks .exit)) (now (words .exit)) (now (records .entry)) (now (marks .entry)) (now (index .exit)) ⌝ }
     ensures ready { λ _. ⌜ Ready (now (clocks .exit)) (now (words .exit)) (now (records .entry)) (now (marks .entry)) ⌝ }
 {
     let n = processor_count(marks);
     let mut count: u32 = 0;
+    let mut moved: u32 = 0;
     let mut k: usize = 0;
     while k < n {
-        count = count + fetch_pages(ProcessorId(k + 1), clocks, words, records, marks, index);
+        let more = fetch_pages(ProcessorId(k + 1), clocks, words, records, marks, index);
+        count = count + more.count;
+        moved = moved + more.words;
         k = k + 1;
     }
-    count
+    Moved {
+        count,
+        words: moved,
+    }
 }
 
-// One processor fetches every page, upwards. Yields how many records were applied.
+// One processor fetches every page, upwards. Yields how many records were applied, and how many words they set.
 fn fetch_pages(
     p: ProcessorId,
     clocks: &mut [u8],
@@ -74,20 +86,26 @@ fn fetch_pages(
     records: &[u8],
     marks: &[u8],
     index: &mut [u32],
-) -> u32
+) -> Moved
     requires { ⌜ ProcessorFetches (now clocks) (now words) (now records) (now marks) (p .0) (now index) ⌝ }
-    ensures { λ r. ⌜ CountedKept (pagesFetched mainframe (stateIn mainframe (now (clocks .entry)) (now (words .entry)) (now (records .entry)) (now (marks .entry))) (p .0) (pageCount (now (marks .entry)))) r (now (clocks .exit)) (now (words .exit)) (now (records .entry)) (now (marks .entry)) (now (index .exit)) ⌝ }
-    ensures few { λ r. ⌜ r ≤ keyArea ⌝ }
+    ensures { λ r. ⌜ CountedKept (pagesFetched mainframe (stateIn mainframe (now (clocks .entry)) (now (words .entry)) (now (records .entry)) (now (marks .entry))) (p .0) (pageCount (now (marks .entry)))) (r .count) (r .words) (now (clocks .exit)) (now (words .exit)) (now (records .entry)) (now (marks .entry)) (now (index .exit)) ⌝ }
+    ensures few { λ r. ⌜ r .count ≤ keyArea ⌝ }
+    ensures moved { λ r. ⌜ r .words ≤ pageWidth * r .count ⌝ }
 {
     let n = page_count(marks);
     let mut count: u32 = 0;
+    let mut moved: u32 = 0;
     let mut g: usize = 0;
     while g < n {
         let fetched = fetch::fetch_page(p, PageId(g), clocks, words, records, marks, index);
         count = count + fetched.applied;
+        moved = moved + fetched.words;
         g = g + 1;
     }
-    count
+    Moved {
+        count,
+        words: moved,
+    }
 }
 
 // The records go, all clocks become zeros and the wish clears.

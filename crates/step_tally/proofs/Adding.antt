@@ -6,7 +6,7 @@ use mathlib.Core.List.{List}
 use lib.ListN.{length, getD, set, length-set}
 use lib.Seq.{getD-set-other}
 use borrow.Author.Needs.{needs}
-use Rattle.limits.specs.Limits.{tallyLimit}
+use Rattle.limits.specs.Limits.{tallyLimit, wordValues}
 use Rattle.limits.specs.inner.Sizes.{firstTally, wordArea}
 use Rattle.rules.specs.State.{mainframe, Shared, postedOf, addsOf}
 use Rattle.rules.specs.Tallies.{tallyAdded, tallyTotal}
@@ -47,11 +47,11 @@ module _ (w : List ℕ) (p t : ℕ) (there : TallyIn w p t) where
               (λ i a b. getD-set-other w at i x 0 (λ k. omega (arith, k, is, tally-at p t, b)))
               (ap (λ (j : ℕ). sharedIn mainframe (set w j x)) is
               ∙ ap (λ (y : ℕ). sharedIn mainframe (set w (tallyPlace mainframe p t) y)) sum
-              ∙ add-written w p t ((addsOf (sharedIn mainframe w) p t + v) % 4294967296) (there .words) (there .on-tally .from) (there .on-tally .to) (there .on-tally .tally));
+              ∙ add-written w p t ((addsOf (sharedIn mainframe w) p t + v) % wordValues) (there .words) (there .on-tally .from) (there .on-tally .to) (there .on-tally .tally));
         }
       where
-        sum : x ≡ (addsOf (sharedIn mainframe w) p t + v) % 4294967296
-        sum = e ∙ ap (λ (y : ℕ). (y + v) % 4294967296) (ap (λ (j : ℕ). getD w j 0) is ∙ sym (adds-read w p t (there .on-tally .from) (there .on-tally .to) (there .on-tally .tally)))
+        sum : x ≡ (addsOf (sharedIn mainframe w) p t + v) % wordValues
+        sum = e ∙ ap (λ (y : ℕ). (y + v) % wordValues) (ap (λ (j : ℕ). getD w j 0) is ∙ sym (adds-read w p t (there .on-tally .from) (there .on-tally .to) (there .on-tally .tally)))
 
     -- and the sum answered the total of the rules
     pub total-is : (x : ℕ) → x ≡ (getD w (firstTally + t) 0 + getD w at 0) % 2 ^ 32 → x ≡ tallyTotal (sharedIn mainframe w) p t
@@ -60,6 +60,6 @@ module _ (w : List ℕ) (p t : ℕ) (there : TallyIn w p t) where
         let first : tallyPlace mainframe 0 t ≡ firstTally + t = omega (arith, tally-at 0 t) in
         let posted : getD w (firstTally + t) 0 ≡ postedOf (sharedIn mainframe w) t = ap (λ (j : ℕ). getD w j 0) (sym first) ∙ sym (posted-read w t (there .on-tally .tally)) in
         let added : getD w at 0 ≡ addsOf (sharedIn mainframe w) p t = ap (λ (j : ℕ). getD w j 0) is ∙ sym (adds-read w p t (there .on-tally .from) (there .on-tally .to) (there .on-tally .tally)) in
-        e ∙ (λ i. (posted i + added i) % 4294967296)
+        e ∙ (λ i. (posted i + added i) % wordValues)
 
 pub ruleset tally-laws = (place-is, place-within, on-tally, add-place, total-place, add-done, total-is, needs)

@@ -10,7 +10,7 @@ use lib.Seq.{getD-set-same, getD-set-other}
 use borrow.Author.Needs.{needs}
 use Rattle.lists.specs.Tables.{total}
 use Rattle.lists.proofs.Tables.{total-same}
-use Rattle.limits.specs.Limits.{processorLimit, tallyLimit}
+use Rattle.limits.specs.Limits.{processorLimit, tallyLimit, wordValues}
 use Rattle.limits.specs.inner.Sizes.{firstTally, wordArea}
 use Rattle.rules.specs.State.{mainframe, postedOf, addsOf}
 use Rattle.rules.specs.Tallies.{totalAfter, posting}
@@ -108,7 +108,7 @@ module _ (w₀ w : List ℕ) (n t : ℕ) (now : PostedTo w₀ w n t) where
 
   same-total : t < tallyLimit → totalAfter (sharedIn mainframe w) n t ≡ totalAfter (sharedIn mainframe w₀) n t
   unfolding totalAfter
-  same-total more = λ i. (posted i + adds i) % 4294967296
+  same-total more = λ i. (posted i + adds i) % wordValues
     where
       posted : postedOf (sharedIn mainframe w) t ≡ postedOf (sharedIn mainframe w₀) t
       posted = posted-read w t more ∙ now .kept (tallyPlace mainframe 0 t) (λ u l e. omega (arith, l, e, tally-at 0 t, tally-at 0 u)) ∙ sym (posted-read w₀ t more)

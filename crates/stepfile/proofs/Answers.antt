@@ -21,10 +21,10 @@ use Rattle.stepfile.specs.declared.Taken.{Taken}
 use Rattle.file_held.specs.inner.Needed.{Holding}
 use Rattle.stepfile.specs.inner.Needed.{ChunkFed, Feedable, FeedableIs, takenAs}
 use Rattle.stepfile.proofs.Cutting.{cut-lines, cut-reached, started}
-use Rattle.stepfile.proofs.Sound.{few-held, few-records, holding-there, room-there}
+use Rattle.stepfile.proofs.Sound.{few-held, few-records, few-words, holding-there, room-there}
 
 -- no byte has been fed
-pub nothing-fed : Started (record { number = 0; stopped = false; held = 0; bytes = replicate fileRecordWidth 0 })
+pub nothing-fed : Started (record { number = 0; stopped = false; held = 0; bytes = replicate fileRecordWidth 0; words = 0 })
 nothing-fed = record { reached = λ a₀. started a₀ }
 
 -- bytes behind which all is as it was are stored at the start
@@ -98,7 +98,7 @@ module _ (p : Progress) (chunk out : List ℕ) (e : FeedableIs true p (length ch
 
   -- what feeding on asks
   pub feedable-on : (ready : Bool) (c w r m : List ℕ) → p .stopped ≡ false → length (p .bytes) ≡ fileRecordWidth → OrderIs ready c w r m
-      → Feedable p (record { number = p .number; stopped = false; ready = ready; at = 0 }) chunk out c w r m
+      → Feedable p (record { number = p .number; stopped = false; ready = ready; at = 0; words = p .words }) chunk out c w r m
   feedable-on ready c w r m s long o =
       record {
         few = few-records p (length chunk) (length out) (sym (e .is));
@@ -108,6 +108,7 @@ module _ (p : Progress) (chunk out : List ℕ) (e : FeedableIs true p (length ch
         first = refl;
         room = room-there p (length chunk) (length out) (sym (e .is));
         order = o;
+        total = few-words p (length chunk) (length out) (sym (e .is));
       }
 
 pub ruleset answer-laws = (nothing-fed, not-fed, fed-as, feedable-there, fed-stopped, feedable-on, needs)

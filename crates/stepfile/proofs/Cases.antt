@@ -10,18 +10,18 @@ use Rattle.limits.specs.inner.Sizes.{clockArea, markArea, recordArea, wordArea}
 use Rattle.rules.specs.InOrder.{slotSize, inRange, countsInRange}
 use Rattle.rules.specs.Opening.{openingRefusal}
 use Rattle.rules.specs.Refusals.{Step, Answer}
-use Rattle.rules.specs.Runs.{answers}
+use Rattle.rules.specs.Runs.{answers, wordsMoved}
 use Rattle.rules.specs.State.{mainframe, State}
-use Rattle.rules.proofs.runs.Listing.{start, listing}
+use Rattle.rules.proofs.runs.Listing.{start, answering, listing}
 use Rattle.rules.proofs.runs.FromStart.{listing-a}
 use Rattle.layout.specs.Areas.{clockRows, wordPlaces, wordRows, markPlaces, sizesRight, Areas, areas, rightSizes}
 use Rattle.opening.specs.Promises.{openingOf, openRefusal, areasOpened}
 use Rattle.step_record.specs.Records.{stepFrom, stepsIn}
 use Rattle.lines.specs.Decimal.{digitsWithin, digits}
-use Rattle.lines.specs.Lines.{lineBytes}
+use Rattle.lines.specs.Lines.{lineBytes, wordsLine}
 use Rattle.file_record.specs.Records.{refusalLine, openingTaken, recordTaken}
 use Rattle.file_chunk.specs.Bytes.{heldOn, byteTaken, bytesTaken}
-use Rattle.stepfile.specs.Files.{answerLines, stepCount, endLine, openedBy, stepLines, fileLines}
+use Rattle.stepfile.specs.Files.{answerLines, stepCount, endLine, openedBy, stepAnswers, stepLines, fileLines}
 use Rattle.stepfile.specs.Feeding.{begun, after, lastLine}
 use Rattle.stepfile.specs.Promises.{progressOf, finishLine}
 use Rattle.stepfile.proofs.Whole.{whole-lines}
@@ -36,7 +36,7 @@ blank-sizes = refl
 
 -- all lines that feeding prints; who unfolds it unfolds what feeding computes with, but no step
 unfoldable fed : List ℕ → List ℕ
-unfolding blank areas after bytesTaken byteTaken heldOn recordTaken openingTaken openRefusal areasOpened rightSizes sizesRight clockRows wordPlaces wordRows markPlaces slotSize begun progressOf finishLine lastLine openingRefusal countsInRange inRange mainframe openingOf refusalLine lineBytes digits digitsWithin
+unfolding blank areas after bytesTaken byteTaken heldOn recordTaken openingTaken openRefusal areasOpened rightSizes sizesRight clockRows wordPlaces wordRows markPlaces slotSize begun progressOf finishLine lastLine openingRefusal countsInRange inRange mainframe openingOf refusalLine lineBytes wordsLine digits digitsWithin
 fed bytes = after blank bytes .lines ++ finishLine (progressOf (after blank bytes))
 
 -- ---- a file that ends before its opening, or within it: "0 15 0 0"
@@ -85,12 +85,28 @@ unfoldable lines-0-15 : List ℕ
 lines-0-15 = 48 ∷ 32 ∷ 48 ∷ 32 ∷ 48 ∷ 32 ∷ 48 ∷ 10 ∷ 49 ∷ 32 ∷ 49 ∷ 53 ∷ 32 ∷ 48 ∷ 32 ∷ 48 ∷ 10 ∷ []
 
 cut-record : fileLines cutRecord ≡ lines-0-15
-unfolding cutRecord fileLines stepLines stepCount endLine stepsIn answers answerLines openingRefusal countsInRange inRange mainframe openingOf refusalLine lineBytes digits digitsWithin lines-0-15
+unfolding cutRecord fileLines stepLines stepAnswers stepCount endLine stepsIn answers answerLines wordsMoved openingRefusal countsInRange inRange mainframe openingOf refusalLine lineBytes digits digitsWithin lines-0-15
 cut-record = refl
 
 cut-record-fed : fed cutRecord ≡ lines-0-15
 unfolding cutRecord fed lines-0-15
 cut-record-fed = refl
+
+-- ---- an opening alone: "0 0 0 0", "words 0"
+
+unfoldable openingAlone : List ℕ
+openingAlone = 0 ∷ 3 ∷ 1 ∷ 1 ∷ 0 ∷ 0 ∷ 0 ∷ 0 ∷ []
+
+unfoldable lines-0-words : List ℕ
+lines-0-words = 48 ∷ 32 ∷ 48 ∷ 32 ∷ 48 ∷ 32 ∷ 48 ∷ 10 ∷ 119 ∷ 111 ∷ 114 ∷ 100 ∷ 115 ∷ 32 ∷ 48 ∷ 10 ∷ []
+
+opening-alone : fileLines openingAlone ≡ lines-0-words
+unfolding openingAlone fileLines stepLines stepAnswers stepCount endLine stepsIn answers answerLines wordsMoved openingRefusal countsInRange inRange mainframe openingOf refusalLine lineBytes wordsLine digits digitsWithin lines-0-words
+opening-alone = refl
+
+opening-alone-fed : fed openingAlone ≡ lines-0-words
+unfolding openingAlone fed lines-0-words
+opening-alone-fed = refl
 
 -- ---- Listing A, a row a record
 
@@ -111,7 +127,7 @@ listingBytes =
     ∷ 5 ∷ 2 ∷ 0 ∷ 0 ∷ 0 ∷ 0 ∷ 0 ∷ 0
     ∷ []
 
--- "0 0 0 0" to "12 0 0 0", a row a line
+-- "0 0 0 0" to "12 0 0 0", then "words 1", a row a line
 unfoldable listingLines : List ℕ
 listingLines =
     48 ∷ 32 ∷ 48 ∷ 32 ∷ 48 ∷ 32 ∷ 48 ∷ 10
@@ -127,6 +143,7 @@ listingLines =
     ∷ 49 ∷ 48 ∷ 32 ∷ 54 ∷ 32 ∷ 48 ∷ 32 ∷ 48 ∷ 10
     ∷ 49 ∷ 49 ∷ 32 ∷ 48 ∷ 32 ∷ 48 ∷ 32 ∷ 48 ∷ 10
     ∷ 49 ∷ 50 ∷ 32 ∷ 48 ∷ 32 ∷ 48 ∷ 32 ∷ 48 ∷ 10
+    ∷ 119 ∷ 111 ∷ 114 ∷ 100 ∷ 115 ∷ 32 ∷ 49 ∷ 10
     ∷ []
 
 listing-state : openedBy listingBytes ≡ start 2 1 1
@@ -137,13 +154,19 @@ listing-steps : stepsIn (min (stepCount listingBytes) stepLimit) (drop fileRecor
 unfolding stepsIn stepFrom stepCount listingBytes listing
 listing-steps = refl
 
+listing-answers : stepAnswers listingBytes
+    ≡ answering 0 0 0 ∷ answering 0 0 0 ∷ answering 0 0 0 ∷ answering 0 0 0 ∷ answering 0 0 0 ∷ answering 7 0 0 ∷ answering 0 700 1 ∷ answering 0 700 0 ∷ answering 0 0 0
+    ∷ answering 6 0 0 ∷ answering 0 0 0 ∷ answering 0 0 0 ∷ []
+unfolding stepAnswers
+listing-answers =
+    ap (λ (s : State). answers mainframe s (stepsIn (min (stepCount listingBytes) stepLimit) (drop fileRecordWidth listingBytes))) listing-state
+    ∙ ap (λ (ts : List Step). answers mainframe (start 2 1 1) ts) listing-steps
+    ∙ listing-a
+
 -- the lines of the answers that the rules give (rules/proofs/FromStart.antt)
 listing-file : fileLines listingBytes ≡ listingLines
-unfolding fileLines stepLines stepCount endLine answerLines openingRefusal countsInRange inRange mainframe openingOf refusalLine lineBytes digits digitsWithin listingBytes listingLines
-listing-file =
-    ap (λ (s : State). refusalLine 0 0 ++ (answerLines 1 (answers mainframe s (stepsIn (min (stepCount listingBytes) stepLimit) (drop fileRecordWidth listingBytes))) ++ endLine listingBytes)) listing-state
-    ∙ ap (λ (ts : List Step). refusalLine 0 0 ++ (answerLines 1 (answers mainframe (start 2 1 1) ts) ++ endLine listingBytes)) listing-steps
-    ∙ ap (λ (xs : List Answer). refusalLine 0 0 ++ (answerLines 1 xs ++ endLine listingBytes)) listing-a
+unfolding fileLines stepLines stepAnswers stepCount endLine answerLines wordsMoved openingRefusal countsInRange inRange mainframe openingOf refusalLine lineBytes wordsLine digits digitsWithin listingBytes listingLines
+listing-file = ap (λ (xs : List Answer). refusalLine 0 0 ++ (answerLines 1 xs ++ endLine listingBytes (wordsMoved xs))) listing-answers
 
 -- and feeding its bytes prints them
 listing-fed : fed listingBytes ≡ listingLines

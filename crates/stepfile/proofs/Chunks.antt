@@ -43,6 +43,7 @@ module _ (p : Progress) (s : Stand) (chunk out c w r m : List ℕ) (h : Feedable
         within = omega arith;
         room = omega (arith, none-written, h .room);
         order = h .order;
+        total = omega (arith, ap (λ (x : Stand). x .number) (h .first), ap (λ (x : Stand). x .words) (h .first), h .total);
       }
 
   pub whole-taken : p .held ≡ 0 → (t : Taken) (out′ : List ℕ) (a′ : Areas) → ChunkFed (bytesTaken (standsAt s out (areas c w r m)) (drop 0 chunk)) (s .at) out t out′ a′
@@ -63,7 +64,7 @@ module _ (p : Progress) (s : Stand) (chunk out c w r m : List ℕ) (h : Feedable
   module _ (q : Held) (d : HeldAll (p .held) (p .bytes) chunk 0 q) where
     -- the chunk does not complete the record
     pub chunk-held : q .count < fileRecordWidth
-        → ChunkFed (bytesTaken (feedAt p (areas c w r m)) chunk) 0 out (record { progress = record { number = p .number; stopped = false; held = q .count; bytes = q .bytes }; fed = true; written = 0 }) out (areas c w r m)
+        → ChunkFed (bytesTaken (feedAt p (areas c w r m)) chunk) 0 out (record { progress = record { number = p .number; stopped = false; held = q .count; bytes = q .bytes; words = p .words }; fed = true; written = 0 }) out (areas c w r m)
     unfolding feedAt takenAs heldOn
     chunk-held l =
         let all : drop (q .next) chunk ≡ [] = drop-of-length-le chunk {i = q .next} (omega (arith, d .short l)) in
@@ -98,6 +99,7 @@ module _ (p : Progress) (s : Stand) (q : Held) (chunk out c w r m : List ℕ) (h
               within = omega arith;
               room = omega (arith, none-written p s chunk out c w r m (h .feedable), h .held .holds .holding .long, h .feedable .room);
               order = all .order;
+              total = all .total;
             };
         going = ap (λ (x : Stand). x .stopped) (h .feedable .first);
         eight = h .held .holds .holding .long;
@@ -111,6 +113,7 @@ module _ (p : Progress) (s : Stand) (q : Held) (chunk out c w r m : List ℕ) (h
           within = h .held .holds .within;
           room = omega (arith, none-written p s chunk out c w r m (h .feedable), k .near, k .kept .long, h .feedable .room);
           order = k .order;
+          total = k .total;
         }
 
     eight : q .count ≡ fileRecordWidth
@@ -176,6 +179,7 @@ begun-taken s bytes out c w r m s′ i out′ c′ w′ r′ m′ h k =
       kept = k .passing .kept;
       near = omega (arith, k .passing .near, h .eight);
       order = k .passing .able .order;
+      total = k .passing .able .total;
     }
   where
     none-left : (b : Bool) → s′ .stopped ≡ b → bytesTaken (standsAt s′ out′ (areas c′ w′ r′ m′)) (drop i bytes) ≡ standsAt s′ out′ (areas c′ w′ r′ m′)

@@ -1,5 +1,5 @@
 -- A file cut anywhere: what its parts lead to, one after the other, is what they lead to together. Assumes nothing.
-use Prim.Native.Nat.{ℕ, zero, suc, _+_, _-_, _≤_, _<_}
+use Prim.Native.Nat.{ℕ, zero, suc, _+_, _-_, _*_, _≤_, _<_}
 use native.Mathlib.Omega.{arith}
 use mathlib.Core.Path.{_≡_, refl, sym, ap, _∙_}
 use mathlib.Core.Bool.{Bool, true, false, cond}
@@ -9,8 +9,14 @@ use lib.Seq.{take-append-seam, drop-append-seam}
 use lib.Dec.{leb, eqb}
 use borrow.Author.Tests.{le-leb, lt-ltb, leb-true, eqb-false}
 use Rattle.limits.specs.Files.{fileRecordWidth, stepLimit}
+use Rattle.limits.specs.Limits.{wordValues}
 use Rattle.rules.specs.InOrder.{allZero}
-use Rattle.layout.specs.Areas.{Areas}
+use Rattle.rules.specs.Refusals.{Step, refusedAs, answer}
+use Rattle.rules.specs.State.{mainframe}
+use Rattle.rules.proofs.FewWords.{words-in-32-bits}
+use Rattle.layout.specs.Areas.{Areas, heldBy, rightSizes}
+use Rattle.engine.specs.Promises.{answerOf}
+use Rattle.step_record.specs.Records.{stepFrom}
 use Rattle.file_record.specs.Records.{Feed, openingTaken, stepTaken, tooManyTaken, recordTaken}
 use Rattle.file_chunk.specs.Bytes.{heldOn, byteTaken, bytesTaken}
 use Rattle.file_chunk.proofs.Bytes.{taken-together}
@@ -22,22 +28,22 @@ use Rattle.stepfile.specs.declared.Progress.{Progress}
 
 -- what stands, with these lines in front of its own
 unfoldable pub behind : List ℕ → Feed → Feed
-behind l f = record { number = f .number; held = f .held; stopped = f .stopped; areas = f .areas; lines = l ++ f .lines }
+behind l f = record { number = f .number; held = f .held; stopped = f .stopped; areas = f .areas; lines = l ++ f .lines; words = f .words }
 
 -- what stands, with nothing printed yet
 unfoldable pub unprinted : Feed → Feed
-unprinted f = record { number = f .number; held = f .held; stopped = f .stopped; areas = f .areas; lines = [] }
+unprinted f = record { number = f .number; held = f .held; stopped = f .stopped; areas = f .areas; lines = []; words = f .words }
 
 pub behind-own : (f : Feed) → behind (f .lines) (unprinted f) ≡ f
 unfolding behind unprinted
-behind-own f = ap (λ (l : List ℕ). record { number = f .number; held = f .held; stopped = f .stopped; areas = f .areas; lines = l }) (append-nil (f .lines))
+behind-own f = ap (λ (l : List ℕ). record { number = f .number; held = f .held; stopped = f .stopped; areas = f .areas; lines = l; words = f .words }) (append-nil (f .lines))
 
 module _ (l : List ℕ) (f : Feed) where
-  lines-behind : (number : ℕ) (stopped : Bool) (a : Areas) (x : List ℕ)
-      → _≡_ {A = Feed} (record { number = number; held = []; stopped = stopped; areas = a; lines = l ++ f .lines ++ x })
-      (record { number = number; held = []; stopped = stopped; areas = a; lines = l ++ (f .lines ++ x) })
-  lines-behind number stopped a x =
-      ap (λ (y : List ℕ). record { number = number; held = []; stopped = stopped; areas = a; lines = y }) (append-assoc l (f .lines) x)
+  lines-behind : (number : ℕ) (stopped : Bool) (a : Areas) (x : List ℕ) (words : ℕ)
+      → _≡_ {A = Feed} (record { number = number; held = []; stopped = stopped; areas = a; lines = l ++ f .lines ++ x; words = words })
+      (record { number = number; held = []; stopped = stopped; areas = a; lines = l ++ (f .lines ++ x); words = words })
+  lines-behind number stopped a x words =
+      ap (λ (y : List ℕ). record { number = number; held = []; stopped = stopped; areas = a; lines = y; words = words }) (append-assoc l (f .lines) x)
 
   record-behind : (bytes : List ℕ) → recordTaken (behind l f) bytes ≡ behind l (recordTaken f bytes)
   unfolding recordTaken openingTaken stepTaken tooManyTaken behind
@@ -45,9 +51,9 @@ module _ (l : List ℕ) (f : Feed) where
     where
       go : (a b : Bool) → cond a (openingTaken (behind l f) bytes) (cond b (stepTaken (behind l f) bytes) (tooManyTaken (behind l f)))
           ≡ behind l (cond a (openingTaken f bytes) (cond b (stepTaken f bytes) (tooManyTaken f)))
-      go true b = lines-behind _ _ _ _
-      go false true = lines-behind _ _ _ _
-      go false false = lines-behind _ _ _ _
+      go true b = lines-behind _ _ _ _ _
+      go false true = lines-behind _ _ _ _ _
+      go false false = lines-behind _ _ _ _ _
 
   byte-behind : (b : ℕ) → byteTaken (behind l f) b ≡ behind l (byteTaken f b)
   unfolding byteTaken behind heldOn
@@ -71,23 +77,38 @@ taken-unprinted f xs = ap (λ (g : Feed). bytesTaken g xs) (sym (behind-own f)) 
 
 -- ---- what feeding makes
 
--- fewer than eight bytes are held, and the next number is at most 1,000,001
+-- fewer than eight bytes are held, the next number is at most 1,000,001, and for each record fewer words have moved than a number of 32 bits can say
 pub record Fed (f : Feed) : Type 0 where
   pub held : length (f .held) < fileRecordWidth
   pub number : f .number ≤ stepLimit + 1
+  pub words : f .words ≤ wordValues * f .number
 
 begun-fed : (a : Areas) → Fed (begun a)
 unfolding begun
-begun-fed a = record { held = omega arith; number = omega arith }
+begun-fed a = record { held = omega arith; number = omega arith; words = omega arith }
+
+-- no step moves more words than a number of 32 bits can say
+answer-words-in-32-bits : (a : Areas) (t : Step) → answerOf a t .words < wordValues
+unfolding answerOf refusedAs
+answer-words-in-32-bits a t = go (rightSizes a)
+  where
+    go : (b : Bool) → cond b (answer mainframe (heldBy a) t) (refusedAs 1) .words < wordValues
+    go true = words-in-32-bits (heldBy a) t
+    go false = omega arith
 
 record-fed : (f : Feed) (bytes : List ℕ) → Fed f → Fed (recordTaken f bytes)
 unfolding recordTaken openingTaken stepTaken tooManyTaken
 record-fed f bytes h = go (eqb (f .number) 0) (leb (f .number) stepLimit) refl
   where
     go : (x y : Bool) → leb (f .number) stepLimit ≡ y → Fed (cond x (openingTaken f bytes) (cond y (stepTaken f bytes) (tooManyTaken f)))
-    go true y e = record { held = omega arith; number = omega arith }
-    go false true e = record { held = omega arith; number = omega (arith, leb-true (f .number) stepLimit e) }
-    go false false e = record { held = omega arith; number = h .number }
+    go true y e = record { held = omega arith; number = omega arith; words = omega arith }
+    go false true e =
+        record {
+          held = omega arith;
+          number = omega (arith, leb-true (f .number) stepLimit e);
+          words = omega (arith, h .words, answer-words-in-32-bits (f .areas) (stepFrom bytes));
+        }
+    go false false e = record { held = omega arith; number = h .number; words = h .words }
 
 byte-fed : (f : Feed) (b : ℕ) → Fed f → Fed (byteTaken f b)
 unfolding byteTaken heldOn
@@ -98,7 +119,7 @@ byte-fed f b h = go (f .stopped) (eqb (length (f .held)) 7) refl
     go true y e = h
     go false true e = record-fed f (f .held ++ b ∷ []) h
     go false false e =
-        record { held = omega (arith, h .held, eqb-false (length (f .held)) 7 e, length-append (f .held) (b ∷ [])); number = h .number }
+        record { held = omega (arith, h .held, eqb-false (length (f .held)) 7 e, length-append (f .held) (b ∷ [])); number = h .number; words = h .words }
 
 pub taken-fed : (f : Feed) (xs : List ℕ) → Fed f → Fed (bytesTaken f xs)
 unfolding bytesTaken
@@ -118,7 +139,7 @@ zeros-zero (suc n) = zeros-zero n
 pub fed-sound : (f : Feed) → Fed f → sound (progressOf f) ≡ true
 unfolding sound progressOf
 fed-sound f h =
-    rw (le-leb (f .number) (stepLimit + 1) (h .number), lt-ltb (length (f .held)) fileRecordWidth (h .held), drop-append-seam (f .held) (replicate (fileRecordWidth - length (f .held)) 0))
+    rw (le-leb (f .number) (stepLimit + 1) (h .number), le-leb (f .words) (wordValues * f .number) (h .words), lt-ltb (length (f .held)) fileRecordWidth (h .held), drop-append-seam (f .held) (replicate (fileRecordWidth - length (f .held)) 0))
     (zeros-zero (fileRecordWidth - length (f .held)))
 
 pub after-sound : (a : Areas) (xs : List ℕ) → sound (progressOf (after a xs)) ≡ true
@@ -132,7 +153,7 @@ unfolding feedAt progressOf unprinted
 standing-again f = rw (take-append-seam (f .held) (replicate (fileRecordWidth - length (f .held)) 0))
 
 -- no byte has been fed
-pub started : (a₀ : Areas) → Reached a₀ [] (record { number = 0; stopped = false; held = 0; bytes = replicate fileRecordWidth 0 }) a₀
+pub started : (a₀ : Areas) → Reached a₀ [] (record { number = 0; stopped = false; held = 0; bytes = replicate fileRecordWidth 0; words = 0 }) a₀
 unfolding after bytesTaken begun progressOf
 started a₀ = record { progress = refl; areas = refl }
 

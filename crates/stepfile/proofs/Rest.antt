@@ -25,7 +25,7 @@ use Rattle.stepfile.specs.inner.Needed.{ChunkFed, Endable, Ended, takenA
 
 -- the progress with bytes held
 pub held-progress : (f : Feed) (count : ℕ) (kept : List ℕ) → Holding count kept
-    → _≡_ {A = Progress} (record { number = f .number; stopped = false; held = count; bytes = kept }) (progressOf (heldOn f (take count kept)))
+    → _≡_ {A = Progress} (record { number = f .number; stopped = false; held = count; bytes = kept; words = f .words }) (progressOf (heldOn f (take count kept)))
 unfolding progressOf heldOn
 held-progress f count kept h =
     let l : length (take count kept) ≡ count = length-take-le count kept (omega (arith, h .few, h .long)) in
@@ -60,7 +60,7 @@ module _ (s : Stand) (chunk : List ℕ) (from : ℕ) (h : Endable s chunk from) 
 
   -- a run that has stopped holds none
   pub ended-stopped : s .stopped ≡ true
-      → Ended s chunk from (record { progress = record { number = s .number; stopped = true; held = 0; bytes = replicate fileRecordWidth 0 }; fed = true; written = s .at })
+      → Ended s chunk from (record { progress = record { number = s .number; stopped = true; held = 0; bytes = replicate fileRecordWidth 0; words = s .words }; fed = true; written = s .at })
   unfolding takenAs progressOf standsAt
   ended-stopped z =
       record { is = λ out a l. sym (ap (λ (f : Feed). takenAs f) (rest-stopped out a z) ∙ rw (z, length-take-le (s .at) out l)) }
@@ -69,7 +69,7 @@ module _ (s : Stand) (chunk : List ℕ) (from : ℕ) (h : Endable s chunk from) 
   none-held = record { holding = record { few = omega arith; long = refl; zeros = refl }; within = h .within }
 
   pub ended-held : (q : Held) → s .stopped ≡ false → HeldAll 0 (replicate fileRecordWidth 0) chunk from q
-      → Ended s chunk from (record { progress = record { number = s .number; stopped = false; held = q .count; bytes = q .bytes }; fed = true; written = s .at })
+      → Ended s chunk from (record { progress = record { number = s .number; stopped = false; held = q .count; bytes = q .bytes; words = s .words }; fed = true; written = s .at })
   unfolding takenAs standsAt heldOn
   ended-held q z d =
       let few : q .count < fileRecordWidth = omega (arith, d .holds .counted, d .holds .within, h .few-left z) in

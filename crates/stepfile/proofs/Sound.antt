@@ -6,8 +6,11 @@ use mathlib.Core.Bool.{Bool, _&&_, and-eq-true-iff, false, true}
 use lib.ListN.{drop, length}
 use lib.Dec.{leb, ltb}
 use borrow.Author.Tests.{le-leb, le-ltb, leb-true, lt-leb, lt-ltb, ltb-true}
+use mir.Syntax.{w64}
+use mir.Val.{Fits}
 use borrow.Author.Needs.{needs}
 use Rattle.limits.specs.Files.{fileRecordWidth, lineLimit, stepLimit}
+use Rattle.limits.specs.Limits.{wordValues}
 use Rattle.limits.specs.inner.Sizes.{fileRecordLimit}
 use Rattle.rules.specs.InOrder.{allZero}
 use Rattle.stepfile.specs.Promises.{feedable, sound}
@@ -21,6 +24,14 @@ module _ (p : Progress) (chunk room : ℕ) where
   unfolding feedable sound
   number-too-large l = record { is = rw (lt-leb (p .number) fileRecordLimit l) }
 
+  -- the most words that can have moved is a number of 64 bits
+  pub most-fits : (n : ℕ) → n ≡ p .number → p .number ≤ fileRecordLimit → Fits w64 (wordValues * n)
+  most-fits n e l = omega (arith, e, l)
+
+  pub words-too-many : (n : ℕ) → n ≡ p .number → p .number ≤ fileRecordLimit → wordValues * n < p .words → FeedableIs false p chunk room
+  unfolding feedable sound
+  words-too-many n e l m = record { is = rw (le-leb (p .number) fileRecordLimit l, lt-leb (p .words) (wordValues * p .number) (rw e at m)) }
+
   and-false : (b : Bool) → (b && false) ≡ false
   and-false true = refl
   and-false false = refl
@@ -33,10 +44,10 @@ module _ (p : Progress) (chunk room : ℕ) where
   and-true true = refl
   and-true false = refl
 
-  pub feedable-when : (b : Bool) → p .number ≤ fileRecordLimit → chunk / fileRecordWidth < room / lineLimit → ZerosBehind b (p .held) (p .bytes) → FeedableIs b p chunk room
+  pub feedable-when : (b : Bool) (n : ℕ) → n ≡ p .number → p .number ≤ fileRecordLimit → p .words ≤ wordValues * n → chunk / fileRecordWidth < room / lineLimit → ZerosBehind b (p .held) (p .bytes) → FeedableIs b p chunk room
   unfolding feedable sound
-  feedable-when b l m z =
-      record { is = rw (le-leb (p .number) fileRecordLimit l, lt-ltb (chunk / fileRecordWidth) (room / lineLimit) m) (z .is ∙ and-true (ltb (p .held) fileRecordWidth && allZero (drop (p .held) (p .bytes)))) }
+  feedable-when b n e l k m z =
+      record { is = rw (le-leb (p .number) fileRecordLimit l, le-leb (p .words) (wordValues * p .number) (rw e at k), lt-ltb (chunk / fileRecordWidth) (room / lineLimit) m) (z .is ∙ and-true (ltb (p .held) fileRecordWidth && allZero (drop (p .held) (p .bytes)))) }
 
   -- what a chunk that is fed has
   module _ (e : feedable p chunk room ≡ true) where
@@ -44,18 +55,28 @@ module _ (p : Progress) (chunk room : ℕ) where
     unfolding feedable
     is-sound = and-eq-true-iff (sound p) (ltb (chunk / fileRecordWidth) (room / lineLimit)) .0 e .0
 
-    sound-both : ((leb (p .number) (stepLimit + 1) && ltb (p .held) fileRecordWidth) ≡ true) × (allZero (drop (p .held) (p .bytes)) ≡ true)
+    sound-both : ((leb (p .number) (stepLimit + 1) && leb (p .words) (wordValues * p .number)) ≡ true) × ((ltb (p .held) fileRecordWidth && allZero (drop (p .held) (p .bytes))) ≡ true)
     unfolding sound
-    sound-both = and-eq-true-iff (leb (p .number) (stepLimit + 1) && ltb (p .held) fileRecordWidth) (allZero (drop (p .held) (p .bytes))) .0 is-sound
+    sound-both =
+        and-eq-true-iff (leb (p .number) (stepLimit + 1) && leb (p .words) (wordValues * p .number)) (ltb (p .held) fileRecordWidth && allZero (drop (p .held) (p .bytes))) .0 is-sound
+
+    numbers-both : (leb (p .number) (stepLimit + 1) ≡ true) × (leb (p .words) (wordValues * p .number) ≡ true)
+    numbers-both = and-eq-true-iff (leb (p .number) (stepLimit + 1)) (leb (p .words) (wordValues * p .number)) .0 (sound-both .0)
+
+    held-both : (ltb (p .held) fileRecordWidth ≡ true) × (allZero (drop (p .held) (p .bytes)) ≡ true)
+    held-both = and-eq-true-iff (ltb (p .held) fileRecordWidth) (allZero (drop (p .held) (p .bytes))) .0 (sound-both .1)
 
     pub few-records : p .number ≤ fileRecordLimit
-    few-records = leb-true (p .number) fileRecordLimit (and-eq-true-iff (leb (p .number) (stepLimit + 1)) (ltb (p .held) fileRecordWidth) .0 (sound-both .0) .0)
+    few-records = leb-true (p .number) fileRecordLimit (numbers-both .0)
+
+    pub few-words : p .words ≤ wordValues * p .number
+    few-words = leb-true (p .words) (wordValues * p .number) (numbers-both .1)
 
     pub few-held : p .held < fileRecordWidth
-    few-held = ltb-true (p .held) fileRecordWidth (and-eq-true-iff (leb (p .number) (stepLimit + 1)) (ltb (p .held) fileRecordWidth) .0 (sound-both .0) .1)
+    few-held = ltb-true (p .held) fileRecordWidth (held-both .0)
 
     pub holding-there : length (p .bytes) ≡ fileRecordWidth → Holding (p .held) (p .bytes)
-    holding-there long = holding-of (p .held) (p .bytes) long (omega (arith, few-held)) (sound-both .1)
+    holding-there long = holding-of (p .held) (p .bytes) long (omega (arith, few-held)) (held-both .1)
 
     pub room-there : lineLimit * (chunk / fileRecordWidth) + lineLimit ≤ room
     unfolding feedable
@@ -63,4 +84,4 @@ module _ (p : Progress) (chunk room : ℕ) where
         let l : chunk / fileRecordWidth < room / lineLimit = ltb-true (chunk / fileRecordWidth) (room / lineLimit) (and-eq-true-iff (sound p) (ltb (chunk / fileRecordWidth) (room / lineLimit)) .0 e .1) in
         omega (arith, l)
 
-pub ruleset feedable-laws = (number-too-large, no-room, feedable-when, needs)
+pub ruleset feedable-laws = (number-too-large, most-fits, words-too-many, no-room, feedable-when, needs)

@@ -1,21 +1,22 @@
--- A file fed from its first byte on: what stands after some of its bytes, and the line at its end. Assumes nothing.
+-- A file fed from its first byte on: what stands after some of its bytes, and its last line. Assumes nothing.
 use Prim.Native.Nat.{ℕ}
 use mathlib.Core.Bool.{Bool, false, cond}
 use mathlib.Core.List.{List, [], _∷_}
 use lib.Dec.{eqb}
 use Rattle.layout.specs.Areas.{Areas}
+use Rattle.lines.specs.Lines.{wordsLine}
 use Rattle.file_record.specs.Records.{Feed, refusalLine}
 use Rattle.file_chunk.specs.Bytes.{bytesTaken}
 
 -- before the first byte
 unfoldable pub begun : Areas → Feed
-begun a = record { number = 0; held = []; stopped = false; areas = a; lines = [] }
+begun a = record { number = 0; held = []; stopped = false; areas = a; lines = []; words = 0 }
 
 -- what stands after the first bytes of a file
 unfoldable pub after : Areas → List ℕ → Feed
 after a bytes = bytesTaken (begun a) bytes
 
--- the line at the end of the file, if any: 15 where "it ends within a record, or before the opening"
-unfoldable pub lastLine : ℕ → List ℕ → Bool → List ℕ
-lastLine number [] stopped = cond stopped [] (cond (eqb number 0) (refusalLine 0 15) [])
-lastLine number (b ∷ held) stopped = cond stopped [] (refusalLine number 15)
+-- the last line: 15 where the file "ends within a record, or before the opening"; L6: else the words moved, unless the run has stopped
+unfoldable pub lastLine : ℕ → List ℕ → Bool → ℕ → List ℕ
+lastLine number [] stopped words = cond stopped [] (cond (eqb number 0) (refusalLine 0 15) (wordsLine words))
+lastLine number (b ∷ held) stopped words = cond stopped [] (refusalLine number 15)

@@ -7,11 +7,11 @@ use lib.Dec.{ltb, eqb}
 use Rattle.limits.specs.Files.{fileRecordWidth, stepLimit}
 use Rattle.rules.specs.Opening.{openingRefusal, opened}
 use Rattle.rules.specs.Refusals.{Answer}
-use Rattle.rules.specs.Runs.{answers}
+use Rattle.rules.specs.Runs.{answers, wordsMoved}
 use Rattle.rules.specs.State.{mainframe, State}
 use Rattle.opening.specs.Promises.{openingOf}
 use Rattle.step_record.specs.Records.{stepsIn}
-use Rattle.lines.specs.Lines.{lineBytes}
+use Rattle.lines.specs.Lines.{lineBytes, wordsLine}
 use Rattle.file_record.specs.Records.{refusalLine}
 
 -- "a line a record": the lines of answers, numbered from n on
@@ -24,20 +24,24 @@ unfoldable pub stepCount : List ℕ → ℕ
 stepCount bytes = (length bytes - fileRecordWidth) / fileRecordWidth
 
 -- how a file ends: 16 where "a whole record follows the 1,000,000th step record", 15 where "it ends within a record"; "The 15 or 16 line has
--- the number the next record would have had"
-unfoldable pub endLine : List ℕ → List ℕ
-endLine bytes =
+-- the number the next record would have had". L6: "A run that did not stop at 2, 15 or 16 ends with one extra line", the words moved
+unfoldable pub endLine : List ℕ → ℕ → List ℕ
+endLine bytes words =
     cond (ltb stepLimit (stepCount bytes)) (refusalLine (stepLimit + 1) 16)
-    (cond (eqb (length bytes % fileRecordWidth) 0) []
+    (cond (eqb (length bytes % fileRecordWidth) 0) (wordsLine words)
     (refusalLine (stepCount bytes + 1) 15))
 
 -- the state that the opening leaves
 unfoldable pub openedBy : List ℕ → State
 openedBy bytes = opened mainframe (openingOf (take fileRecordWidth bytes) .counts)
 
+-- the answers of its steps
+unfoldable pub stepAnswers : List ℕ → List Answer
+stepAnswers bytes = answers mainframe (openedBy bytes) (stepsIn (min (stepCount bytes) stepLimit) (drop fileRecordWidth bytes))
+
 -- the lines of the steps and the end, behind an accepted opening
 unfoldable pub stepLines : List ℕ → List ℕ
-stepLines bytes = answerLines 1 (answers mainframe (openedBy bytes) (stepsIn (min (stepCount bytes) stepLimit) (drop fileRecordWidth bytes))) ++ endLine bytes
+stepLines bytes = answerLines 1 (stepAnswers bytes) ++ endLine bytes (wordsMoved (stepAnswers bytes))
 
 -- the lines of a file: 15 where it ends "before the opening" or within it; "After 2, 15 or 16 it stops"
 unfoldable pub fileLines : List ℕ → List ℕ

@@ -1,6 +1,6 @@
 -- What `feed` and `finish` answer and leave in lent memory, and that a file fed in parts, cut anywhere, gives the lines of the whole file.
 -- Assumes nothing.
-use Prim.Native.Nat.{ℕ, _+_, _-_, _/_, _≤_}
+use Prim.Native.Nat.{ℕ, _+_, _-_, _*_, _/_, _≤_}
 use mathlib.Core.Path.{_≡_}
 use mathlib.Core.Bool.{Bool, true, false, cond, _&&_}
 use mathlib.Core.List.{List, [], _++_}
@@ -8,6 +8,7 @@ use lib.ListN.{length, take, drop, replicate}
 use lib.Seq.{sets}
 use lib.Dec.{ltb, leb}
 use Rattle.limits.specs.Files.{fileRecordWidth, lineLimit, stepLimit}
+use Rattle.limits.specs.Limits.{wordValues}
 use Rattle.rules.specs.InOrder.{allZero}
 use Rattle.layout.specs.Areas.{Areas, rightSizes}
 use Rattle.file_record.specs.Records.{Feed}
@@ -17,17 +18,18 @@ use Rattle.stepfile.specs.Feeding.{after, lastLine}
 use Rattle.stepfile.specs.declared.Progress.{Progress}
 use Rattle.stepfile.specs.declared.Taken.{Taken}
 
--- a progress that feeding makes: at most 1,000,001 as the next number, fewer than eight bytes held, and zeros behind them
+-- a progress that feeding makes: at most 1,000,001 as the next number, fewer than eight bytes held, and zeros behind them; for each record fewer words
+-- than a number of 32 bits can say, so that their sum cannot wrap
 unfoldable pub sound : Progress → Bool
-sound p = leb (p .number) (stepLimit + 1) && ltb (p .held) fileRecordWidth && allZero (drop (p .held) (p .bytes))
+sound p = leb (p .number) (stepLimit + 1) && leb (p .words) (wordValues * p .number) && (ltb (p .held) fileRecordWidth && allZero (drop (p .held) (p .bytes)))
 
 -- the progress of what stands
 unfoldable pub progressOf : Feed → Progress
-progressOf f = record { number = f .number; stopped = f .stopped; held = length (f .held); bytes = f .held ++ replicate (fileRecordWidth - length (f .held)) 0 }
+progressOf f = record { number = f .number; stopped = f .stopped; held = length (f .held); bytes = f .held ++ replicate (fileRecordWidth - length (f .held)) 0; words = f .words }
 
 -- what stands at a progress with these areas, with nothing printed yet
 unfoldable pub feedAt : Progress → Areas → Feed
-feedAt p a = record { number = p .number; held = take (p .held) (p .bytes); stopped = p .stopped; areas = a; lines = [] }
+feedAt p a = record { number = p .number; held = take (p .held) (p .bytes); stopped = p .stopped; areas = a; lines = []; words = p .words }
 
 -- whether a chunk of so many bytes is fed: the progress is sound, and there is room for the longest line, of 44 bytes, for each record that
 -- the chunk can complete
@@ -74,9 +76,9 @@ pub record FedAs (p : Progress) (chunk out : List ℕ) (a : Areas) (t : Taken) (
   pub added : (a₀ : Areas) (before : List ℕ) → t .fed ≡ true → Reached a₀ before p a
       → after a₀ (before ++ chunk) .lines ≡ after a₀ before .lines ++ take (t .written) out′
 
--- the line at the end of a file that has been fed this far, if there is one
+-- the last line of a file that has been fed this far, if there is one
 unfoldable pub finishLine : Progress → List ℕ
-finishLine p = lastLine (p .number) (take (p .held) (p .bytes)) (p .stopped)
+finishLine p = lastLine (p .number) (take (p .held) (p .bytes)) (p .stopped) (p .words)
 
 -- what `finish` answers
 unfoldable pub finishAnswer : Progress → ℕ → Taken

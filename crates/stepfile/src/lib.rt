@@ -4,16 +4,17 @@ ghost use lib.ListN.{length, take, drop};
 ghost use Rattle.limits.specs.Files.{fileRecordWidth};
 ghost use Rattle.layout.specs.Areas.{areas};
 ghost use Rattle.file_record.specs.Records.{recordTaken};
-ghost use Rattle.file_record.specs.inner.Needed.{standsAt, RecordTaken};
+ghost use Rattle.file_record.specs.inner.Needed.{standsAt, LinePut, RecordTaken};
 ghost use Rattle.file_chunk.specs.Bytes.{bytesTaken};
 ghost use Rattle.file_chunk.specs.inner.Needed.{Passable};
-ghost use Rattle.stepfile.specs.Promises.{feedAt, Started, FedAs, FinishedAs};
-ghost use Rattle.stepfile.specs.inner.Needed.{FeedableIs, EndsShort, Feedable, Completes, BegunPassable, Endable, Ended, ChunkFed};
+ghost use Rattle.stepfile.specs.Promises.{feedAt, finishLine, Started, FedAs, FinishedAs};
+ghost use Rattle.stepfile.specs.inner.Needed.{FeedableIs, EndThere, EndsShort, Feedable, Completes, BegunPassable, Endable, Ended, ChunkFed};
 use file_held::Held;
 use file_record::Stand;
 use limits::FILE_RECORD_LIMIT;
 use limits::FILE_RECORD_WIDTH;
 use limits::LINE_LIMIT;
+use limits::WORD_VALUES;
 
 // How far a file has been fed.
 pub struct Progress {
@@ -24,6 +25,8 @@ pub struct Progress {
     // How many bytes of a record that has begun are held, and those bytes, zeros behind them.
     pub held: usize,
     pub bytes: [u8; FILE_RECORD_WIDTH],
+    // How many words have moved.
+    pub words: u64,
 }
 
 // What feeding a chunk answers: how far the file has been fed, whether the chunk was fed, and how many bytes of lines were written.
@@ -43,6 +46,7 @@ pub fn start() -> Progress
         stopped: false,
         held: 0,
         bytes,
+        words: 0,
     }
 }
 
@@ -68,7 +72,7 @@ pub fn feed(
     feed_sound(progress, chunk, lines, clocks, words, records, marks)
 }
 
-// The end of the file: writes its last line, if there is one.
+// The end of the file: writes its last line, unless the run has stopped.
 pub fn finish(progress: Progress, lines: &mut [u8]) -> Taken
     ensures { λ r. ⌜ FinishedAs progress (now (lines .entry)) r (now (lines .exit)) ⌝ }
 {
@@ -79,14 +83,7 @@ pub fn finish(progress: Progress, lines: &mut [u8]) -> Taken
             written: 0,
         };
     }
-    if !ends_short(progress) {
-        return Taken {
-            progress,
-            fed: true,
-            written: 0,
-        };
-    }
-    let written = file_record::put_record_line(lines, 0, progress.number, 15, 0, 0);
+    let written = put_end(progress, lines);
     Taken {
         progress,
         fed: true,
@@ -101,6 +98,10 @@ fn feedable(progress: Progress, chunk: usize, room: usize) -> bool
     if FILE_RECORD_LIMIT < progress.number {
         return false;
     }
+    let most = WORD_VALUES * progress.number as u64;
+    if most < progress.words {
+        return false;
+    }
     if room / LINE_LIMIT <= chunk / FILE_RECORD_WIDTH {
         return false;
     }
@@ -108,13 +109,25 @@ fn feedable(progress: Progress, chunk: usize, room: usize) -> bool
     file_held::zeros_behind(progress.held, bytes)
 }
 
+// Writes the last line to the start of the bytes lent, and says how long it is: none where the run has stopped, 15 for a file that ends short, else the
+// words moved.
+fn put_end(progress: Progress, lines: &mut [u8]) -> usize
+    requires { ⌜ EndThere progress (now lines) ⌝ }
+    ensures { λ r. ⌜ LinePut (now (lines .entry)) 0 (finishLine progress) (now (lines .exit)) r ⌝ }
+{
+    if progress.stopped {
+        return 0;
+    }
+    if ends_short(progress) {
+        return file_record::put_record_line(lines, 0, progress.number, 15, 0, 0);
+    }
+    file_record::put_last_line(lines, 0, progress.words)
+}
+
 // Whether a file that ends here ends within a record or before the opening.
 fn ends_short(progress: Progress) -> bool
     ensures { λ r. ⌜ EndsShort r progress ⌝ }
 {
-    if progress.stopped {
-        return false;
-    }
     if progress.number == 0 {
         return true;
     }
@@ -147,6 +160,7 @@ fn feed_sound(
         stopped: false,
         ready,
         at: 0,
+        words: progress.words,
     };
     feed_on(progress, stand, chunk, lines, clocks, words, records, marks)
 }
@@ -177,6 +191,7 @@ fn feed_on(
             stopped: false,
             held: first.count,
             bytes,
+            words: progress.words,
         };
         return Taken {
             progress: held,
@@ -274,6 +289,7 @@ fn hold_rest(stand: Stand, chunk: &[u8], from: usize) -> Taken
             stopped: true,
             held: 0,
             bytes: none,
+            words: stand.words,
         };
         return Taken {
             progress,
@@ -288,6 +304,7 @@ fn hold_rest(stand: Stand, chunk: &[u8], from: usize) -> Taken
         stopped: false,
         held: last.count,
         bytes,
+        words: stand.words,
     };
     Taken {
         progress,

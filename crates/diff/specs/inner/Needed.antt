@@ -1,5 +1,5 @@
 -- What the crate's own functions ask of one another: places that lie within the bytes or the page. Of the public functions
--- only `lay` and `mask` ask anything. Assumes nothing.
+-- only `lay`, `words_set` and `mask` ask anything. Assumes nothing.
 use Prim.Native.Nat.{ℕ, _+_, _*_, _≤_}
 use mathlib.Core.Path.{_≡_}
 use mathlib.Core.List.{List}

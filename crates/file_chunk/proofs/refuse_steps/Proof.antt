@@ -5,11 +5,11 @@ use Rattle.file_chunk.proofs.refuse_steps.Statement.{statement}
 use Rattle.file_chunk.proofs.refuse_steps.Tie as tie
 
 abbrev Inv-loop : tie.InvT-loop
-Inv-loop from end lines₀ number₀ at₀ i₀ lines number at i =
-    Refusing number₀ at₀ from end lines₀ number at i lines
+Inv-loop stand from end lines₀ number₀ at₀ i₀ lines number at i =
+    Refusing number₀ at₀ (stand .words) from end lines₀ number at i lines
 
 abbrev μ-loop : tie.MeasureT-loop
-μ-loop from end lines₀ number₀ at₀ i₀ lines number at i = end - i
+μ-loop stand from end lines₀ number₀ at₀ i₀ lines number at i = end - i
 
 pub refuse-steps-spec : {M : Type 1} → statement M
 refuse-steps-spec =

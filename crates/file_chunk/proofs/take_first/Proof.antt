@@ -6,4 +6,4 @@ use Rattle.file_chunk.proofs.take_first.Tie as tie
 pub take-first-spec : {M : Type 1} → statement M
 take-first-spec =
     tie.close
-    (tie.spec (λ c. search passing-laws) (λ c. search passing-laws) (λ c. search passing-laws) (λ c. search passing-laws) (λ c κs. search passing-laws) (λ c. search passing-laws) (λ c. search passing-laws) (λ c. search passing-laws) (λ c. search passing-laws) (λ c. search passing-laws) (λ c. search passing-laws) (λ c. search passing-laws))
+    (tie.spec (λ c. search passing-laws) (λ c. search passing-laws) (λ c. search passing-laws) (λ c. search passing-laws) (λ c. search passing-laws) (λ c κs. search passing-laws) (λ c. search passing-laws) (λ c. search passing-laws) (λ c. search passing-laws) (λ c. search passing-laws) (λ c. search passing-laws) (λ c. search passing-laws))

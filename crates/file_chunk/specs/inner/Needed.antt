@@ -5,6 +5,7 @@ use mathlib.Core.Bool.{Bool, false}
 use mathlib.Core.List.{List}
 use lib.ListN.{drop, length}
 use Rattle.limits.specs.Files.{fileRecordWidth, lineLimit}
+use Rattle.limits.specs.Limits.{wordValues}
 use Rattle.limits.specs.inner.Sizes.{fileRecordLimit}
 use Rattle.layout.specs.Areas.{areas}
 use Rattle.inorder.specs.Areas.{OrderIs}
@@ -12,12 +13,13 @@ use Rattle.file_record.specs.declared.Stand.{Stand}
 use Rattle.file_record.specs.inner.Needed.{RestKept, standsAt, Ahead, AllAhead}
 use Rattle.file_chunk.specs.Bytes.{bytesTaken}
 
--- there is room for the lines of the records that lie in the chunk from a place on
+-- there is room for the lines of the records that lie in the chunk from a place on; each step has moved fewer words than a number of 32 bits can say
 pub record Passable (s : Stand) (chunk : List ℕ) (from : ℕ) (out c w r m : List ℕ) : Type 0 where
   pub few : s .number ≤ fileRecordLimit
   pub within : from ≤ length chunk
   pub room : s .at + lineLimit * ((length chunk - from) / fileRecordWidth) ≤ length out
   pub order : OrderIs (s .ready) c w r m
+  pub total : s .words ≤ wordValues * s .number
 
 -- the whole records up to a place are taken, a line for each: the bytes behind them lead from there to what all lead to, and the lent memory keeps
 -- its sizes

@@ -6,4 +6,4 @@ use Rattle.lughtsavi.proofs.lay.Tie as tie
 pub lay-spec : {M : Type 1} → statement M
 lay-spec =
     tie.close
-    (tie.spec (λ c. search telling-laws) (λ c. search telling-laws) (λ c. search telling-laws) (λ c. search telling-laws) (λ c. search telling-laws))
+    (tie.spec (λ c. search telling-laws) (λ c. search telling-laws) (λ c. search telling-laws) (λ c. search telling-laws) (λ c. search telling-laws) (λ c. search telling-laws))

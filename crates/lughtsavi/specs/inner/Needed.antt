@@ -8,7 +8,7 @@ use Rattle.step_act.specs.Telling.{outcomeRefusal, told}
 use Rattle.step_act.specs.declared.Outcome.{Outcome}
 use Rattle.step_record.specs.Records.{answerWords}
 
--- n is the outcome's refusal, and the words are its three numbers
+-- n is the outcome's refusal, and the words are its four numbers
 pub record ToldAs (o : Outcome) (n : ℕ) (out : List ℕ) : Type 0 where
   pub returned : n ≡ outcomeRefusal o
   pub laid : out ≡ answerWords (told o ∷ [])

@@ -11,7 +11,7 @@ use Rattle.rules.specs.State.{Limits, Counts, State}
 use Rattle.rules.specs.InOrder.{countsInRange}
 use Rattle.rules.specs.Opening.{opened}
 use Rattle.rules.specs.Steps.{read}
-use Rattle.rules.specs.Refusals.{Step, Action, Read, actionOf, knownKind, refusalBy, refusalInOrder, effect, Answer, refusedAs, answerInOrder, nextInOrder}
+use Rattle.rules.specs.Refusals.{Step, Action, Read, actionOf, knownKind, refusalBy, refusalInOrder, effect, Answer, acceptedAs, refusedAs, answerInOrder, nextInOrder}
 use Rattle.rules.specs.Runs.{answersInOrder, stateInOrder}
 use Rattle.rules.specs.Order.{Event, events, noEvent, eventAt, Took}
 use Rattle.rules.specs.Demand.{valueAt}
@@ -28,8 +28,8 @@ unfolding answerInOrder refusedAs
 answer-refusal lim s t = go (eqb (refusalInOrder lim s t) 0) refl
   where
     go : (b : Bool) → eqb (refusalInOrder lim s t) 0 ≡ b
-        → cond {A = Answer} b (record { refusal = 0; value = effect lim s (t .processor) (actionOf t) .value; count = effect lim s (t .processor) (actionOf t) .count })
-        (record { refusal = refusalInOrder lim s t; value = 0; count = 0 }) .refusal
+        → cond {A = Answer} b (acceptedAs (effect lim s (t .processor) (actionOf t)))
+        (refusedAs (refusalInOrder lim s t)) .refusal
         ≡ refusalInOrder lim s t
     go true e = sym (eqb-true (refusalInOrder lim s t) 0 e)
     go false e = refl

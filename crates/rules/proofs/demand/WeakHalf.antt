@@ -7,6 +7,7 @@ use mathlib.Core.Path.{_≡_, refl}
 use mathlib.Core.Logic.{_⊎_, inl, inr}
 use mathlib.Core.List.{List}
 use lib.Dec.{lit<}
+use Rattle.limits.specs.Limits.{wordValues}
 use Rattle.rules.specs.State.{Limits, Counts}
 use Rattle.rules.specs.Fetch.{fetched}
 use Rattle.rules.specs.Steps.{pageOfWord, offsetOfWord, wordOf, read}
@@ -21,7 +22,7 @@ use Rattle.rules.proofs.word.ValuesOverTime.{values-over-time}
 module _ (lim : Limits) (c : Counts) (es : List Event) (r : Timeline lim c es) where
   -- x may be a value of the word at offset o of page g at time t: it fits 32 bits, and is 0 or was written to the word before
   unfoldable Written : ℕ → ℕ → ℕ → ℕ → Type 0
-  Written t g o x = (x < 4294967296) × ((x ≡ 0) ⊎ FromWrite es (g * lim .words + o) t x)
+  Written t g o x = (x < wordValues) × ((x ≡ 0) ⊎ FromWrite es (g * lim .words + o) t x)
 
   from-later : (w t x : ℕ) → (x ≡ 0) ⊎ FromWrite es w t x → (x ≡ 0) ⊎ FromWrite es w (suc t) x
   from-later w t x (inl e) = inl e
@@ -38,10 +39,10 @@ module _ (lim : Limits) (c : Counts) (es : List Event) (r : Timeline lim c es) w
   unfolding Written
   written-later t g o x h = (h .0, from-later (g * lim .words + o) t x (h .1))
 
-  written-now : (t p x v : ℕ) → Took es t p (Write x v) → Written (suc t) (pageOfWord lim x) (offsetOfWord lim x) (v % 4294967296)
+  written-now : (t p x v : ℕ) → Took es t p (Write x v) → Written (suc t) (pageOfWord lim x) (offsetOfWord lim x) (v % wordValues)
   unfolding Written pageOfWord offsetOfWord valueField
   written-now t p x v took = (
-    mod-lt v {m = 4294967296} (lit< tt),
+    mod-lt v {m = wordValues} (lit< tt),
     rw (div-add-mod' x (lim .words)) (inr (record { place = t; processor = p; value = v; write = record { wrote = took; earlier = omega arith }; is = refl })),
   )
 

@@ -13,7 +13,7 @@ use Rattle.rules.specs.State.{Limits, Counts, Processor, Barrier, Clocks
 use Rattle.rules.specs.Lines.{waits, turnOf}
 use Rattle.rules.specs.Close.{closed}
 use Rattle.rules.specs.Fetch.{fetched}
-use Rattle.rules.specs.Steps.{learned, atBarrier, allArrived, allLearned, roundDone, allFetched, emptied, collected, wantsCollection, arrive}
+use Rattle.rules.specs.Steps.{learned, atBarrier, allArrived, allLearned, roundDone, allFetched, noneFetched, emptied, collected, wantsCollection, arrive}
 use Rattle.rules.proofs.state.Holders.{barrier-carries}
 use Rattle.rules.proofs.state.Fetches.{all-fetched-keep}
 use Rattle.rules.proofs.state.Waiters.{waiter-waits}
@@ -158,7 +158,7 @@ arrive-parts lim s p f a awake = go (allArrived (atBarrier s p)) (wantsCollectio
   where
     go : (b c : Bool) → allArrived (atBarrier s p) ≡ b
         → Parts lim
-        ((cond b (cond c (collected lim (roundDone (atBarrier s p))) (record { after = roundDone (atBarrier s p); count = 0 })) (record { after = atBarrier s p; count = 0 })) .after)
+        ((cond b (cond c (collected lim (roundDone (atBarrier s p))) (noneFetched (roundDone (atBarrier s p)))) (noneFetched (atBarrier s p))) .after)
     go true true e = collected-parts lim (roundDone (atBarrier s p)) (round-parts lim s p f a)
     go true false e = round-parts lim s p f a
     go false c e = waiting-parts lim s p f a awake e

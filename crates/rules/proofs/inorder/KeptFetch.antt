@@ -7,6 +7,7 @@ use mathlib.Core.Path.{_≡_, refl, sym, _∙_}
 use mathlib.Core.Bool.{Bool, true, false}
 use mathlib.Core.List.{List}
 use lib.ListN.{length, set, length-set}
+use Rattle.limits.specs.Limits.{wordValues}
 use Rattle.rules.specs.State.{Limits, Counts, Processor, Applied, Clocks, clockOf, withClock, Pages, copyOf, dirtyAt, Marks, State, withClocks, withPages, withMarks, clock}
 use Rattle.rules.specs.Fetch.{appliedAll, applying, withCopy, fetched}
 use Rattle.rules.specs.Steps.{pageOfWord, offsetOfWord, newTwin, twinTaken, stored, write}
@@ -130,8 +131,8 @@ write-parts lim s p w v f a m =
     let s₂ : State = withPages s₁ (twinTaken (s₁ .pages) p g) in
     let f₂ : Parts lim s₂ = twin-taken-parts lim s₁ p g f₁ (unfold fetched in a) m₁ in
     unfold fetched in
-    copy-changed lim s₂ p g (set (copyOf (s₂ .pages) p g) (offsetOfWord lim w) (v % 4294967296)) f₂ a
-    (length-set (copyOf (s₂ .pages) p g) (offsetOfWord lim w) (v % 4294967296) ∙ length-copy lim (s₂ .counts) (s₂ .pages) p g a (f₂ .pages))
+    copy-changed lim s₂ p g (set (copyOf (s₂ .pages) p g) (offsetOfWord lim w) (v % wordValues)) f₂ a
+    (length-set (copyOf (s₂ .pages) p g) (offsetOfWord lim w) (v % wordValues) ∙ length-copy lim (s₂ .counts) (s₂ .pages) p g a (f₂ .pages))
   where
     fetched-may-dirty : MayDirty lim (fetched lim s p (pageOfWord lim w)) p (pageOfWord lim w)
     fetched-may-dirty =

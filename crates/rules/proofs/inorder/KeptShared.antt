@@ -7,6 +7,7 @@ use mathlib.Core.List.{List, [], map}
 use lib.ListN.{length, getD}
 use Rattle.lists.proofs.Tables.{by-put-cell, get-map}
 use Rattle.lists.proofs.Tabulated.{length-tabulate}
+use Rattle.limits.specs.Limits.{wordValues}
 use Rattle.rules.specs.State.{Limits, Counts, Shared, addsOf, State, withShared}
 use Rattle.rules.specs.Tallies.{tallyAdded, totalAfter, posting}
 use Rattle.rules.proofs.inorder.KeptParts.{presentAmong, among-says, CountsInOrder, SharedInOrder, Parts}
@@ -34,9 +35,9 @@ added-in-order lim n h p t v c f a l =
     let b = among-says n p a in
     record {
       posted = f .posted;
-      adds = rows-put-cell 0 lim (lim .tallies) (h .adds) p t ((addsOf h p t + v) % 4294967296) (f .adds) (b .0) (omega (arith, b .1, c .processors-fit)) l;
+      adds = rows-put-cell 0 lim (lim .tallies) (h .adds) p t ((addsOf h p t + v) % wordValues) (f .adds) (b .0) (omega (arith, b .1, c .processors-fit)) l;
       absent-adds = λ q u k z.
-          by-put-cell (λ x. x ≡ 0) 0 (h .adds) p t q u ((addsOf h p t + v) % 4294967296)
+          by-put-cell (λ x. x ≡ 0) 0 (h .adds) p t q u ((addsOf h p t + v) % wordValues)
           (λ d e. absurd (false≢true (sym z ∙ ap (presentAmong n) d ∙ a))) (f .absent-adds q u k z);
     }
 

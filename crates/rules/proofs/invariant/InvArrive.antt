@@ -5,7 +5,7 @@ use mathlib.Core.Path.{_≡_, refl}
 use mathlib.Core.Bool.{Bool, true, false, cond, _&&_}
 use Rattle.rules.specs.State.{Limits, State}
 use Rattle.rules.specs.Close.{closed}
-use Rattle.rules.specs.Steps.{atBarrier, roundDone, collected, wantsCollection, arrive}
+use Rattle.rules.specs.Steps.{atBarrier, roundDone, noneFetched, collected, wantsCollection, arrive}
 use Rattle.rules.specs.Refusals.{Arrive, effect}
 use Rattle.rules.proofs.inorder.Facts.{InOrder}
 use Rattle.rules.proofs.inorder.KeptParts.{among-when, parts-of}
@@ -35,7 +35,7 @@ module _ (lim : Limits) (g o : ℕ) (s : State) (γ : Ghost) (p : ℕ) (from : 1
     where
       go : (b c : Bool) → completes s p ≡ b
           → Inv (lim .words) g o
-          (cond b (cond c (collected lim (roundDone (atBarrier s p))) (record { after = roundDone (atBarrier s p); count = 0 })) (record { after = atBarrier s p; count = 0 }) .after)
+          (cond b (cond c (collected lim (roundDone (atBarrier s p))) (noneFetched (roundDone (atBarrier s p)))) (noneFetched (atBarrier s p)) .after)
           (record {
             writes = γ .writes;
             last = γ .last;

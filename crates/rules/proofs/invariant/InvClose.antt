@@ -11,6 +11,7 @@ use lib.Dec.{eqb}
 use borrow.Author.Tests.{eqb-true, eqb-false, eq-eqb, ne-eqb}
 use Rattle.lists.specs.Tables.{select}
 use Rattle.lists.proofs.Selected.{select-append}
+use Rattle.limits.specs.Limits.{wordValues}
 use Rattle.clock.specs.Clocks.{entryOf}
 use Rattle.diff.specs.Format.{Below}
 use Rattle.rules.specs.State.{Limits, Holder, Processor, Applied, Clocks, clockOf, copyOf, twinOf, dirtyAt, Record, State, clock, own, standing}
@@ -38,7 +39,7 @@ unfolding standing closed
 closed-standing lim s p ord = records-recorded s p (s .counts .pages) (slots-enough lim s ord)
 
 module _ (lim : Limits) (g o : ℕ) (s : State) (γ : Ghost) (p : ℕ) (ord : InOrder lim s) (in-page : o < lim .words) (opened-page : g < s .counts .pages) (h : 1 ≤ p)
-    (k : p ≤ s .counts .processors) (fit : Below 4294967296 (copyOf (s .pages) p g)) (inv : Inv (lim .words) g o s γ) where
+    (k : p ≤ s .counts .processors) (fit : Below wordValues (copyOf (s .pages) p g)) (inv : Inv (lim .words) g o s γ) where
   abbrev l : List Record
   l = standing s
 

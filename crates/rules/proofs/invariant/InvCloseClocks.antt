@@ -11,6 +11,7 @@ use lib.ListN.{length, getD, length-append}
 use lib.Dec.{eqb}
 use borrow.Author.Tests.{eqb-true, eq-eqb, ne-eqb}
 use Rattle.lists.proofs.Tables.{any-holds}
+use Rattle.limits.specs.Limits.{wordValues}
 use Rattle.clock.specs.Clocks.{sumOf}
 use Rattle.diff.specs.Format.{Below, setting, written}
 use Rattle.diff.specs.inner.Settings.{settingAt}
@@ -96,7 +97,7 @@ unfolding setting isSet
 setting-differs a b e q = false≢true (sym (ap (λ (t : Bool). isSet (cond t none (some b))) (eq-eqb a b q)) ∙ e)
 
 module _ (lim : Limits) (g o : ℕ) (s : State) (γ : Ghost) (p : ℕ) (ord : InOrder lim s) (in-page : o < lim .words) (opened-page : g < s .counts .pages) (h : 1 ≤ p)
-    (k : p ≤ s .counts .processors) (fit : Below 4294967296 (copyOf (s .pages) p g)) (inv : Inv (lim .words) g o s γ) where
+    (k : p ≤ s .counts .processors) (fit : Below wordValues (copyOf (s .pages) p g)) (inv : Inv (lim .words) g o s γ) where
   abbrev l : List Record
   l = standing s
 

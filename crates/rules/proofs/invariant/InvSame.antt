@@ -93,5 +93,5 @@ module _ (words g o : ℕ) where
 
 -- the shared values are aside
 pub shared-aside : (words g o : ℕ) (s : State) (γ : Ghost) (h : Shared) → Inv words g o s γ → Inv words g o (withShared s h) γ
-unfolding standing rests
+unfolding standing
 shared-aside words g o s γ h i = record { clocks = i .clocks; page = i .page; closed-value = i .closed-value; resting-clean = i .resting-clean }

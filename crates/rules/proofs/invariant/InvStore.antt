@@ -8,6 +8,7 @@ use mathlib.Core.List.{List, []}
 use lib.ListN.{length, getD, set}
 use lib.Seq.{getD-set-same, getD-set-other}
 use Rattle.lists.proofs.Tables.{cell-put-same, cell-put-elsewhere}
+use Rattle.limits.specs.Limits.{wordValues}
 use Rattle.clock.specs.Clocks.{entryOf}
 use Rattle.rules.specs.State.{Limits, Processor, Applied, Clocks, clockOf, Pages, copyOf, twinOf, dirtyAt, Record}
 use Rattle.rules.specs.Fetch.{withCopy}
@@ -25,9 +26,9 @@ module _ (lim : Limits) (m : Pages) (p x v : ℕ) where
   abbrev pub storedPages : Pages
   storedPages = stored lim (twinTaken m p (pageOfWord lim x)) p x v
 
-  pub stored-copy : copyOf storedPages p page ≡ set (copyOf m p page) (offsetOfWord lim x) (v % 4294967296)
+  pub stored-copy : copyOf storedPages p page ≡ set (copyOf m p page) (offsetOfWord lim x) (v % wordValues)
   unfolding stored withCopy copyOf
-  stored-copy = rw (twin-taken-copies m p page) (cell-put-same [] (m .copies) p page (set (copyOf m p page) (offsetOfWord lim x) (v % 4294967296)))
+  stored-copy = rw (twin-taken-copies m p page) (cell-put-same [] (m .copies) p page (set (copyOf m p page) (offsetOfWord lim x) (v % wordValues)))
 
   -- a page other than the one stored to
   abbrev pub Elsewhere : ℕ → ℕ → Type 0
@@ -35,7 +36,7 @@ module _ (lim : Limits) (m : Pages) (p x v : ℕ) where
 
   pub stored-copy-elsewhere : (q g : ℕ) → Elsewhere q g → copyOf storedPages q g ≡ copyOf m q g
   unfolding stored withCopy copyOf
-  stored-copy-elsewhere q g e = rw (twin-taken-copies m p page) (cell-put-elsewhere [] (m .copies) p page q g (set (copyOf m p page) (offsetOfWord lim x) (v % 4294967296)) e)
+  stored-copy-elsewhere q g e = rw (twin-taken-copies m p page) (cell-put-elsewhere [] (m .copies) p page q g (set (copyOf m p page) (offsetOfWord lim x) (v % wordValues)) e)
 
   pub stored-dirty : dirtyAt storedPages p page ≡ true
   unfolding stored twinTaken withCopy dirtyAt
@@ -102,14 +103,14 @@ module _ (lim : Limits) (o : ℕ) (c : Clocks) (m : Pages) (l : List Record) (p 
       }
     where
       word-stays : getD (copyOf m′ p g) o 0 ≡ getD (copyOf m p g) o 0
-      word-stays = ap (λ (t : List ℕ). getD t o 0) (stored-copy lim m p x v) ∙ getD-set-other (copyOf m p g) (offsetOfWord lim x) o (v % 4294967296) 0 d
+      word-stays = ap (λ (t : List ℕ). getD t o 0) (stored-copy lim m p x v) ∙ getD-set-other (copyOf m p g) (offsetOfWord lim x) o (v % wordValues) 0 d
 
       old-copy : (writer ≡ p → ⊥) → (b : Bool) → dirtyAt m p g ≡ b → getD (copyOf m p g) o 0 ≡ seen (lim .words) g o p c l base
       old-copy k true e = inv .dirty-copy e k
       old-copy k false e = inv .clean-copy e
 
   -- a store to the word
-  pub store-there : o ≡ offsetOfWord lim x → o < length (copyOf m p g) → PageInv (lim .words) g o p c m′ l p (v % 4294967296) base
+  pub store-there : o ≡ offsetOfWord lim x → o < length (copyOf m p g) → PageInv (lim .words) g o p c m′ l p (v % wordValues) base
   store-there d h =
       record {
         fresh-up = inv .fresh-up;
@@ -120,5 +121,5 @@ module _ (lim : Limits) (o : ℕ) (c : Clocks) (m : Pages) (l : List Record) (p 
         writer-dirty = λ e. stored-dirty lim m p x v;
         writer-copy =
             λ e. ap (λ (t : List ℕ). getD t o 0) (stored-copy lim m p x v)
-            ∙ rw (← d) (getD-set-same (copyOf m p g) o (v % 4294967296) 0 h);
+            ∙ rw (← d) (getD-set-same (copyOf m p g) o (v % wordValues) 0 h);
       }

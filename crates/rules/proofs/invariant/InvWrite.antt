@@ -9,6 +9,7 @@ use mathlib.Core.Bool.{Bool, true, false, cond, false≢true}
 use mathlib.Core.List.{List}
 use lib.ListN.{length, getD}
 use borrow.Author.Tests.{ne-eqb}
+use Rattle.limits.specs.Limits.{wordValues}
 use Rattle.clock.specs.Clocks.{entryOf}
 use Rattle.rules.specs.State.{Limits, Holder, Processor, Applied, clockOf, copyOf, dirtyAt, State, withPages, standing}
 use Rattle.rules.specs.Steps.{pageOfWord, offsetOfWord, twinTaken, stored}
@@ -71,7 +72,7 @@ module _ (lim : Limits) (w : ℕ) (s : State) (γ : Ghost) (p x v : ℕ) where
 
     -- the counts after a store to w
     abbrev γ′ : Ghost
-    γ′ = record { writes = γ .writes + 1; last = v % 4294967296; base = γ .base; writer = p; known = withNumber (γ .known) (Processor p) (γ .writes + 1) }
+    γ′ = record { writes = γ .writes + 1; last = v % wordValues; base = γ .base; writer = p; known = withNumber (γ .known) (Processor p) (γ .writes + 1) }
 
     module _ (all : γ .known (Processor p) ≡ γ .writes) (few : (y : Holder) → γ .known y ≤ γ .writes) where
       -- no other processor has stores to w that no interval has
@@ -119,7 +120,7 @@ module _ (lim : Limits) (w : ℕ) (s : State) (γ : Ghost) (p x v : ℕ) where
             resting-clean = still-clean;
           }
         where
-          other : (q : ℕ) → 1 ≤ q → q ≤ s .counts .processors → (q ≡ p → ⊥) → PageInv (lim .words) g o q (s .clocks) (s′ .pages) (standing s) p (v % 4294967296) (γ .base)
+          other : (q : ℕ) → 1 ≤ q → q ≤ s .counts .processors → (q ≡ p → ⊥) → PageInv (lim .words) g o q (s .clocks) (s′ .pages) (standing s) p (v % wordValues) (γ .base)
           other q hq kq e =
               let i = page-elsewhere q hq kq (λ a z. e a) in
               record {
@@ -132,7 +133,7 @@ module _ (lim : Limits) (w : ℕ) (s : State) (γ : Ghost) (p x v : ℕ) where
                 writer-copy = λ z. absurd (e (sym z));
               }
 
-          go : (q : ℕ) → 1 ≤ q → q ≤ s .counts .processors → Dec (q ≡ p) → PageInv (lim .words) g o q (s .clocks) (s′ .pages) (standing s) p (v % 4294967296) (γ .base)
+          go : (q : ℕ) → 1 ≤ q → q ≤ s .counts .processors → Dec (q ≡ p) → PageInv (lim .words) g o q (s .clocks) (s′ .pages) (standing s) p (v % wordValues) (γ .base)
           go q hq kq (yes e) =
               rw (e, ← d)
               (store-there lim (offsetOfWord lim x) (s .clocks) (s .pages) (standing s) p x v (γ .writer) (γ .last) (γ .base) current (rw (← d) at (inv .page p h k)) refl (rw d long))

@@ -12,7 +12,7 @@ use Rattle.rules.specs.State.{Limits, Marks, withArrived, withWanted, St
 use Rattle.rules.specs.Lines.{waits, lockAsked, lockHanded}
 use Rattle.rules.specs.Close.{closed}
 use Rattle.rules.specs.Fetch.{fetched}
-use Rattle.rules.specs.Steps.{read, write, acquire, release, atBarrier, allArrived, roundDone, allFetched, emptied, collected, wantsCollection, arrive, want}
+use Rattle.rules.specs.Steps.{read, write, acquire, release, atBarrier, allArrived, roundDone, allFetched, noneFetched, emptied, collected, wantsCollection, arrive, want}
 use Rattle.rules.specs.Refusals.{Action, Read, Write, Acquire, Release, Arrive, Want, TallyAdd, TallyRead, Unknown, effect}
 use Rattle.rules.proofs.state.Fetches.{all-fetched-marks}
 use Rattle.rules.proofs.state.Waiters.{awaits, turnAt, holderIn, asked-arrived, handed-arrived}
@@ -38,7 +38,7 @@ arrive-keeps f marks-kept wish-kept lim s p = go (allArrived (atBarrier s p)) (w
     round = marks-kept (atBarrier s p .marks) (map (λ (mark : ℕ). 0) (arrivedMarks s p)) ∙ there
 
     go : (a b : Bool)
-        → f (cond a (cond b (collected lim (roundDone (atBarrier s p))) (record { after = roundDone (atBarrier s p); count = 0 })) (record { after = atBarrier s p; count = 0 }) .after .marks)
+        → f (cond a (cond b (collected lim (roundDone (atBarrier s p))) (noneFetched (roundDone (atBarrier s p)))) (noneFetched (atBarrier s p)) .after .marks)
         ≡ f (s .marks)
     go true true = wish-kept (allFetched lim (roundDone (atBarrier s p)) (s .counts .processors) .after .marks) 0 ∙ ap f (all-fetched-marks lim (roundDone (atBarrier s p))) ∙ round
     go true false = round
@@ -50,7 +50,7 @@ unfolding arrive collected emptied roundDone atBarrier closed completes
 arrive-arrived lim s p = go (allArrived (atBarrier s p)) (wantsCollection (atBarrier s p))
   where
     go : (a b : Bool)
-        → cond a (cond b (collected lim (roundDone (atBarrier s p))) (record { after = roundDone (atBarrier s p); count = 0 })) (record { after = atBarrier s p; count = 0 }) .after .marks .arrived
+        → cond a (cond b (collected lim (roundDone (atBarrier s p))) (noneFetched (roundDone (atBarrier s p)))) (noneFetched (atBarrier s p)) .after .marks .arrived
         ≡ cond a (map (λ (mark : ℕ). 0) (arrivedMarks s p)) (arrivedMarks s p)
     go true true = ap (λ (m : Marks). m .arrived) (all-fetched-marks lim (roundDone (atBarrier s p)))
     go true false = refl

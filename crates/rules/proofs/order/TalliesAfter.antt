@@ -8,11 +8,12 @@ use lib.Dec.{eqb}
 use borrow.Author.Tests.{ne-eqb}
 use Rattle.lists.proofs.Tables.{cell-put}
 use Rattle.lists.proofs.Tabulated.{get-tabulate}
+use Rattle.limits.specs.Limits.{wordValues}
 use Rattle.rules.specs.State.{Limits, Shared, postedOf, addsOf, State}
 use Rattle.rules.specs.Tallies.{tallyAdded, totalAfter, posting}
 use Rattle.rules.specs.Close.{closed}
 use Rattle.rules.specs.Fetch.{fetched}
-use Rattle.rules.specs.Steps.{read, write, acquire, release, atBarrier, allArrived, roundDone, emptied, collected, wantsCollection, arrive, want}
+use Rattle.rules.specs.Steps.{read, write, acquire, release, atBarrier, allArrived, roundDone, noneFetched, emptied, collected, wantsCollection, arrive, want}
 use Rattle.rules.specs.Refusals.{Step, Action, Read, Write, Acquire, Release, Arrive, Want, TallyAdd, TallyRead, Unknown, actionOf, objectBound, effect}
 use Rattle.rules.specs.Demand.{valueField}
 use Rattle.rules.proofs.state.Fetches.{all-fetched-shared}
@@ -40,7 +41,7 @@ unfolding arrive collected emptied roundDone atBarrier closed completes sharedAf
 shared-after-arrive lim s p = go (allArrived (atBarrier s p)) (wantsCollection (atBarrier s p))
   where
     go : (a b : Bool)
-        → cond a (cond b (collected lim (roundDone (atBarrier s p))) (record { after = roundDone (atBarrier s p); count = 0 })) (record { after = atBarrier s p; count = 0 }) .after .shared
+        → cond a (cond b (collected lim (roundDone (atBarrier s p))) (noneFetched (roundDone (atBarrier s p)))) (noneFetched (atBarrier s p)) .after .shared
         ≡ cond a (posting (s .shared) (s .counts .processors)) (s .shared)
     go true true = all-fetched-shared lim (roundDone (atBarrier s p))
     go true false = refl
@@ -67,9 +68,9 @@ unfolding postedOf tallyAdded
 posted-added h p u v t = refl
 
 -- and adds to the tally of its processor
-pub adds-added : (h : Shared) (p u v q t : ℕ) → addsOf (tallyAdded h p u v) q t ≡ cond (eqb q p && eqb t u) ((addsOf h p u + v) % 4294967296) (addsOf h q t)
+pub adds-added : (h : Shared) (p u v q t : ℕ) → addsOf (tallyAdded h p u v) q t ≡ cond (eqb q p && eqb t u) ((addsOf h p u + v) % wordValues) (addsOf h q t)
 unfolding addsOf tallyAdded
-adds-added h p u v q t = cell-put 0 (h .adds) p u q t ((addsOf h p u + v) % 4294967296)
+adds-added h p u v q t = cell-put 0 (h .adds) p u q t ((addsOf h p u + v) % wordValues)
 
 -- a posted total is that after the round
 pub posted-posted : (h : Shared) (n t : ℕ) → t < length (h .posted) → postedOf (posting h n) t ≡ totalAfter h n t

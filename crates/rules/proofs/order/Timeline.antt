@@ -10,7 +10,7 @@ use Rattle.rules.specs.State.{Limits, Counts, State}
 use Rattle.rules.specs.Opening.{opened}
 use Rattle.rules.specs.Close.{closed}
 use Rattle.rules.specs.Fetch.{fetched}
-use Rattle.rules.specs.Steps.{read, write, acquire, release, atBarrier, allArrived, roundDone, emptied, collected, wantsCollection, arrive, want}
+use Rattle.rules.specs.Steps.{read, write, acquire, release, atBarrier, allArrived, roundDone, noneFetched, emptied, collected, wantsCollection, arrive, want}
 use Rattle.rules.specs.Refusals.{Action, Read, Write, Acquire, Release, Arrive, Want, TallyAdd, TallyRead, Unknown, actionOf, refusalInOrder, effect, nextInOrder}
 use Rattle.rules.specs.Order.{Event, eventAt, Took}
 use Rattle.rules.proofs.state.Fetches.{all-fetched-counts}
@@ -79,7 +79,7 @@ arrive-counts : (lim : Limits) (s : State) (p : ℕ) → arrive lim s p .after .
 unfolding arrive collected emptied roundDone atBarrier closed
 arrive-counts lim s p = go (allArrived (atBarrier s p)) (wantsCollection (atBarrier s p))
   where
-    go : (a b : Bool) → cond a (cond b (collected lim (roundDone (atBarrier s p))) (record { after = roundDone (atBarrier s p); count = 0 })) (record { after = atBarrier s p; count = 0 }) .after .counts ≡ s .counts
+    go : (a b : Bool) → cond a (cond b (collected lim (roundDone (atBarrier s p))) (noneFetched (roundDone (atBarrier s p)))) (noneFetched (atBarrier s p)) .after .counts ≡ s .counts
     go true true = all-fetched-counts lim (roundDone (atBarrier s p))
     go true false = refl
     go false b = refl

@@ -10,7 +10,7 @@ use Rattle.rules.specs.Opening.{opened}
 use Rattle.rules.specs.Fetch.{withCopy, fetched}
 use Rattle.rules.specs.Refusals.{Step, Answer}
 use Rattle.rules.specs.Runs.{answersInOrder, stateInOrder}
-use Rattle.rules.proofs.runs.Listing.{reads, writes, acquires, releases, arrives, wants, start, answering}
+use Rattle.rules.proofs.runs.Listing.{reads, writes, acquires, releases, arrives, wants, start, moving, answering}
 
 -- an accepted step with no value and no count
 abbrev fine : Answer
@@ -130,7 +130,7 @@ unfoldable pub storedTwice : List Step
 storedTwice = acquires 1 0 ∷ writes 1 0 5 ∷ writes 1 1 6 ∷ releases 1 0 ∷ acquires 2 0 ∷ reads 2 0 ∷ reads 2 1 ∷ []
 
 -- the fetch of the second write leaves the twin as it was before the first store, so the diff has both words
-pub twin-is-kept : answersInOrder mainframe (start 2 1 1) storedTwice ≡ fine ∷ fine ∷ fine ∷ fine ∷ fine ∷ answering 0 5 1 ∷ answering 0 6 0 ∷ []
+pub twin-is-kept : answersInOrder mainframe (start 2 1 1) storedTwice ≡ fine ∷ fine ∷ fine ∷ fine ∷ fine ∷ moving 0 5 1 2 ∷ answering 0 6 0 ∷ []
 unfolding start storedTwice
 twin-is-kept = refl
 

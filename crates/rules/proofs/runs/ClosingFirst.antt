@@ -9,6 +9,7 @@ use lib.ListN.{getD, replicate}
 use lib.Dec.{lit<}
 use borrow.Author.Tests.{ne-eqb}
 use Rattle.lists.specs.Tables.{any}
+use Rattle.limits.specs.Limits.{wordValues}
 use Rattle.diff.specs.Format.{wordBytes, wordsBytes, written}
 use Rattle.diff.specs.Reading.{wordAt, wordsAt}
 use Rattle.diff.proofs.Words.{words-read, below-cons}
@@ -37,12 +38,12 @@ unfolding start
 second-word b h = record { diff = rw (ne-eqb 0 b (λ e. h (sym e))) }
 
 -- a stored value is read back from the four bytes of its word
-pub read-back : (v : ℕ) → v < 4294967296 → wordAt (wordBytes (valueField v)) 0 ≡ v
+pub read-back : (v : ℕ) → v < wordValues → wordAt (wordBytes (valueField v)) 0 ≡ v
 unfolding valueField wordAt wordsAt wordBytes wordsBytes
 read-back v fits =
-    let kept : v % 4294967296 ≡ v = omega arith in
+    let kept : v % wordValues ≡ v = omega arith in
     rw (kept)
-    (ap (λ (l : List ℕ). getD l 0 0) (words-read (wordBytes v) 0 (v ∷ []) [] (below-cons 4294967296 v [] fits (record { at = λ i. lit< tt })) refl))
+    (ap (λ (l : List ℕ). getD l 0 0) (words-read (wordBytes v) 0 (v ∷ []) [] (below-cons wordValues v [] fits (record { at = λ i. lit< tt })) refl))
 
 -- ---- the close
 

@@ -13,6 +13,7 @@ use lib.Dec.{eqb}
 use borrow.Author.Tests.{eqb-true}
 use Rattle.lists.specs.Tables.{any}
 use Rattle.lists.proofs.Tables.{any-holds}
+use Rattle.limits.specs.Limits.{wordValues}
 use Rattle.diff.specs.Format.{written}
 use Rattle.diff.proofs.Theorems.{equal-pages}
 use Rattle.rules.specs.State.{Limits, clockOf, withClock, Pages, copyOf, twinOf, dirtyAt, Records, appended, State, clock, own}
@@ -129,7 +130,7 @@ abbrev pub pageFetched : Limits → State → ℕ → ℕ → List ℕ
 pageFetched lim s p w = copyOf (fetched lim s p (pageOfWord lim w) .pages) p (pageOfWord lim w)
 
 abbrev pub pageStored : Limits → State → ℕ → ℕ → ℕ → List ℕ
-pageStored lim s p w v = set (pageFetched lim s p w) (offsetOfWord lim w) (v % 4294967296)
+pageStored lim s p w v = set (pageFetched lim s p w) (offsetOfWord lim w) (v % wordValues)
 
 -- an accepted store by a processor all of whose pages are clean
 module _ (lim : Limits) (s : State) (p w v : ℕ) (o : InOrder lim s) (clean : (g : ℕ) → dirtyAt (s .pages) p g ≡ false) (fine : refusalInOrder lim s (writes p w v) ≡ 0) where
@@ -172,7 +173,7 @@ module _ (lim : Limits) (s : State) (p w v : ℕ) (o : InOrder lim s) (clean : (
       kept = rw stored at (next-keeps-order lim s (writes p w v) o)
 
 -- the diff of a store of the value that the word has is the one byte 0
-pub equal-store : (lim : Limits) (s : State) (p w v : ℕ) → wordOf lim (fetched lim s p (pageOfWord lim w)) p w ≡ v % 4294967296 → written (pageFetched lim s p w) (pageStored lim s p w v) ≡ 0 ∷ []
+pub equal-store : (lim : Limits) (s : State) (p w v : ℕ) → wordOf lim (fetched lim s p (pageOfWord lim w)) p w ≡ v % wordValues → written (pageFetched lim s p w) (pageStored lim s p w v) ≡ 0 ∷ []
 unfolding wordOf
 equal-store lim s p w v same =
     let page : List ℕ = copyOf (fetched lim s p (pageOfWord lim w) .pages) p (pageOfWord lim w) in

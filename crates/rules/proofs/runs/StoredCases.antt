@@ -4,6 +4,7 @@ use native.Mathlib.Omega.{arith}
 use mathlib.Core.Path.{_≡_, refl, sym, ap, ap₂, _∙_}
 use mathlib.Core.List.{List, [], _∷_}
 use lib.ListN.{replicate}
+use Rattle.limits.specs.Limits.{wordValues}
 use Rattle.diff.specs.Format.{wordBytes}
 use Rattle.diff.specs.Reading.{wordAt}
 use Rattle.rules.specs.State.{mainframe}
@@ -18,19 +19,19 @@ pub record StoredValues (u v : ℕ) : Type 0 where
   pub first-not-0 : u ≡ 0 → ⊥
   pub second-not-0 : v ≡ 0 → ⊥
   pub not-equal : u ≡ v → ⊥
-  pub first-fits : u < 4294967296
-  pub second-fits : v < 4294967296
+  pub first-fits : u < wordValues
+  pub second-fits : v < wordValues
 
 -- what is stored is the value itself, so it is not 0, and not equal to what is read back of the other
-not-zero : (v : ℕ) → v < 4294967296 → (v ≡ 0 → ⊥) → valueField v ≡ 0 → ⊥
+not-zero : (v : ℕ) → v < wordValues → (v ≡ 0 → ⊥) → valueField v ≡ 0 → ⊥
 unfolding valueField
 not-zero v fits h e = h (omega arith)
 
-other-word : (u v : ℕ) → u < 4294967296 → v < 4294967296 → (u ≡ v → ⊥) → wordAt (wordBytes (valueField u)) 0 ≡ valueField v → ⊥
+other-word : (u v : ℕ) → u < wordValues → v < wordValues → (u ≡ v → ⊥) → wordAt (wordBytes (valueField u)) 0 ≡ valueField v → ⊥
 unfolding valueField
 other-word u v u-fits v-fits h e = h (omega (arith, read-back u u-fits, e))
 
--- an accepted step with no value and no count
+-- an accepted step with no value and no count, and no words
 abbrev pub accepted : Answer
 accepted = answering 0 0 0
 

@@ -12,7 +12,7 @@ use Rattle.rules.specs.InOrder.{present, dirtyPages}
 use Rattle.rules.specs.Lines.{firstInLine, lockAsked, lockHanded}
 use Rattle.rules.specs.Close.{anyDirty, ticked, newRecord, recorded, cleaned, closed}
 use Rattle.rules.specs.Fetch.{withCopy, fetched}
-use Rattle.rules.specs.Steps.{pageOfWord, read, newTwin, twinTaken, stored, write, learned, acquire, lockTold, waiterTold, release, atBarrier, allArrived, roundDone, pagesFetched, allFetched, emptied, collected, wantsCollection, arrive, want}
+use Rattle.rules.specs.Steps.{pageOfWord, read, newTwin, twinTaken, stored, write, learned, acquire, lockTold, waiterTold, release, atBarrier, allArrived, roundDone, pagesFetched, allFetched, noneFetched, emptied, collected, wantsCollection, arrive, want}
 use Rattle.rules.specs.Refusals.{Step, Action, Read, Write, Acquire, Release, Arrive, Want, TallyAdd, TallyRead, Unknown, actionOf, objectBound, usesValue, fits, lateRefusal, refusalBy, refusalInOrder, effect, nextInOrder}
 
 -- a state without what words, twins and diffs hold: of the pages which are dirty, of the records how many stand
@@ -147,7 +147,7 @@ unfolding arrive completed
 arrive-completed lim s p = go (allArrived (atBarrier s p)) (wantsCollection (atBarrier s p))
   where
     go : (a b : Bool)
-        → cond a (cond b (collected lim (roundDone (atBarrier s p))) (record { after = roundDone (atBarrier s p); count = 0 })) (record { after = atBarrier s p; count = 0 }) .after
+        → cond a (cond b (collected lim (roundDone (atBarrier s p))) (noneFetched (roundDone (atBarrier s p)))) (noneFetched (atBarrier s p)) .after
         ≡ cond a (cond b (collected lim (roundDone (atBarrier s p)) .after) (roundDone (atBarrier s p))) (atBarrier s p)
     go true true = refl
     go true false = refl

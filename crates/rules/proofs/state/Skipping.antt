@@ -9,6 +9,7 @@ use mathlib.Core.List.{List, [], _∷_}
 use lib.ListN.{length, getD}
 use lib.Seq.{ext-getD}
 use Rattle.lists.specs.Tables.{every}
+use Rattle.lists.proofs.Selected.{Each}
 use Rattle.lists.proofs.Tables.{every-at}
 use Rattle.diff.specs.Reading.{settings, applied}
 use Rattle.diff.specs.inner.Settings.{settingAt}
@@ -131,3 +132,17 @@ module _ (w : ℕ) where
           → length (cond b (unreplaced w rs) (r ∷ unreplaced w rs)) + length (cond b (r ∷ skipped w rs) (skipped w rs)) ≡ suc (length rs)
       go true e = omega (arith, e)
       go false e = omega (arith, e)
+
+-- ---- those that are not skipped are some of the records
+
+pub each-unreplaced : (P : Record → Type 0) (w : ℕ) (rs : List Record) → Each (λ q. P q) rs → Each (λ q. P q) (unreplaced w rs)
+unfolding unreplaced
+each-unreplaced P w [] h = h
+each-unreplaced P w (r ∷ rs) h = go (replaced w r rs) (each-unreplaced P w rs (h .1))
+  where
+    go : (b : Bool) → Each (λ q. P q) (unreplaced w rs) → Each (λ q. P q) (cond b (unreplaced w rs) (r ∷ unreplaced w rs))
+    go true e = e
+    go false e = (h .0, e)
+
+pub unreplaced-few : (w : ℕ) (rs : List Record) → length (unreplaced w rs) ≤ length rs
+unreplaced-few w rs = omega (arith, applied-and-skipped w rs)

@@ -11,36 +11,37 @@ use lib.Dec.{ltb, eqb}
 use borrow.Author.Tests.{lt-ltb, le-ltb, eq-eqb, ne-eqb}
 use Rattle.lists.specs.Tables.{total}
 use Rattle.lists.proofs.Tables.{total-same, total-zero}
+use Rattle.limits.specs.Limits.{wordValues}
 
 -- ---- wrapping
 
 -- a sum wraps alike with its first part wrapped
-pub wrap-first : (a b : ℕ) → (a % 4294967296 + b) % 4294967296 ≡ (a + b) % 4294967296
-wrap-first a b = mod-add-mod a 4294967296 b
+pub wrap-first : (a b : ℕ) → (a % wordValues + b) % wordValues ≡ (a + b) % wordValues
+wrap-first a b = mod-add-mod a wordValues b
 
 -- with its second part wrapped
-pub wrap-second : (a b : ℕ) → (a + b % 4294967296) % 4294967296 ≡ (a + b) % 4294967296
-wrap-second a b = add-mod-mod a b 4294967296
+pub wrap-second : (a b : ℕ) → (a + b % wordValues) % wordValues ≡ (a + b) % wordValues
+wrap-second a b = add-mod-mod a b wordValues
 
 -- with both wrapped
-pub wrap-both : (a b : ℕ) → (a % 4294967296 + b % 4294967296) % 4294967296 ≡ (a + b) % 4294967296
-wrap-both a b = wrap-first a (b % 4294967296) ∙ wrap-second a b
+pub wrap-both : (a b : ℕ) → (a % wordValues + b % wordValues) % wordValues ≡ (a + b) % wordValues
+wrap-both a b = wrap-first a (b % wordValues) ∙ wrap-second a b
 
 -- a sum of wrapped numbers wraps as the sum of the numbers
-pub wrap-total : (n : ℕ) (f : ℕ → ℕ) → total n (λ k. f k % 4294967296) % 4294967296 ≡ total n f % 4294967296
+pub wrap-total : (n : ℕ) (f : ℕ → ℕ) → total n (λ k. f k % wordValues) % wordValues ≡ total n f % wordValues
 unfolding total
 wrap-total zero f = refl
 wrap-total (suc n) f =
-    sym (wrap-first (total n (λ k. f k % 4294967296)) (f n % 4294967296))
-    ∙ ap (λ (x : ℕ). (x + f n % 4294967296) % 4294967296) (wrap-total n f)
+    sym (wrap-first (total n (λ k. f k % wordValues)) (f n % wordValues))
+    ∙ ap (λ (x : ℕ). (x + f n % wordValues) % wordValues) (wrap-total n f)
     ∙ wrap-both (total n f) (f n)
 
 -- also onto a wrapped number
-pub wrap-onto : (a n : ℕ) (f : ℕ → ℕ) → (a % 4294967296 + total n (λ k. f k % 4294967296)) % 4294967296 ≡ (a + total n f) % 4294967296
+pub wrap-onto : (a n : ℕ) (f : ℕ → ℕ) → (a % wordValues + total n (λ k. f k % wordValues)) % wordValues ≡ (a + total n f) % wordValues
 wrap-onto a n f =
-    wrap-first a (total n (λ k. f k % 4294967296))
-    ∙ sym (wrap-second a (total n (λ k. f k % 4294967296)))
-    ∙ ap (λ (x : ℕ). (a + x) % 4294967296) (wrap-total n f)
+    wrap-first a (total n (λ k. f k % wordValues))
+    ∙ sym (wrap-second a (total n (λ k. f k % wordValues)))
+    ∙ ap (λ (x : ℕ). (a + x) % wordValues) (wrap-total n f)
     ∙ wrap-second a (total n f)
 
 -- ---- sums

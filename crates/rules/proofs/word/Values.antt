@@ -10,6 +10,7 @@ use lib.ListN.{length, getD, set, length-set}
 use lib.Dec.{lit<}
 use Rattle.lists.specs.Tables.{select}
 use Rattle.lists.proofs.Selected.{Each, each-append, each-select, each-sort}
+use Rattle.limits.specs.Limits.{wordValues}
 use Rattle.diff.specs.Format.{Below}
 use Rattle.diff.specs.inner.Settings.{settingAt}
 use Rattle.diff.proofs.Theorems.{exactly-the-differing-words}
@@ -17,7 +18,7 @@ use Rattle.rules.specs.State.{dirtyAt, Limits, Clocks, Pages, copyOf, tw
 use Rattle.rules.specs.InOrder.{recordAt}
 use Rattle.rules.specs.Close.{newRecord, cleaned, closed}
 use Rattle.rules.specs.Fetch.{isPending, earlier, due, appliedAll, fetched, replaced, unreplaced, applying}
-use Rattle.rules.specs.Steps.{pageOfWord, offsetOfWord, read, twinTaken, stored, write, acquire, release, atBarrier, allArrived, roundDone, emptied, collected, wantsCollection, arrive, want}
+use Rattle.rules.specs.Steps.{pageOfWord, offsetOfWord, read, twinTaken, stored, write, acquire, release, atBarrier, allArrived, roundDone, noneFetched, emptied, collected, wantsCollection, arrive, want}
 use Rattle.rules.specs.Tallies.{tallyAdded}
 use Rattle.rules.specs.Refusals.{Step, Action, Read, Write, Acquire, Release, Arrive, Want, TallyAdd, TallyRead, Unknown, actionOf, effect}
 use Rattle.rules.proofs.state.Slots.{newRecords, slots-recorded, records-recorded, each-standing, standing-each}
@@ -122,22 +123,22 @@ module _ (lim : Limits) (Good : ℕ → ℕ → ℕ → Type 0) where
         records = h .records;
       }
 
-  written-holding : (s : State) (p w v : ℕ) → Good (pageOfWord lim w) (offsetOfWord lim w) (v % 4294967296) → Holding s → Holding (write lim s p w v .after)
+  written-holding : (s : State) (p w v : ℕ) → Good (pageOfWord lim w) (offsetOfWord lim w) (v % wordValues) → Holding s → Holding (write lim s p w v .after)
   unfolding write stored standing
   written-holding s p w v new h =
       let g : ℕ = pageOfWord lim w in
       let i : ℕ = offsetOfWord lim w in
       let m : Pages = twinTaken (fetched lim s p g .pages) p g in
-      let page : List ℕ = set (copyOf m p g) i (v % 4294967296) in
+      let page : List ℕ = set (copyOf m p g) i (v % wordValues) in
       let f = twinned-holding (fetched lim s p g) p g (fetched-holding s p g h) in
       record {
         whole = λ q k a b l.
             with-copy m p g page q k (λ (x : List ℕ). length x ≡ lim .words)
-            (λ d e. length-set (copyOf m p g) i (v % 4294967296) ∙ (rw (d, e) at (f .whole q k a b l))) (f .whole q k a b l);
+            (λ d e. length-set (copyOf m p g) i (v % wordValues) ∙ (rw (d, e) at (f .whole q k a b l))) (f .whole q k a b l);
         copies = λ q k o a b l n.
             with-copy m p g page q k (λ (x : List ℕ). Good k o (getD x o 0))
             (λ d e. rw e
-            (word-set (Good g) (copyOf m p g) i (v % 4294967296) o
+            (word-set (Good g) (copyOf m p g) i (v % wordValues) o
             (let z : length (copyOf m p g) ≡ lim .words = rw (d, e) at (f .whole q k a b l) in omega (arith, z, n))
             new (rw (d, e) at (f .copies q k o a b l n))))
             (f .copies q k o a b l n);
@@ -147,11 +148,11 @@ module _ (lim : Limits) (Good : ℕ → ℕ → ℕ → Type 0) where
 
   -- ---- closing
 
-  module _ (bounded : (g o x : ℕ) → Good g o x → x < 4294967296) (s : State) (p : ℕ) (some-p : 1 ≤ p) (present-p : p ≤ s .counts .processors)
+  module _ (bounded : (g o x : ℕ) → Good g o x → x < wordValues) (s : State) (p : ℕ) (some-p : 1 ≤ p) (present-p : p ≤ s .counts .processors)
       (twin : (g : ℕ) → g < s .counts .pages → length (twinOf (s .pages) p g) ≡ lim .words) (h : Holding s) where
-    copy-below : (g : ℕ) → g < s .counts .pages → Below 4294967296 (copyOf (s .pages) p g)
+    copy-below : (g : ℕ) → g < s .counts .pages → Below wordValues (copyOf (s .pages) p g)
     copy-below g l =
-        words-below 4294967296 (lim .words) (copyOf (s .pages) p g) (lit< tt) (h .whole p g some-p present-p l)
+        words-below wordValues (lim .words) (copyOf (s .pages) p g) (lit< tt) (h .whole p g some-p present-p l)
         (λ i m. bounded g i (getD (copyOf (s .pages) p g) i 0) (h .copies p g i some-p present-p l m))
 
     new-record-good : (g : ℕ) → g < s .counts .pages → RecordGood (newRecord s p g)
@@ -207,15 +208,15 @@ module _ (lim : Limits) (Good : ℕ → ℕ → ℕ → Type 0) where
       over = shared-aside (withMarks (withClocks (atBarrier s p) (roundDone (atBarrier s p) .clocks)) (roundDone (atBarrier s p) .marks)) (roundDone (atBarrier s p) .shared) (moved (atBarrier s p) (roundDone (atBarrier s p) .clocks) (roundDone (atBarrier s p) .marks) there)
 
       go : (a b : Bool)
-          → Holding (cond a (cond b (collected lim (roundDone (atBarrier s p))) (record { after = roundDone (atBarrier s p); count = 0 })) (record { after = atBarrier s p; count = 0 }) .after)
+          → Holding (cond a (cond b (collected lim (roundDone (atBarrier s p))) (noneFetched (roundDone (atBarrier s p)))) (noneFetched (atBarrier s p)) .after)
       go true true = collected-holding (roundDone (atBarrier s p)) over
       go true false = over
       go false b = there
 
 -- every accepted step keeps the property, if a written value has it at its word
 pub effect-keeps-values : (lim : Limits) (Good : ℕ → ℕ → ℕ → Type 0) (s : State) (t : Step)
-    → ((g o x : ℕ) → Good g o x → x < 4294967296)
-    → ((x v : ℕ) → actionOf t ≡ Write x v → Good (pageOfWord lim x) (offsetOfWord lim x) (v % 4294967296))
+    → ((g o x : ℕ) → Good g o x → x < wordValues)
+    → ((x v : ℕ) → actionOf t ≡ Write x v → Good (pageOfWord lim x) (offsetOfWord lim x) (v % wordValues))
     → InOrder lim s → Accepted lim s t → ValuesGood lim Good s → ValuesGood lim Good (effect lim s (t .processor) (actionOf t) .after)
 unfolding effect read acquire release want
 effect-keeps-values lim Good s t bounded new ord acc h =

@@ -5,6 +5,7 @@ use native.Mathlib.Omega.{arith}
 use mathlib.Core.Path.{_≡_, sym, ap₂, _∙_, subst}
 use mathlib.Core.List.{List}
 use lib.ListN.{getD}
+use Rattle.limits.specs.Limits.{wordValues}
 use Rattle.rules.specs.State.{Limits, Counts, copyOf, State}
 use Rattle.rules.specs.InOrder.{recordAt}
 use Rattle.rules.specs.Opening.{opened}
@@ -25,10 +26,10 @@ values-weaken lim Good Fair s f h =
 
 -- Good t g o x: at time t, x may be a value of the word at offset o of page g
 module _ (lim : Limits) (c : Counts) (es : List Event) (r : Timeline lim c es) (Good : ℕ → ℕ → ℕ → ℕ → Type 0)
-    (bounded : (t g o x : ℕ) → Good t g o x → x < 4294967296)
+    (bounded : (t g o x : ℕ) → Good t g o x → x < wordValues)
     (at-first : (g o : ℕ) → Good 0 g o 0)
     (later : (t g o x : ℕ) → Good t g o x → Good (suc t) g o x)
-    (on-write : (t p x v : ℕ) → Took es t p (Write x v) → Good (suc t) (pageOfWord lim x) (offsetOfWord lim x) (v % 4294967296)) where
+    (on-write : (t p x v : ℕ) → Took es t p (Write x v) → Good (suc t) (pageOfWord lim x) (offsetOfWord lim x) (v % wordValues)) where
   values-at-first : ValuesGood lim (Good 0) (opened lim c)
   unfolding opened
   values-at-first =

@@ -6,4 +6,4 @@ use Rattle.run_list.proofs.lay_answer.Tie as tie
 pub lay-answer-spec : {M : Type 1} → statement M
 lay-answer-spec =
     tie.close
-    (tie.spec (λ c. search laying-laws) (λ c. search laying-laws) (λ c. search laying-laws) (λ c. search laying-laws) (λ c. search laying-laws) (λ c. search laying-laws) (λ c. search laying-laws) (λ c. search laying-laws) (λ c. search laying-laws) (λ c. search laying-laws))
+    (tie.spec (λ c. search laying-laws) (λ c. search laying-laws) (λ c. search laying-laws) (λ c. search laying-laws) (λ c. search laying-laws) (λ c. search laying-laws) (λ c. search laying-laws) (λ c. search laying-laws) (λ c. search laying-laws) (λ c. search laying-laws) (λ c. search laying-laws) (λ c. search laying-laws) (λ c. search laying-laws))

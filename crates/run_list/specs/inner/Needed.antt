@@ -4,7 +4,7 @@ use mathlib.Core.Path.{_≡_}
 use mathlib.Core.List.{List, [], _∷_}
 use lib.ListN.{length, take, drop}
 use lib.Seq.{sets}
-use Rattle.limits.specs.Files.{fileRecordWidth}
+use Rattle.limits.specs.Files.{fileRecordWidth, answerWidth}
 use Rattle.rules.specs.Refusals.{refusedAs, answerInOrder, nextInOrder}
 use Rattle.rules.specs.Runs.{answersInOrder, stateInOrder}
 use Rattle.rules.specs.State.{mainframe, State}
@@ -20,7 +20,7 @@ use Rattle.run_list.specs.Runs.{recordsRun, firstRefusal}
 
 -- ---- one record
 
--- the three words from a place on tell an outcome, and the other words are as they were
+-- the four words from a place on tell an outcome, and the other words are as they were
 pub record OutcomeLaid (out : List ℕ) (at : ℕ) (o : Outcome) (out′ : List ℕ) : Type 0 where
   pub is : out′ ≡ sets out at (answerWords (told o ∷ []))
 
@@ -28,11 +28,11 @@ pub record OutcomeLaid (out : List ℕ) (at : ℕ) (o : Outcome) (out′ : List 
 pub record RecordReady (bytes : List ℕ) (i : ℕ) (out c w r m x : List ℕ) : Type 0 where
   pub ready : ReadyKept c w r m x
   pub there : fileRecordWidth * i + fileRecordWidth ≤ length bytes
-  pub room : 3 * i + 3 ≤ length out
+  pub room : answerWidth * i + answerWidth ≤ length out
 
 -- the step of record i was taken on the state s: its answer is laid, the areas hold the state that it leaves, and the index is kept
 pub record StepLaid (bytes : List ℕ) (i : ℕ) (s : State) (out out′ c w r m x : List ℕ) : Type 0 where
-  pub laid : out′ ≡ sets out (3 * i) (answerWords (answerInOrder mainframe s (stepFrom (drop (fileRecordWidth * i) bytes)) ∷ []))
+  pub laid : out′ ≡ sets out (answerWidth * i) (answerWords (answerInOrder mainframe s (stepFrom (drop (fileRecordWidth * i) bytes)) ∷ []))
   pub areas : Holds c w r m (nextInOrder mainframe s (stepFrom (drop (fileRecordWidth * i) bytes)))
   pub kept : IndexKept c r m x
 
@@ -52,7 +52,7 @@ pub record RecordsThere (bytes out : List ℕ) (n : ℕ) : Type 0 where
 -- a record stands in the bytes, and the words have room for its answer
 pub record OpeningThere (bytes out : List ℕ) : Type 0 where
   pub there : fileRecordWidth ≤ length bytes
-  pub room : 3 ≤ length out
+  pub room : answerWidth ≤ length out
 
 -- the opening was answered with the refusal r: the answer is laid, and the areas are those that the opening leaves
 pub record OpeningLaid (bytes out : List ℕ) (a : Areas) (r : ℕ) (out′ : List ℕ) (a′ : Areas) : Type 0 where
@@ -67,10 +67,10 @@ pub record StepsThere (bytes : List ℕ) (n : ℕ) (out c w r m : List ℕ) : Ty
   pub ready : Ready c w r m
   pub opening : 1 ≤ n
   pub there : fileRecordWidth * n ≤ length bytes
-  pub room : 3 * n ≤ length out
+  pub room : answerWidth * n ≤ length out
 
 -- the steps of n records behind the opening were run on the state s: their answers are laid behind the opening's, and the areas hold the
 -- state that they leave
 pub record StepsLaid (bytes : List ℕ) (n : ℕ) (s : State) (out out′ c w r m : List ℕ) : Type 0 where
-  pub laid : out′ ≡ sets out 3 (answerWords (answersInOrder mainframe s (stepsIn (n - 1) (drop fileRecordWidth bytes))))
+  pub laid : out′ ≡ sets out answerWidth (answerWords (answersInOrder mainframe s (stepsIn (n - 1) (drop fileRecordWidth bytes))))
   pub areas : Holds c w r m (stateInOrder mainframe s (stepsIn (n - 1) (drop fileRecordWidth bytes)))

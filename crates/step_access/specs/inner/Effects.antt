@@ -12,15 +12,16 @@ use Rattle.layout.specs.Areas.{copyRow, stateIn}
 use Rattle.layout.specs.inner.Needed.{Holds}
 use Rattle.fetch_index.specs.inner.Index.{IndexKept}
 
--- the value and the count answered are those of the effect e, and so is the state that the areas hold
-pub record AnsweredAs (e : Effect) (value count : ℕ) (c w r m : List ℕ) : Type 0 where
+-- the value, the count and the words answered are those of the effect e, and so is the state that the areas hold
+pub record AnsweredAs (e : Effect) (value count moved : ℕ) (c w r m : List ℕ) : Type 0 where
   pub answer : value ≡ e .value
   pub applied : count ≡ e .count
+  pub moved-is : moved ≡ e .words
   pub areas : Holds c w r m (e .after)
 
 -- the same, and the index is kept
-pub record AnsweredKept (e : Effect) (value count : ℕ) (c w r m x : List ℕ) : Type 0 where
-  pub answered : AnsweredAs e value count c w r m
+pub record AnsweredKept (e : Effect) (value count moved : ℕ) (c w r m x : List ℕ) : Type 0 where
+  pub answered : AnsweredAs e value count moved c w r m
   pub kept : IndexKept c r m x
 
 -- "if the page is clean, take the twin", for page g of p

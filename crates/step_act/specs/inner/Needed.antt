@@ -6,7 +6,7 @@ use mathlib.Core.List.{List}
 use lib.ListN.{length}
 use Rattle.limits.specs.inner.Sizes.{wordArea}
 use Rattle.rules.specs.State.{mainframe}
-use Rattle.rules.specs.Refusals.{stepOf, actionOf, refusalInOrder, effect}
+use Rattle.rules.specs.Refusals.{stepOf, actionOf, refusalInOrder, effect, acceptedAs}
 use Rattle.rules.specs.Steps.{Effect}
 use Rattle.layout.specs.Areas.{stateIn}
 use Rattle.layout.specs.inner.Needed.{Ready, Holds}
@@ -59,7 +59,7 @@ pub record Tallying (w : List ℕ) (kind p object : ℕ) : Type 0 where
 
 -- the outcome is that of an accepted step with the effect e, and the areas hold the state that e leaves
 pub record DoneAs (e : Effect) (o : Outcome) (c w r m : List ℕ) : Type 0 where
-  pub outcome : Tells o (record { refusal = 0; value = e .value; count = e .count })
+  pub outcome : Tells o (acceptedAs e)
   pub areas : Holds c w r m (e .after)
 
 -- the same, and the index is kept
@@ -72,4 +72,4 @@ pub record Tallied (w w′ : List ℕ) (kind p object value : ℕ) (o : Outcome)
   pub words : length w′ ≡ wordArea
   pub is : (c r m : List ℕ) → stateIn mainframe c w′ r m ≡ effect mainframe (stateIn mainframe c w r m) p (actionOf (stepOf kind p object value)) .after
   pub outcome : (c r m : List ℕ)
-      → Tells o (record { refusal = 0; value = effect mainframe (stateIn mainframe c w r m) p (actionOf (stepOf kind p object value)) .value; count = effect mainframe (stateIn mainframe c w r m) p (actionOf (stepOf kind p object value)) .count })
+      → Tells o (acceptedAs (effect mainframe (stateIn mainframe c w r m) p (actionOf (stepOf kind p object value))))

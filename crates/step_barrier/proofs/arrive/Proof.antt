@@ -6,4 +6,4 @@ use Rattle.step_barrier.proofs.arrive.Tie as tie
 pub arrive-spec : {M : Type 1} → statement M
 arrive-spec =
     tie.close
-    (tie.spec (λ c κs. search act-laws) (λ c κs. search act-laws) (λ c. search act-laws) (λ c. search act-laws) (λ c. search act-laws) (λ c. search act-laws) (λ c. search act-laws) (λ c κs. search act-laws) (λ c. search act-laws) (λ c. search act-laws) (λ c. search act-laws) (λ c. search act-laws) (λ c. search act-laws) (λ c. search act-laws))
+    (tie.spec (λ c κs. search act-laws) (λ c κs. search act-laws) (λ c κs. search act-laws) (λ c. search act-laws) (λ c. search act-laws) (λ c. search act-laws) (λ c. search act-laws) (λ c. search act-laws) (λ c κs. search act-laws) (λ c. search act-laws) (λ c. search act-laws) (λ c. search act-laws) (λ c. search act-laws) (λ c. search act-laws) (λ c. search act-laws))

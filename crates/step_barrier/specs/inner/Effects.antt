@@ -9,7 +9,7 @@ use lib.Dec.{eqb}
 use Rattle.lists.specs.Tables.{total}
 use Rattle.limits.specs.inner.Sizes.{clockArea, markArea, wordArea}
 use Rattle.rules.specs.State.{mainframe, Clocks, State, hasArrived}
-use Rattle.rules.specs.Steps.{roundDone, Fetches, collected, wantsCollection, want}
+use Rattle.rules.specs.Steps.{roundDone, Fetches, noneFetched, collected, wantsCollection, want}
 use Rattle.layout.specs.Areas.{clocksIn, stateIn}
 use Rattle.layout.specs.inner.Marks.{processorCount}
 
@@ -35,7 +35,7 @@ pub record RoundDone (c w m c′ w′ m′ : List ℕ) : Type 0 where
 
 -- "When the last card arrives": the round is completed, and garbage is collected if that is wanted
 unfoldable pub completed : State → Fetches
-completed s = cond (wantsCollection s) (collected mainframe (roundDone s)) (record { after = roundDone s; count = 0 })
+completed s = cond (wantsCollection s) (collected mainframe (roundDone s)) (noneFetched (roundDone s))
 
 -- the wish was set
 pub record Wanted (m m′ : List ℕ) : Type 0 where

@@ -11,14 +11,15 @@ use Rattle.layout.specs.Areas.{stateIn}
 use Rattle.layout.specs.inner.Needed.{Holds}
 use Rattle.fetch_index.specs.inner.Index.{IndexKept}
 
--- the count answered is that of the fetches f, and the areas hold the state that they leave
-pub record CountedAs (f : Fetches) (count : ℕ) (c w r m : List ℕ) : Type 0 where
+-- the count and the words answered are those of the fetches f, and the areas hold the state that they leave
+pub record CountedAs (f : Fetches) (count moved : ℕ) (c w r m : List ℕ) : Type 0 where
   pub applied : count ≡ f .count
+  pub moved-is : moved ≡ f .words
   pub areas : Holds c w r m (f .after)
 
 -- the same, and the index is kept
-pub record CountedKept (f : Fetches) (count : ℕ) (c w r m x : List ℕ) : Type 0 where
-  pub counted : CountedAs f count c w r m
+pub record CountedKept (f : Fetches) (count moved : ℕ) (c w r m x : List ℕ) : Type 0 where
+  pub counted : CountedAs f count moved c w r m
   pub kept : IndexKept c r m x
 
 -- the records went, the clocks became zeros and the wish was cleared

@@ -6,4 +6,4 @@ use Rattle.stepfile.proofs.ends_short.Tie as tie
 pub ends-short-spec : {M : Type 1} → statement M
 ends-short-spec =
     tie.close
-    (tie.spec (λ c. search finishing-laws) (λ c. search finishing-laws) (λ c. search finishing-laws))
+    (tie.spec (λ c. search finishing-laws) (λ c. search finishing-laws))

@@ -1,11 +1,12 @@
 -- What the functions of this crate ask of one another, and what the inner ones promise. Assumes nothing.
 use Prim.Native.Nat.{_*_, _+_, _-_, _/_, _<_, _≤_, ℕ}
 use mathlib.Core.Path.{_≡_}
-use mathlib.Core.Bool.{Bool, _&&_, _||_, false, not, true}
+use mathlib.Core.Bool.{Bool, _||_, false, true}
 use mathlib.Core.List.{List}
 use lib.ListN.{drop, length, take}
 use lib.Dec.{eqb, ltb}
 use Rattle.limits.specs.Files.{fileRecordWidth, lineLimit}
+use Rattle.limits.specs.Limits.{wordValues}
 use Rattle.limits.specs.inner.Sizes.{fileRecordLimit}
 use Rattle.layout.specs.Areas.{Areas}
 use Rattle.inorder.specs.Areas.{OrderIs}
@@ -28,7 +29,12 @@ pub record FeedableIs (b : Bool) (p : Progress) (chunk room : ℕ) : Type 0 wher
 
 -- b says whether a file that ends at this progress ends within a record or before the opening
 pub record EndsShort (b : Bool) (p : Progress) : Type 0 where
-  pub is : b ≡ (not (p .stopped) && (eqb (p .number) 0 || ltb 0 (p .held)))
+  pub is : b ≡ (eqb (p .number) 0 || ltb 0 (p .held))
+
+-- fewer than eight bytes are held, and there is room for the last line
+pub record EndThere (p : Progress) (out : List ℕ) : Type 0 where
+  pub few : p .held < fileRecordWidth
+  pub room : lineLimit ≤ length out
 
 -- ---- a chunk
 
@@ -43,9 +49,10 @@ pub record Feedable (p : Progress) (s : Stand) (chunk out c w r m : List ℕ) : 
   pub going : p .stopped ≡ false
   pub fewer : p .held < fileRecordWidth
   pub holding : Holding (p .held) (p .bytes)
-  pub first : s ≡ record { number = p .number; stopped = false; ready = s .ready; at = 0 }
+  pub first : s ≡ record { number = p .number; stopped = false; ready = s .ready; at = 0; words = p .words }
   pub room : lineLimit * (length chunk / fileRecordWidth) + lineLimit ≤ length out
   pub order : OrderIs (s .ready) c w r m
+  pub total : p .words ≤ wordValues * p .number
 
 -- the bytes held and the first of the chunk are eight
 pub record Completes (p : Progress) (s : Stand) (h : Held) (chunk out c w r m : List ℕ) : Type 0 where
