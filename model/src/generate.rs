@@ -10,7 +10,7 @@ use crate::triggers::{tally_turn, triggers};
 
 /// The profiles; each is described at its function. Tallies are used in racy,
 /// damaged, blend and triggers. The others are those of the benchmark, whose
-/// files stay the same from one rule to the next.
+/// files change only where a rule of locks or barriers asks for it.
 pub const PROFILES: [&str; 10] = [
     "mixed", "locks", "rounds", "soak", "racy", "damaged", "chains", "blend", "quiet", "triggers",
 ];
