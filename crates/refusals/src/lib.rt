@@ -1,4 +1,4 @@
-// The refusals 3 to 10 and 17 of a step, in the order of document 01's table: from the marks of a state in order and the own entry of the step's
+// The refusals 3 to 10, 17 and 18 of a step, in the order of document 01's table: from the marks of a state in order and the own entry of the step's
 // processor, and from nothing else. Every contract is an equation over the state that the marks alone show, with a definition of the rules
 // or of specs/Parts.antt and specs/Bounds.antt.
 ghost use mathlib.Core.Path.{_≡_};
