@@ -1,9 +1,5 @@
 -- `late_refusal` meets its contract. Assumes nothing.
 use Rattle.refusals.proofs.Refusing.{refusal-laws}
--- `late_refusal` meets its contract. Assumes nothing.
-use Rattle.refusals.proofs.Refusing.{refusal-laws}
--- `late_refusal` meets its contract. Assumes nothing.
-use Rattle.refusals.proofs.Refusing.{refusal-laws}
 use Rattle.refusals.proofs.late_refusal.Statement.{statement}
 use Rattle.refusals.proofs.late_refusal.Tie as tie
 
