@@ -41,7 +41,7 @@ extern "C" {
  * The kinds of step. The object is a word (read, write), a lock (acquire, release) or a tally (0 to 15), else 0; only a write and an add to a
  * tally have a value, else 0.
  * An acquire of a lock that another processor holds is accepted: the processor waits, and has no other step accepted until a release gives it
- * the lock.
+ * the lock. A processor that holds a lock must release it before it arrives.
  */
 enum lughtsavi_kind {
     LUGHTSAVI_READ = 1,
@@ -54,7 +54,7 @@ enum lughtsavi_kind {
     LUGHTSAVI_TALLY_READ = 9
 };
 
-/* The refusals, by the numbers of documents 01 and 02. Where several apply, the first that a call meets is given; 17 stands behind 6. */
+/* The refusals, by the numbers of documents 01 and 02. Where several apply, the first that a call meets is given; 17 and 18 stand behind 6. */
 enum lughtsavi_refusal {
     LUGHTSAVI_ACCEPTED = 0,
     LUGHTSAVI_OUT_OF_ORDER = 1,     /* the areas are not in order; for an opening: an area of a wrong size;
@@ -73,7 +73,8 @@ enum lughtsavi_refusal {
     LUGHTSAVI_DIFF_PAIR = 12,       /* a pair breaks its rule */
     LUGHTSAVI_DIFF_ROOM = 13,       /* the destination is shorter than the diff */
     LUGHTSAVI_PAGE_LENGTH = 14,     /* a page lent is not 32 words */
-    LUGHTSAVI_WAITS = 17            /* the processor waits for a lock */
+    LUGHTSAVI_WAITS = 17,           /* the processor waits for a lock */
+    LUGHTSAVI_HOLDS_LOCK = 18       /* arrive: the processor holds a lock */
 };
 
 /*
@@ -104,7 +105,7 @@ bool lughtsavi_in_order(
  * Answers 0 where the step was done: `answer` is 0, value, count, words, and the areas hold the state after the step. Only a read, of a word
  * or of a tally, has a value other than 0; the count is the change records that the step applied to copies, the words are those that these
  * records set, all the words of each, a word that had its value already too.
- * Refuses by 1, then 3 to 6, 17, 7 to 10: it returns the refusal, `answer` is refusal, 0, 0, 0, and the areas are left untouched.
+ * Refuses by 1, then 3 to 6, 17, 18, 7 to 10: it returns the refusal, `answer` is refusal, 0, 0, 0, and the areas are left untouched.
  * Where `answer` has not four words it returns 1, and `answer` too is left untouched.
  */
 uint8_t lughtsavi_step(

@@ -229,7 +229,7 @@ fn rows() -> Vec<Row> {
         row("lines of records", |s| s.lines),
         row("  refusal 0", |s| s.refusals[0]),
     ];
-    for refusal in (2..=10).chain([15, 16, 17]) {
+    for refusal in (2..=10).chain([15, 16, 17, 18]) {
         let name = format!("  refusal {refusal}");
         rows.push(row(&name, move |s| s.refusals[refusal]));
     }

@@ -1,7 +1,7 @@
 //! The names of the switches of `model run --fault NAME`: document 01's
 //! "Faults that pass on a two-card bench", one against request L2 of document
-//! 02, five against request L4, six against request L5 and seven against request
-//! L6.
+//! 02, five against request L4, six against request L5, seven against request L6
+//! and four against request L7.
 
 #[derive(Clone, Copy, PartialEq, Eq, Debug)]
 pub enum Fault {
@@ -62,9 +62,18 @@ pub enum Fault {
     /// Against L6, "A run that did not stop at 2, 15 or 16": the last line stands
     /// behind these, too.
     WordsAlways,
+    /// Against L7: a card with a lock in hand arrives.
+    ArriveHolding,
+    /// Against L7: only lock 0 is looked at.
+    LockZeroAlone,
+    /// Against L7: only a lock for which others wait is looked at.
+    AwaitedAlone,
+    /// Against L7, "18, an arrival by a holder, after 17": it comes before 5, 6
+    /// and 17.
+    HolderFirst,
 }
 
-pub const FAULTS: [(&str, Fault); 25] = [
+pub const FAULTS: [(&str, Fault); 29] = [
     ("lock-own", Fault::LockOwn),
     ("by-card", Fault::ByCard),
     ("join", Fault::Join),
@@ -90,6 +99,10 @@ pub const FAULTS: [(&str, Fault); 25] = [
     ("words-count", Fault::WordsByCount),
     ("words-reads", Fault::WordsOfReads),
     ("words-ever", Fault::WordsAlways),
+    ("18-never", Fault::ArriveHolding),
+    ("18-lock-0", Fault::LockZeroAlone),
+    ("18-awaited", Fault::AwaitedAlone),
+    ("18-first", Fault::HolderFirst),
 ];
 
 pub fn by_name(name: &str) -> Option<Fault> {

@@ -8,12 +8,14 @@
 //! next; which waiter that is, is counted off from the accepted steps too.
 //! Tallies are no words: they order nothing, and what a read of one must answer
 //! is in `tally_judge.rs`. Of the last line the judge asks whether it is due, and
-//! whether the records applied can have set so many words.
+//! whether the records applied can have set so many words. That nobody arrives
+//! with a lock in hand is asked in `arrival_judge.rs`.
 //!
 //! Two judges of the same claim: `by_relation` builds the order as the
 //! document defines it (bit sets, short lists only), `by_clocks` counts steps
 //! with vectors of its own (any length). Short lists go through both.
 
+use crate::arrival_judge::arrivals_fit;
 use crate::diff::PAGE_WORDS;
 use crate::model::{Step, ACQUIRE, ARRIVE, READ, RELEASE, TALLY_READ, WRITE};
 use crate::stepfile::{record_at, stops, Line, Printed};
@@ -131,6 +133,7 @@ impl Verdict {
 pub fn judge(file: &[u8], printed: &Printed) -> Result<Verdict, String> {
     let (cards, list) = accepted_steps(file, &printed.lines)?;
     words_fit(printed)?;
+    arrivals_fit(file, &printed.lines)?;
     let verdict = by_clocks(cards, &list);
     if list.len() <= SHORT && by_relation(cards, &list) != verdict {
         return Err("the two judges differ".to_string());

@@ -3,6 +3,7 @@
 #![forbid(unsafe_code)]
 
 mod agree;
+mod arrival_judge;
 mod batons;
 mod blend;
 mod case;
@@ -19,6 +20,9 @@ mod equal_tests;
 mod fault;
 mod files;
 mod generate;
+mod holder_cases;
+#[cfg(test)]
+mod holder_tests;
 mod in_order;
 mod judge;
 mod model;

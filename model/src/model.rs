@@ -1,4 +1,4 @@
-//! The rules of document 01 with requests L1, L2, L4, L5 and L6 of document 02:
+//! The rules of document 01 with requests L1, L2 and L4 to L7 of document 02:
 //! opening, the eight kinds of step, their refusals, the lines of cards that
 //! wait for locks, a record for each dirty page at closing, tallies, fetches
 //! that skip what later records replace (`skip.rs`), and the words that they
@@ -291,6 +291,11 @@ impl Model {
         self.barrier.arrived[&card]
     }
 
+    /// Whether the card is the holder of any lock, waited for or not.
+    fn holds_any(&self, card: ProcId) -> bool {
+        self.locks.values().any(|lock| lock.holder == Some(card))
+    }
+
     /// The lock in whose line the card stands.
     pub fn awaited_by(&self, card: ProcId) -> Option<LockId> {
         let mut locks = self.locks.iter();
@@ -312,6 +317,9 @@ impl Model {
         if !self.processors.contains_key(&card) {
             return Some(4);
         }
+        if self.fault == Some(Fault::HolderFirst) && step.kind == ARRIVE && self.holds_any(card) {
+            return Some(18);
+        }
         // "5: word or lock absent, or an unused field not 0"; L4: "an absent
         // tally is 5"
         if !self.fields_fit(step) {
@@ -325,7 +333,19 @@ impl Model {
         if self.awaited_by(card).is_some() {
             return Some(17);
         }
+        // L7: "18, an arrival by a holder, after 17"
+        if step.kind == ARRIVE && self.found_holding(card) {
+            return Some(18);
+        }
         self.refusal_by_kind(step, card)
+    }
+
+    /// Whether a card that arrives is found to be a holder.
+    fn found_holding(&self, card: ProcId) -> bool {
+        match self.fault {
+            None => self.holds_any(card),
+            Some(fault) => self.found_holding_faulty(fault, card),
+        }
     }
 
     /// "Object is the word (kinds 1, 2) or lock (3, 4), else 0; value is used
@@ -678,8 +698,20 @@ impl Model {
     }
 }
 
-// The faulty ways to apply, for `model run --fault NAME` alone.
+// The faulty ways to refuse and to apply, for `model run --fault NAME` alone.
 impl Model {
+    fn found_holding_faulty(&self, fault: Fault, card: ProcId) -> bool {
+        let holds = |lock: &&Lock| lock.holder == Some(card);
+        let mut held = self.locks.values().filter(holds);
+        match fault {
+            Fault::ArriveHolding => false,
+            Fault::LockZeroAlone => self.locks[&LockId(0)].holder == Some(card),
+            Fault::AwaitedAlone => held.any(|lock| !lock.line.is_empty()),
+            // The others show elsewhere.
+            _ => self.holds_any(card),
+        }
+    }
+
     /// What is told to be moved is what the records not skipped come to, unless
     /// the fault is one of words.
     fn apply_faulty(

@@ -251,20 +251,31 @@ fn equal_store_between() -> Case {
 }
 
 fn same_offset_on_two_pages() -> Case {
-    let shows = "The same offset on another page replaces nothing: card 3 applies a record of each page by reads, cards 1, 2 and 4 four in a collecting round.";
+    let shows = "The same offset on another page replaces nothing: card 3 applies a record of each page. It may not arrive with the lock, so the others stay at the barrier.";
     let mut c = Case::open("same-offset-on-two-pages", [4, 2, 1], shows);
-    turn(&mut c, 1, 0, &[(5, 11)]);
-    turn(&mut c, 2, 0, &[(37, 22)]);
+    same_offset_read(&mut c);
+    c.ok(&[want(3), arrive(1), arrive(2)]);
+    c.refused(arrive(3), 18);
+    c.ok(&[arrive(4)]);
+    for card in [1, 2] {
+        c.refused(read(card, 5), 6);
+        c.refused(read(card, 37), 6);
+    }
+    c.gives(read(3, 5), 11, 0);
+    c.gives(read(3, 37), 22, 0);
+    c.refused(read(4, 5), 6);
+    c.refused(read(4, 37), 6);
+    c
+}
+
+/// Cards 1 and 2 store at one offset of two pages; card 3 takes the lock and
+/// reads both.
+pub fn same_offset_read(c: &mut Case) {
+    turn(c, 1, 0, &[(5, 11)]);
+    turn(c, 2, 0, &[(37, 22)]);
     c.ok(&[acquire(3, 0)]);
     c.gives(read(3, 5), 11, 1);
     c.gives(read(3, 37), 22, 1);
-    c.ok(&[want(3), arrive(1), arrive(2), arrive(3)]);
-    c.gives(arrive(4), 0, 4);
-    for card in 1..=4 {
-        c.gives(read(card, 5), 11, 0);
-        c.gives(read(card, 37), 22, 0);
-    }
-    c
 }
 
 fn replaced_in_the_next_fetch() -> Case {
@@ -307,7 +318,7 @@ fn set_back_to_what_it_was() -> Case {
 
 /// A card makes 63 intervals of one record each, interval n on word n % 32 of
 /// page 0, with the card's own lock free before and after the even ones.
-fn stores_all_over(c: &mut Case, card: u8) {
+pub fn stores_all_over(c: &mut Case, card: u8) {
     let lock = u16::from(card);
     for interval in 1..=63u16 {
         let value = 100 * u32::from(card) + u32::from(interval);
@@ -320,14 +331,16 @@ fn stores_all_over(c: &mut Case, card: u8) {
 }
 
 fn longest_fetch() -> Case {
-    let shows = "127 records of one page in one fetch, a race of equal sums: for each word the larger card's last record is applied, 32 in all.";
+    let shows = "Cards 1 and 2, with 63 records each, may not arrive with their locks, so card 4, which has arrived, fetches nothing.";
     let mut c = Case::open("longest-fetch", [4, 1, 4], shows);
     stores_all_over(&mut c, 1);
     stores_all_over(&mut c, 2);
     c.ok(&[write(3, 7, 301)]);
-    c.ok(&[arrive(1), arrive(2), arrive(3), arrive(4)]);
-    c.gives(read(4, 7), 239, 32);
-    c.gives(read(4, 0), 232, 0);
-    c.gives(read(4, 31), 263, 0);
+    c.refused(arrive(1), 18);
+    c.refused(arrive(2), 18);
+    c.ok(&[arrive(3), arrive(4)]);
+    for word in [7, 0, 31] {
+        c.refused(read(4, word), 6);
+    }
     c
 }

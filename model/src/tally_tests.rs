@@ -8,7 +8,7 @@ use crate::generate::{generate, PROFILES};
 use crate::in_order::broken_clause;
 use crate::judge::{judge, Broken, Rule};
 use crate::model::{Answer, Model, Step, ARRIVE, TALLIES, TALLY_ADD, TALLY_READ, WRAP};
-use crate::stepfile::{record_at, run, run_watched, Line};
+use crate::stepfile::{record_at, run, run_watched, Line, REFUSALS};
 use crate::tests::{case, state_after, with_value};
 
 const TALLY_FAULTS: [Fault; 5] = [
@@ -212,7 +212,7 @@ fn the_judge_sees_wrong_totals() {
         ("tally-wraps", 8, 1),
         ("tally-wraps", 11, 6),
         ("tally-collected", 10, 30),
-        ("tally-orders-nothing", 13, 6),
+        ("tally-told-by-the-round", 14, 6),
     ] {
         assert_eq!(with_value(name, number, due), Ok(0), "{name} {number}");
         for wrong in [due.wrapping_add(1), due.wrapping_sub(1)] {
@@ -308,7 +308,7 @@ fn broken_reads(file: &[u8], fault: Fault) -> usize {
 #[test]
 fn a_triggers_file_has_all_of_tallies() {
     let mut seen = Seen::default();
-    let mut refusals = [0; 18];
+    let mut refusals = [0; REFUSALS];
     let mut wrapped = 0;
     for seed in 0..10 {
         let file = generate("triggers", seed, 2000).expect("profile");

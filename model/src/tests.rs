@@ -1,7 +1,8 @@
 //! The starred bench cases asked of the model, and the judge's own tests. The
 //! tests of cards that wait are in `wait_tests.rs`, those of stores that alter
 //! nothing in `equal_tests.rs`, those of tallies in `tally_tests.rs`, those of
-//! skipped records in `skip_tests.rs`, those of words set in `words_tests.rs`.
+//! skipped records in `skip_tests.rs`, those of words set in `words_tests.rs`,
+//! those of holders that arrive in `holder_tests.rs`.
 
 use crate::clock::{ProcId, VectorClock};
 use crate::diff;
@@ -22,7 +23,7 @@ const LISTING_A: &str = "0 0 0 0
 9 0 0 0
 10 6 0 0
 11 0 0 0
-12 0 0 0
+12 18 0 0
 words 1
 ";
 
@@ -95,7 +96,7 @@ fn case_f_one_interval() {
 fn cases_n_and_o_counts() {
     assert_eq!(state_after("refusal-9").own_entry(ProcId(1)), 63);
     assert_eq!(state_after("case-n").own_entry(ProcId(1)), 1);
-    assert_eq!(state_after("refusal-order").records_and_dirty(), 128);
+    assert_eq!(state_after("refusal-order-freed").records_and_dirty(), 128);
     assert_eq!(state_after("case-o-equal").records.len(), 128);
 }
 

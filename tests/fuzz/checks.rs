@@ -13,8 +13,8 @@ use crate::tallies;
 /// What the checks have met, for the report.
 #[derive(Default)]
 pub struct Met {
-    /// Steps by refusal, 0 to 17.
-    pub refusals: [u64; 18],
+    /// Steps by refusal, 0 to 18.
+    pub refusals: [u64; 19],
     /// States that broke this clause of "in order" and no other.
     pub alone: [u64; order::CLAUSES.len()],
     /// States whose order was asked: in order, not in order.

@@ -181,7 +181,7 @@ fn damages(reached: &Areas) -> Vec<(String, Areas)> {
         areas.records[place] = byte;
         all.push((name.to_string(), areas));
     }
-    let marks: [(&str, usize, u8); 32] = [
+    let marks: [(&str, usize, u8); 35] = [
         ("no processors", 0, 0),
         ("nine processors", 0, 9),
         ("fewer processors than are used", 0, 2),
@@ -196,6 +196,9 @@ fn damages(reached: &Areas) -> Vec<(String, Areas)> {
         ("an absent lock has a holder", holder(2), 1),
         ("a lock held by an absent processor", holder(0), 6),
         ("a lock held by processor 255", holder(1), 255),
+        ("a lock held by one that has arrived", holder(1), 3),
+        ("a lock taken by one that has arrived", holder(0), 3),
+        ("a holder that has arrived", arrived(2), 1),
         ("an absent page is dirty", dirty(1, 2), 1),
         ("a page of an absent processor is dirty", dirty(6, 0), 1),
         ("the last dirty mark", dirty(8, 7), 1),

@@ -22,7 +22,7 @@ pub fn check(tally: &mut Tally) {
     }
     let kinds: Vec<usize> = (1..=6).chain([8, 9]).collect();
     tally.check("header: the kinds", numbers_of("lughtsavi_kind") == kinds);
-    let refusals: Vec<usize> = (0..=14).chain([17]).collect();
+    let refusals: Vec<usize> = (0..=14).chain([17, 18]).collect();
     tally.check(
         "header: the refusals",
         numbers_of("lughtsavi_refusal") == refusals,

@@ -54,9 +54,9 @@ fn answers_of_wrong_lengths(tally: &mut Tally, reached: &Areas) {
     }
 }
 
-/// The refusals 3 to 8 and 17, each in its place of the table: every byte is left as it was.
+/// The refusals 3 to 8, 17 and 18, each in its place of the table: every byte is left as it was.
 fn refused_steps(tally: &mut Tally, reached: &Areas) {
-    let steps: [(u8, Step); 66] = [
+    let steps: [(u8, Step); 69] = [
         (3, (0, 1, 0, 0)),
         (3, (7, 1, 0, 0)),
         (3, (257, 1, 0, 0)),
@@ -96,6 +96,9 @@ fn refused_steps(tally: &mut Tally, reached: &Areas) {
         (17, (4, 5, 1, 0)),
         (17, (5, 4, 0, 0)),
         (17, (6, 5, 0, 0)),
+        (18, (5, 2, 0, 0)),
+        (5, (5, 2, 1, 0)),
+        (5, (5, 2, 0, 1)),
         (7, (3, 2, 0, 0)),
         (8, (4, 1, 0, 0)),
         (8, (4, 2, 1, 0)),

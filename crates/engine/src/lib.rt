@@ -72,7 +72,7 @@ fn step_once(
     )
 }
 
-// A step on memory that is in order, with an index that is kept: the refusals 3 to 10, then what the accepted step does.
+// A step on memory that is in order, with an index that is kept: the refusals from 3 on, then what the accepted step does.
 pub fn step_on(
     kind: u32,
     processor: u32,

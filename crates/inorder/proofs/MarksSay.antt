@@ -1,13 +1,13 @@
 -- Lent memory that holds a state in order passes the tests on its marks and records, and so all tests. Assumes nothing.
-use Prim.Native.Nat.{ℕ, suc, _+_, _-_, _*_, _≤_, _<_}
+use Prim.Native.Nat.{ℕ, zero, suc, _+_, _-_, _*_, _≤_, _<_}
 use native.Mathlib.Omega.{arith}
 use mathlib.Core.Path.{_≡_, refl, sym, ap, _∙_}
-use mathlib.Core.Bool.{Bool, true, false, cond, not}
+use mathlib.Core.Bool.{Bool, true, false, cond, not, _||_}
 use mathlib.Core.Logic.{_⊎_, inl, inr}
 use mathlib.Core.List.{List}
 use lib.ListN.{getD, take, drop}
 use lib.Dec.{leb, ltb, eqb}
-use borrow.Author.Tests.{ltb-false, leb-true, eqb-true, not-true, not-false, lt-ltb, le-ltb, le-leb, eq-eqb}
+use borrow.Author.Tests.{ltb-false, leb-true, eqb-true, not-true, not-false, lt-ltb, le-ltb, le-leb, eq-eqb, ne-eqb}
 use Rattle.lists.specs.Tables.{every, any, total}
 use Rattle.lists.proofs.Conditions.{and-left, and-right, and-both}
 use Rattle.lists.proofs.Tables.{every-holds, any-holds}
@@ -59,7 +59,11 @@ module _ (c w r m : List ℕ) (o : InOrder mainframe (stateIn mainframe c w r m)
   unfolding holdersHold holderWithin present stateIn mainframe
   holders-say =
       and-both (every (lockCount m) (holderWithin m (processorCount m))) (every (lockLimit - lockCount m) (zeroAt m (firstHolder + lockCount m)))
-      (every-holds (lockCount m) (holderWithin m (processorCount m)) (λ l h. le-leb _ _ (within l (omega (arith, o .locks-fit)) (o .holder-present l))))
+      (every-holds (lockCount m) (holderWithin m (processorCount m)) (λ l h.
+      let n : l < lockLimit = omega (arith, h, o .locks-fit) in
+      let few = within l n (o .holder-present l) in
+      and-both (leb (getD m (firstHolder + l) 0) (processorCount m)) (eqb (getD m (firstHolder + l) 0) 0 || zeroAt m firstArrived (getD m (firstHolder + l) 0 - 1)) (le-leb _ _ few)
+      (away l n few (getD m (firstHolder + l) 0) refl (o .holder-away l))))
       (marks-zero-when m firstHolder lockLimit (lockCount m) (λ l h n. sym (holder-mark-read c w r m l n) ∙ o .absent-not-held l (lock-present-read c w r m l ∙ le-ltb l (lockCount m) h)))
     where
       within : (l : ℕ) → l < lockLimit → (holder (stateIn mainframe c w r m) l ≡ 0) ⊎ (present (stateIn mainframe c w r m) (holder (stateIn mainframe c w r m) l) ≡ true)
@@ -68,6 +72,17 @@ module _ (c w r m : List ℕ) (o : InOrder mainframe (stateIn mainframe c w r m)
       within l n (inr e) =
           let there : holder (stateIn mainframe c w r m) l ≤ processorCount m = leb-true _ _ (and-right (leb 1 (holder (stateIn mainframe c w r m) l)) (leb (holder (stateIn mainframe c w r m) l) (processorCount m)) e) in
           omega (arith, holder-mark-read c w r m l n)
+
+      away : (l : ℕ) → l < lockLimit → getD m (firstHolder + l) 0 ≤ processorCount m → (q : ℕ) → getD m (firstHolder + l) 0 ≡ q
+          → (holder (stateIn mainframe c w r m) l ≡ 0) ⊎ (hasArrived (stateIn mainframe c w r m) (holder (stateIn mainframe c w r m) l) ≡ false)
+          → (eqb (getD m (firstHolder + l) 0) 0 || zeroAt m firstArrived (getD m (firstHolder + l) 0 - 1)) ≡ true
+      away l n few zero z a = rw (eq-eqb (getD m (firstHolder + l) 0) 0 z)
+      away l n few (suc k) z (inl e) = absurd (omega (arith, z, e, holder-mark-read c w r m l n))
+      away l n few (suc k) z (inr e) =
+          let place : suc k - 1 ≡ k = omega arith in
+          let who : holder (stateIn mainframe c w r m) l ≡ suc k = holder-mark-read c w r m l n ∙ z in
+          let mark : not (zeroAt m firstArrived k) ≡ false = sym (arrived-mark-read c w r m k (omega (arith, few, z, o .processors-fit))) ∙ (rw who at e) in
+          rw (z, ne-eqb (suc k) 0 (omega arith), place) (not-false (zeroAt m firstArrived k) mark)
 
   arrived-say : arrivedHold m (processorCount m) ≡ true
   unfolding arrivedHold zeroAt stateIn mainframe

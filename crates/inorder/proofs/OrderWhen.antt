@@ -28,7 +28,7 @@ use Rattle.inorder.proofs.PlaceFacts.{same-truth}
 use Rattle.inorder.proofs.MarksSay.{areas-say}
 use Rattle.inorder.proofs.ClocksWhen.{held, ClocksPass, clocks-pass}
 use Rattle.inorder.proofs.ClockConditions.{absent-clocks, absent-entries, later-intervals-when, entries-known-when, applied-known-when}
-use Rattle.inorder.proofs.PageConditions.{absent-copies, absent-twins, absent-adds, absent-clean, dirty-have-interval-when, absent-not-held, holders-present-when, absent-not-arrived, someone-missing-when, room-kept-when}
+use Rattle.inorder.proofs.PageConditions.{absent-copies, absent-twins, absent-adds, absent-clean, dirty-have-interval-when, absent-not-held, holders-present-when, holders-away-when, absent-not-arrived, someone-missing-when, room-kept-when}
 use Rattle.inorder.proofs.RecordConditions.{records-sound-when}
 use Rattle.inorder.proofs.LineConditions.{absent-awake, absent-turn, lines-sound-when}
 
@@ -139,6 +139,7 @@ module _ (c w r m : List ℕ) (lent : Lent c w r m) where
           (holders-present-when c w r m (z .holders))
           (someone-missing-when c w r m (z .arrived) (fit .processors-fit))
           (lines-sound-when c w r m (z .lines) (fit .processors-fit) (fit .locks-fit))
+          (holders-away-when c w r m (z .holders) (fit .processors-fit))
 
   -- in areas of the fixed sizes the tests on places are the rules' test
   pub areas-hold-in-order : areasHold c w r m ≡ areasInOrder c w r m

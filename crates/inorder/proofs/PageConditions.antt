@@ -2,12 +2,12 @@
 use Prim.Native.Nat.{ℕ, zero, suc, _+_, _-_, _*_, _≤_, _<_}
 use native.Mathlib.Omega.{arith}
 use native.Mathlib.Decide.{decLt}
-use mathlib.Core.Path.{_≡_, sym, ap, _∙_}
+use mathlib.Core.Path.{_≡_, refl, sym, ap, _∙_}
 use mathlib.Core.Bool.{Bool, true, false, cond, not, _||_, false≢true}
 use mathlib.Core.List.{List, []}
 use lib.ListN.{length, getD, List·getD-eq-default}
-use lib.Dec.{ltb, eqb}
-use borrow.Author.Tests.{ltb-false, leb-true, eqb-false, not-false, lt-ltb, le-ltb, le-leb, eq-eqb}
+use lib.Dec.{leb, ltb, eqb}
+use borrow.Author.Tests.{ltb-false, leb-true, eqb-true, eqb-false, not-false, lt-ltb, le-ltb, le-leb, eq-eqb, ne-eqb}
 use Rattle.lists.specs.Tables.{every, any, total}
 use Rattle.lists.proofs.Conditions.{and-left, and-right, and-both, or-when}
 use Rattle.lists.proofs.Tables.{every-at, every-holds, Passes, any-at, any-holds}
@@ -15,7 +15,7 @@ use Rattle.limits.specs.Limits.{intervalLimit, lockLimit, pageLimit, pageWidth,
 use Rattle.limits.specs.Places.{firstArrived}
 use Rattle.limits.specs.inner.Sizes.{copyLimit, firstDirty, firstHolder, firstTally}
 use Rattle.clock.specs.Clocks.{zeros}
-use Rattle.rules.specs.InOrder.{present, everyProcessor, everyPage, presentHolder, allZero, dirtyPages, roomKept, dirtyHaveInterval, holdersPresent, someoneMissing}
+use Rattle.rules.specs.InOrder.{present, everyProcessor, everyPage, presentHolder, allZero, dirtyPages, roomKept, dirtyHaveInterval, holdersPresent, holdersAway, someoneMissing}
 use Rattle.rules.specs.State.{mainframe, Lock, Applied, copyOf, twinOf, dirtyAt, addsOf, own, holder, hasArrived}
 use Rattle.rules.proofs.inorder.Everywhere.{every-processor-holds, every-page-holds, all-zero-holds}
 use Rattle.rules.proofs.inorder.Facts.{Sized}
@@ -145,7 +145,7 @@ module _ (c w r m : List ℕ) (e : holdersHold m (processorCount m) (lockCount m
     where
       go : Dec (l < lockCount m) → holder (held c w r m) l ≤ processorCount m
       go (yes h) =
-          let most : getD m (firstHolder + l) 0 ≤ processorCount m = leb-true _ _ (every-at (lockCount m) (holderWithin m (processorCount m)) l (and-left _ (every (lockLimit - lockCount m) (zeroAt m (firstHolder + lockCount m))) e) h) in
+          let most : getD m (firstHolder + l) 0 ≤ processorCount m = leb-true _ _ (and-left (leb (getD m (firstHolder + l) 0) (processorCount m)) _ (every-at (lockCount m) (holderWithin m (processorCount m)) l (and-left _ (every (lockLimit - lockCount m) (zeroAt m (firstHolder + lockCount m))) e) h)) in
           omega (arith, holder-mark-read c w r m l n)
       go (no h) = omega (arith, free l n (omega arith))
 
@@ -162,6 +162,37 @@ module _ (c w r m : List ℕ) (e : holdersHold m (processorCount m) (lockCount m
     where
       there : (l : ℕ) → l < lockLimit → (holder (held c w r m) l ≡ 0 → ⊥) → present (held c w r m) (holder (held c w r m) l) ≡ true
       there l n h = and-both _ _ (le-leb 1 (holder (held c w r m) l) (omega arith)) (le-leb _ _ (below l n))
+
+  -- no holder has arrived
+  pub holders-away-when : processorCount m ≤ processorLimit → holdersAway mainframe (held c w r m) ≡ true
+  unfolding holdersAway holdersHold holderWithin mainframe zeroAt
+  holders-away-when fit = every-holds lockLimit _ (λ l n. or-when (eqb (holder (held c w r m) l) 0) _ (λ a. away l n (holder (held c w r m) l) refl (eqb-false (holder (held c w r m) l) 0 a)))
+    where
+      -- a lock that is held is present
+      lock-held : (l : ℕ) → l < lockLimit → (holder (held c w r m) l ≡ 0 → ⊥) → l < lockCount m
+      lock-held l n h = go (decLt l (lockCount m))
+        where
+          go : Dec (l < lockCount m) → l < lockCount m
+          go (yes b) = b
+          go (no b) = absurd (h (free l n (omega arith)))
+
+      -- and its holder's arrived mark is 0
+      mark-clear : (l k : ℕ) → getD m (firstHolder + l) 0 ≡ suc k → holderWithin m (processorCount m) l ≡ true → getD m (firstArrived + k) 0 ≡ 0
+      mark-clear l k byte within =
+          let place : suc k - 1 ≡ k = omega arith in
+          let said : (eqb (suc k) 0 || eqb (getD m (firstArrived + (suc k - 1)) 0) 0) ≡ true =
+          rw byte at (and-right (leb (getD m (firstHolder + l) 0) (processorCount m)) (eqb (getD m (firstHolder + l) 0) 0 || eqb (getD m (firstArrived + (getD m (firstHolder + l) 0 - 1)) 0) 0) within) in
+          eqb-true (getD m (firstArrived + k) 0) 0 (rw (ne-eqb (suc k) 0 (omega arith), place) at said)
+
+      away : (l : ℕ) → l < lockLimit → (q : ℕ) → holder (held c w r m) l ≡ q → (holder (held c w r m) l ≡ 0 → ⊥) → not (hasArrived (held c w r m) (holder (held c w r m) l)) ≡ true
+      away l n zero z h = absurd (h z)
+      away l n (suc k) z h =
+          let byte : getD m (firstHolder + l) 0 ≡ suc k = sym (holder-mark-read c w r m l n) ∙ z in
+          let few : suc k ≤ processorCount m = rw z at (below l n) in
+          let within : holderWithin m (processorCount m) l ≡ true =
+          every-at (lockCount m) (holderWithin m (processorCount m)) l (and-left _ (every (lockLimit - lockCount m) (zeroAt m (firstHolder + lockCount m))) e) (lock-held l n h) in
+          let clear : getD m (firstArrived + k) 0 ≡ 0 = mark-clear l k byte within in
+          rw z (ap not (arrived-mark-read c w r m k (omega (arith, few, fit)) ∙ ap not (eq-eqb (getD m (firstArrived + k) 0) 0 clear)))
 
 -- ---- arrived marks
 

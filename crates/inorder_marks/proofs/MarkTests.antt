@@ -3,11 +3,11 @@ use Prim.Native.Nat.{ℕ, _+_, _-_, _*_, _≤_, _<_}
 use native.Mathlib.Numerals.{add-one}
 use native.Mathlib.Omega.{arith}
 use mathlib.Core.Path.{_≡_, refl, sym, _∙_}
-use mathlib.Core.Bool.{Bool, true, false, _&&_}
+use mathlib.Core.Bool.{Bool, true, false, not, _&&_}
 use mathlib.Core.List.{List}
 use lib.ListN.{length, getD}
-use lib.Dec.{leb}
-use borrow.Author.Tests.{lt-ltb, le-ltb, le-leb, lt-leb, eq-eqb, ne-eqb}
+use lib.Dec.{leb, eqb}
+use borrow.Author.Tests.{lt-ltb, le-ltb, le-leb, lt-leb, eq-eqb, ne-eqb, not-true, not-false}
 use borrow.Author.Needs.{needs}
 use Rattle.lists.specs.Tables.{every, any, total}
 use Rattle.lists.proofs.Tables.{any-holds}
@@ -16,7 +16,7 @@ use Rattle.limits.specs.Limits.{intervalLimit, lockLimit, pageLimit, processorL
 use Rattle.limits.specs.Places.{firstArrived}
 use Rattle.limits.specs.inner.Sizes.{firstDirty, firstHolder, markArea}
 use Rattle.inorder_marks.specs.inner.Tests.{zeroAt, pagesOf, mayBeDirty, dirtyHold, holderWithin, holdersHold, arrivedHold, dirtyCount, dirtyOf, roomHolds, linesHold, marksHoldWith}
-use Rattle.inorder_marks.specs.inner.Needed.{PlacesThere, MarksOne}
+use Rattle.inorder_marks.specs.inner.Needed.{PlacesThere, MarksOne, HolderThere, HoldersThere, MarksThere}
 
 -- ---- places that are 0
 
@@ -70,20 +70,57 @@ marks-one m pages k a b h = record { marks = a; pages-fit = b; processor = h }
 
 -- ---- holders
 
-module _ (m : List ℕ) (processors locks l holder : ℕ) (p : Passed locks (holderWithin m processors) l) (h : l < locks) (is : (holder ≡ getD m (firstHolder + l) 0) × (holder < 256)) where
-  -- one more holder is a present processor or 0
-  pub holder-more : holder ≤ processors → Passed locks (holderWithin m processors) (l + 1)
-  unfolding holderWithin
-  holder-more e = pass-one locks (holderWithin m processors) l p h (le-leb _ _ (rw (is .0) at e))
+module _ (m : List ℕ) (processors l : ℕ) (h : HolderThere m processors l) where
+  -- the holder has its place
+  pub holder-there : firstHolder + l < length m
+  holder-there = omega (arith, h .marks, h .lock)
 
-  -- one is neither
-  pub holder-broken : processors < holder → false ≡ every locks (holderWithin m processors)
-  unfolding holderWithin
-  holder-broken e = fail-one locks (holderWithin m processors) l h (lt-leb _ _ (rw (is .0) at e))
+  module _ (holder : ℕ) (is : (holder ≡ getD m (firstHolder + l) 0) × (holder < 256)) where
+    -- it is no present processor
+    pub holder-absent : processors < holder → false ≡ holderWithin m processors l
+    unfolding holderWithin
+    holder-absent e = rw (lt-leb (getD m (firstHolder + l) 0) processors (rw (is .0) at e))
+
+    module _ (e : holder ≤ processors) where
+      -- there is none
+      pub nobody-holds : holder ≡ 0 → true ≡ holderWithin m processors l
+      unfolding holderWithin
+      nobody-holds z = rw (le-leb (getD m (firstHolder + l) 0) processors (rw (is .0) at e), eq-eqb (getD m (firstHolder + l) 0) 0 (sym (is .0) ∙ z))
+
+      module _ (z : holder ≡ 0 → ⊥) where
+        -- its arrived mark has its place
+        pub holder-mark-there : firstArrived + (holder - 1) < length m
+        holder-mark-there = omega (arith, h .marks, h .processors-fit, e, z)
+
+        pub holder-before : 1 ≤ holder
+        holder-before = omega (arith, z)
+
+        -- and decides
+        pub holder-mark-decides : eqb (getD m (firstArrived + (holder - 1)) 0) 0 ≡ holderWithin m processors l
+        unfolding holderWithin zeroAt
+        holder-mark-decides =
+            rw (← is .0, le-leb holder processors e, ne-eqb holder 0 z)
+
+module _ (m : List ℕ) (processors locks l : ℕ) (p : Passed locks (holderWithin m processors) l) (a : HoldersThere m processors locks) (h : l < locks) where
+  pub holder-next : HolderThere m processors l
+  holder-next = record { marks = a .marks; processors-fit = a .processors-fit; lock = omega (arith, h, a .locks-fit) }
+
+  module _ (r : Bool) (is : r ≡ holderWithin m processors l) where
+    -- one more holder is present and away, or none
+    pub holder-more : not r ≡ false → Passed locks (holderWithin m processors) (l + 1)
+    holder-more e = pass-one locks (holderWithin m processors) l p h (sym is ∙ not-false r e)
+
+    -- one is not
+    pub holder-broken : not r ≡ true → false ≡ every locks (holderWithin m processors)
+    holder-broken e = fail-one locks (holderWithin m processors) l h (sym is ∙ not-true r e)
+
+-- the holders of the locks have their places
+pub holders-there : (m : List ℕ) (processors pages locks standing : ℕ) → MarksThere m processors pages locks standing → HoldersThere m processors locks
+holders-there m processors pages locks standing h = record { marks = h .marks; processors-fit = h .counts .processors-fit; locks-fit = h .counts .locks-fit }
 
 -- the holders of absent locks lie within the area
-pub absent-holders-there : (m : List ℕ) (locks : ℕ) → length m ≡ markArea → locks ≤ lockLimit → PlacesThere m (firstHolder + locks) (lockLimit - locks)
-absent-holders-there m locks a h = record { within = omega arith }
+pub absent-holders-there : (m : List ℕ) (processors locks : ℕ) → HoldersThere m processors locks → PlacesThere m (firstHolder + locks) (lockLimit - locks)
+absent-holders-there m processors locks h = record { within = omega (arith, h .marks, h .locks-fit) }
 
 -- both decide
 pub holders-is : (m : List ℕ) (processors locks : ℕ) (r : Bool)
@@ -193,4 +230,4 @@ pub marks-is : (own m : List ℕ) (processors pages locks standing : ℕ) (r : B
 unfolding marksHoldWith
 marks-is own m processors pages locks standing r e = e
 
-pub ruleset marks-checked = (passed-none, passed-more, passed-broken, passed-all, and-fails, and-goes-on, kept-none, kept-all, zero-kept, zero-lost, dirty-marks-there, pages-absent, dirty-allowed, dirty-refused, dirty-there, dirty-is, marks-one, holder-more, holder-broken, absent-holders-there, holders-is, arrived-none, arrived-more, arrived-missing, arrived-all, absent-arrived-there, arrived-is, count-none, count-clean, count-dirty, count-all, sum-none, sum-next, sum-whole, room-is, marks-is, needs)
+pub ruleset marks-checked = (passed-none, passed-more, passed-broken, passed-all, and-fails, and-goes-on, kept-none, kept-all, zero-kept, zero-lost, dirty-marks-there, pages-absent, dirty-allowed, dirty-refused, dirty-there, dirty-is, marks-one, holder-there, holder-absent, nobody-holds, holder-mark-there, holder-before, holder-mark-decides, holder-next, holder-more, holder-broken, holders-there, absent-holders-there, holders-is, arrived-none, arrived-more, arrived-missing, arrived-all, absent-arrived-there, arrived-is, count-none, count-clean, count-dirty, count-all, sum-none, sum-next, sum-whole, room-is, marks-is, needs)

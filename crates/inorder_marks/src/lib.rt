@@ -10,7 +10,7 @@ ghost use Rattle.limits.specs.Limits.{lockLimit, pageLimit, processorLimit, rec
 ghost use Rattle.limits.specs.Places.{firstArrived};
 ghost use Rattle.limits.specs.inner.Sizes.{copyLimit, markArea};
 ghost use Rattle.inorder_marks.specs.inner.Tests.{zeroAt, pagesOf, mayBeDirty, dirtyHold, holderWithin, holdersHold, arrivedHold, dirtyOf, roomHolds, marksHoldWith};
-ghost use Rattle.inorder_marks.specs.inner.Needed.{PlacesThere, MarksOne, MarksThere};
+ghost use Rattle.inorder_marks.specs.inner.Needed.{PlacesThere, MarksOne, HolderThere, HoldersThere, MarksThere};
 use crate::waiters::lines_hold;
 use layout::wide;
 use limits::CLOCK_WIDTH;
@@ -116,14 +116,29 @@ fn dirty_hold(marks: &[u8], own: [u8; CLOCK_WIDTH], processors: usize, pages: us
     true
 }
 
-// Whether the holders of the present locks are present processors or 0.
+// Whether the holder of a lock is a present processor that has not arrived, or 0.
+fn holder_within(marks: &[u8], processors: usize, l: usize) -> bool
+    requires { ⌜ HolderThere (now marks) processors l ⌝ }
+    ensures { λ r. ⌜ r ≡ holderWithin (now (marks .entry)) processors l ⌝ }
+{
+    let holder = wide(marks[FIRST_HOLDER + l]);
+    if processors < holder {
+        return false;
+    }
+    if holder == 0 {
+        return true;
+    }
+    marks[FIRST_ARRIVED + (holder - 1)] == 0
+}
+
+// Whether the holders of the present locks are.
 fn holders_within(marks: &[u8], processors: usize, locks: usize) -> bool
-    requires { ⌜ (length (now marks) ≡ markArea) × (locks ≤ lockLimit) ⌝ }
+    requires { ⌜ HoldersThere (now marks) processors locks ⌝ }
     ensures { λ r. ⌜ r ≡ every locks (holderWithin (now (marks .entry)) processors) ⌝ }
 {
     let mut l: usize = 0;
     while l < locks {
-        if processors < wide(marks[FIRST_HOLDER + l]) {
+        if !holder_within(marks, processors, l) {
             return false;
         }
         l = l + 1;
@@ -133,7 +148,7 @@ fn holders_within(marks: &[u8], processors: usize, locks: usize) -> bool
 
 // Whether they are, and those of absent locks are 0.
 fn holders_hold(marks: &[u8], processors: usize, locks: usize) -> bool
-    requires { ⌜ (length (now marks) ≡ markArea) × (locks ≤ lockLimit) ⌝ }
+    requires { ⌜ HoldersThere (now marks) processors locks ⌝ }
     ensures { λ r. ⌜ r ≡ holdersHold (now (marks .entry)) processors locks ⌝ }
 {
     if !holders_within(marks, processors, locks) {

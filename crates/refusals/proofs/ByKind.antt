@@ -1,23 +1,26 @@
 -- What a known kind asks of its fields, and the rows 7 to 10, each for its kind. Assumes nothing.
 use Prim.Native.Nat.{ℕ, _+_, _*_, _/_, _≤_, _<_}
+use native.Mathlib.Numerals.{add-one}
 use native.Mathlib.Omega.{arith}
-use mathlib.Core.Path.{_≡_, refl, sym, _∙_}
-use mathlib.Core.Bool.{Bool, true, false, not, _||_, and-eq-true-iff}
+use mathlib.Core.Path.{_≡_, refl, sym, ap, _∙_}
+use mathlib.Core.Bool.{Bool, true, false, cond, not, _||_, and-eq-true-iff, or-true, or-false}
 use mathlib.Core.List.{List}
+use lib.ListN.{length, getD}
 use lib.Dec.{leb, ltb, eqb}
 use borrow.Author.Tests.{ltb-true, le-leb, lt-leb, lt-ltb, le-ltb, eq-eqb, ne-eqb}
-use mir.Syntax.{w64}
+use mir.Syntax.{w8, w64}
 use mir.Val.{Fits}
+use Rattle.lists.specs.Tables.{any}
 use Rattle.limits.specs.Limits.{intervalLimit, lockLimit, pageWidth, recordLimit, tallyLimit}
-use Rattle.limits.specs.inner.Sizes.{wordLimit}
-use Rattle.rules.specs.Refusals.{Write, Acquire, Release, knownKind, usesValue, lateRefusal}
+use Rattle.limits.specs.inner.Sizes.{firstHolder, markArea, wordLimit}
+use Rattle.rules.specs.Refusals.{Write, Acquire, Release, Arrive, knownKind, usesValue, holdsAny, lateRefusal}
 use Rattle.rules.specs.State.{mainframe, dirtyAt, State, holder}
 use Rattle.rules.specs.Steps.{pageOfWord}
-use Rattle.layout.specs.Areas.{stateIn}
+use Rattle.layout.specs.Areas.{stateIn, holderPlace}
 use Rattle.layout.specs.inner.Marks.{pageCount, lockCount, holderMark, dirtyMark}
 use Rattle.layout.specs.inner.Needed.{LockMark, PageMark}
 use Rattle.refusals.specs.inner.Parts.{seen, boundOf, fieldsFit, refusalOfKind, recordsToCome, roomIfAllDirty}
-use Rattle.refusals.specs.inner.Needed.{MarksCountable, FittingStep, WriteOf}
+use Rattle.refusals.specs.inner.Needed.{MarksCountable, FittingStep, WriteOf, PagesOf}
 use Rattle.refusals.proofs.Marked.{dirty-seen, holder-seen}
 use Rattle.refusals.proofs.Counting.{few-records-to-come}
 
@@ -206,7 +209,84 @@ module _ (m : List ℕ) (n k p o : ℕ) where
   unfolding refusalOfKind
   release-decides r e i = rw e i
 
-  -- no row from 7 on is for the other kinds
-  pub other-kinds-pass : (k ≡ 2 → ⊥) → (k ≡ 3 → ⊥) → (k ≡ 4 → ⊥) → 0 ≡ refusalOfKind (seen m) n k p o
+  -- what an arrival asks of its processor
+  pub by-of-arrival : FittingStep m k p o → k ≡ 5 → PagesOf m p
+  by-of-arrival h e = h .by
+
+  pub arrival-decides : (r : ℕ) → k ≡ 5 → r ≡ lateRefusal mainframe (seen m) 0 p Arrive → r ≡ refusalOfKind (seen m) n k p o
   unfolding refusalOfKind
-  other-kinds-pass x y z = rw (ne-eqb k 2 x, ne-eqb k 3 y, ne-eqb k 4 z)
+  arrival-decides r e i = rw e i
+
+  -- no row from 7 on is for the other kinds
+  pub other-kinds-pass : (k ≡ 2 → ⊥) → (k ≡ 3 → ⊥) → (k ≡ 4 → ⊥) → (k ≡ 5 → ⊥) → 0 ≡ refusalOfKind (seen m) n k p o
+  unfolding refusalOfKind
+  other-kinds-pass x y z w = rw (ne-eqb k 2 x, ne-eqb k 3 y, ne-eqb k 4 z, ne-eqb k 5 w)
+
+-- ---- row 18
+
+module _ (m : List ℕ) (p : ℕ) (b : Bool) (is : b ≡ holdsAny mainframe (seen m) p) where
+  -- "an arrival by a holder"
+  pub holder-arrives : b ≡ true → 18 ≡ lateRefusal mainframe (seen m) 0 p Arrive
+  unfolding lateRefusal
+  holder-arrives e = rw (← is, e)
+
+  pub other-arrives : b ≡ false → 0 ≡ lateRefusal mainframe (seen m) 0 p Arrive
+  unfolding lateRefusal
+  other-arrives e = rw (← is, e)
+
+-- the marks of the first l locks are looked at: held says whether processor own holds one of them
+pub record HeldAmong (m : List ℕ) (own held l : ℕ) : Type 0 where
+  pub marks : length m ≡ markArea
+  pub upto : l ≤ lockLimit
+  pub few : held ≤ l
+  pub says : not (eqb held 0) ≡ any l (λ i. eqb (holder (seen m) i) own)
+
+-- the processor is a byte
+pub own-fits : (m : List ℕ) (p : ℕ) → PagesOf m p → Fits w8 p
+own-fits m p h = omega (arith, h .to)
+
+-- none is looked at yet
+pub held-begins : (m : List ℕ) (p own : ℕ) → PagesOf m p → HeldAmong m own 0 0
+unfolding any
+held-begins m p own h = record { marks = h .counted .marks; upto = omega arith; few = omega arith; says = refl }
+
+module _ (m : List ℕ) (own held l : ℕ) (h : HeldAmong m own held l) (b : l < lockLimit) where
+  pub held-there : firstHolder + l < length m
+  held-there = omega (arith, h .marks, b)
+
+  -- one more
+  pub held-more : (r : ℕ) → r ≡ cond (eqb (getD m (firstHolder + l) 0) own) 1 0 → HeldAmong m own (held + r) (l + 1)
+  unfolding any holderPlace mainframe
+  held-more r e =
+      record {
+        marks = h .marks;
+        upto = omega (arith, b);
+        few = omega (arith, h .few, most (eqb (getD m (firstHolder + l) 0) own) e);
+        says = rw (add-one l) (go (eqb (getD m (firstHolder + l) 0) own) refl e);
+      }
+    where
+      most : (x : Bool) → r ≡ cond x 1 0 → r ≤ 1
+      most true z = omega (arith, z)
+      most false z = omega (arith, z)
+
+      here : holder (seen m) l ≡ getD m (firstHolder + l) 0
+      here = sym (holder-seen m l (getD m (firstHolder + l) 0) (record { marks = h .marks; lock = b }) refl)
+
+      mine : (x : Bool) → eqb (getD m (firstHolder + l) 0) own ≡ x → eqb (holder (seen m) l) own ≡ x
+      mine x z = rw here z
+
+      go : (x : Bool) → eqb (getD m (firstHolder + l) 0) own ≡ x → r ≡ cond x 1 0 → not (eqb (held + r) 0) ≡ (any l (λ i. eqb (holder (seen m) i) own) || eqb (holder (seen m) l) own)
+      go true z q = rw (ne-eqb (held + r) 0 (λ y. omega (arith, y, q)), mine true z) (sym (or-true (any l (λ i. eqb (holder (seen m) i) own))))
+      go false z q =
+          let same : held + r ≡ held = omega (arith, q) in
+          rw (same, mine false z) (h .says ∙ sym (or-false (any l (λ i. eqb (holder (seen m) i) own))))
+
+  pub held-fits : (r : ℕ) → r ≡ cond (eqb (getD m (firstHolder + l) 0) own) 1 0 → Fits w8 (held + r)
+  held-fits r e = omega (arith, held-more r e .few, b)
+
+-- all are
+pub held-ends : (m : List ℕ) (p own held l : ℕ) → HeldAmong m own held l → lockLimit ≤ l → own ≡ p → not (eqb held 0) ≡ holdsAny mainframe (seen m) p
+unfolding holdsAny mainframe
+held-ends m p own held l h e same =
+    let all : l ≡ lockLimit = omega (arith, e, h .upto) in
+    h .says ∙ ap (λ (n : ℕ). any n (λ i. eqb (holder (seen m) i) own)) all ∙ ap (λ (q : ℕ). any lockLimit (λ i. eqb (holder (seen m) i) q)) same

@@ -9,7 +9,7 @@ use borrow.Author.Tests.{not-true, not-false}
 use borrow.Author.Needs.{needs}
 use Rattle.rules.specs.InOrder.{present, presentHolder, dirtyPages}
 use Rattle.rules.specs.Lines.{waits}
-use Rattle.rules.specs.Refusals.{Step, stepOf, Action, Read, Write, Acquire, Release, Arrive, Want, TallyAdd, TallyRead, Unknown, actionOf, knownKind, objectBound, usesValue, fits, lateRefusal, refusalBy, refusalInOrder}
+use Rattle.rules.specs.Refusals.{Step, stepOf, Action, Read, Write, Acquire, Release, Arrive, Want, TallyAdd, TallyRead, Unknown, actionOf, knownKind, objectBound, usesValue, fits, holdsAny, lateRefusal, refusalBy, refusalInOrder}
 use Rattle.rules.specs.State.{mainframe, dirtyAt, State, own, holder, hasArrived}
 use Rattle.rules.proofs.inorder.Accepted.{present-says}
 use Rattle.rules.proofs.inorder.KindsOfSteps.{by-kind}
@@ -20,7 +20,7 @@ use Rattle.refusals.specs.inner.Parts.{seen, boundOf, fieldsFit, isFree,
 use Rattle.refusals.specs.inner.Needed.{MarksCountable, KnownKind, KnownStep, FittingStep}
 use Rattle.refusals.proofs.Marked.{nobody-absent, count-decides, arrived-seen, waiting-seen}
 use Rattle.refusals.proofs.Counting.{counting-begins, counting-next, counting-more, counting-ends, few-counted, records-to-come-are, product-fits, room-sum-fits, marks-decide-room}
-use Rattle.refusals.proofs.ByKind.{zero-unknown, first-known, eight-known, last-decides, words-fit, words-bound, locks-bound, no-bound, tally-bound, write-uses, value-used, object-absent, any-value, no-value, word-there, lock-there, page-of-word, counted-of-write, dirty-takes-stores, no-interval-left, no-room-left, write-has-space, write-has-ample-space, holder-asks, other-asks, holder-releases, not-the-holder, write-of-kind, lock-of-acquire, lock-of-release, write-decides, acquire-decides, release-decides, other-kinds-pass}
+use Rattle.refusals.proofs.ByKind.{zero-unknown, first-known, eight-known, last-decides, words-fit, words-bound, locks-bound, no-bound, tally-bound, write-uses, value-used, object-absent, any-value, no-value, word-there, lock-there, page-of-word, counted-of-write, dirty-takes-stores, no-interval-left, no-room-left, write-has-space, write-has-ample-space, holder-asks, other-asks, holder-releases, not-the-holder, write-of-kind, lock-of-acquire, lock-of-release, write-decides, acquire-decides, release-decides, by-of-arrival, arrival-decides, other-kinds-pass, holder-arrives, other-arrives, own-fits, held-begins, held-there, held-more, held-fits, held-ends}
 use Rattle.refusals.proofs.Fitting.{flags-fit, object-bound-there, value-bound-there, fields-flagged, processor-place, arrived-place-there, awaited-place-there, marks-flagged, processor-flagged, fits-by-flags, bounds-long}
 
 -- ---- the rows 5, 6 and 17
@@ -230,9 +230,9 @@ module _ (c w r m : List ℕ) where
   bound-by-marks (TallyRead t) = refl
   bound-by-marks Unknown = refl
 
-  -- the rows 7 to 10 too
+  -- the rows 7 to 10 and 18 too
   late-by-marks : (n p : ℕ) (a : Action) → lateRefusal mainframe (stateIn mainframe c w r m) n p a ≡ lateRefusal mainframe (seen m) n p a
-  unfolding lateRefusal seen stateIn pagesIn recordsIn dirtyAt dirtyPages holder
+  unfolding lateRefusal holdsAny seen stateIn pagesIn recordsIn dirtyAt dirtyPages holder
   late-by-marks n p (Read x) = refl
   late-by-marks n p (Write x y) = refl
   late-by-marks n p (Acquire l) = refl
@@ -265,4 +265,4 @@ module _ (c w r m : List ℕ) where
   unfolding refusalInOrder
   table-decides t n x e i = e ∙ sym (table-by-marks t n) ∙ ap (λ (j : ℕ). refusalBy mainframe (stateIn mainframe c w r m) j t) i
 
-pub ruleset refusal-laws = (nobody-absent, count-decides, counting-begins, counting-next, counting-more, counting-ends, few-counted, records-to-come-are, product-fits, room-sum-fits, marks-decide-room, zero-unknown, first-known, eight-known, last-decides, words-fit, words-bound, locks-bound, no-bound, tally-bound, write-uses, value-used, object-absent, any-value, no-value, page-of-word, counted-of-write, dirty-takes-stores, no-interval-left, no-room-left, write-has-space, write-has-ample-space, holder-asks, other-asks, holder-releases, not-the-holder, write-of-kind, lock-of-acquire, lock-of-release, write-decides, acquire-decides, release-decides, other-kinds-pass, kind-of-step, marks-of-step, fields-refused, arrived-refused, waiter-refused, fields-pass, processor-refused, fields-decide, counted-of-kind, step-known, kind-refused, known-decides, kind-known, early-decides, step-fits, kind-decides, flags-fit, object-bound-there, value-bound-there, fields-flagged, processor-place, arrived-place-there, awaited-place-there, marks-flagged, processor-flagged, fits-by-flags, bounds-long, needs)
+pub ruleset refusal-laws = (nobody-absent, count-decides, counting-begins, counting-next, counting-more, counting-ends, few-counted, records-to-come-are, product-fits, room-sum-fits, marks-decide-room, zero-unknown, first-known, eight-known, last-decides, words-fit, words-bound, locks-bound, no-bound, tally-bound, write-uses, value-used, object-absent, any-value, no-value, page-of-word, counted-of-write, dirty-takes-stores, no-interval-left, no-room-left, write-has-space, write-has-ample-space, holder-asks, other-asks, holder-releases, not-the-holder, write-of-kind, lock-of-acquire, lock-of-release, write-decides, acquire-decides, release-decides, by-of-arrival, arrival-decides, holder-arrives, other-arrives, own-fits, held-begins, held-there, held-more, held-fits, held-ends, other-kinds-pass, kind-of-step, marks-of-step, fields-refused, arrived-refused, waiter-refused, fields-pass, processor-refused, fields-decide, counted-of-kind, step-known, kind-refused, known-decides, kind-known, early-decides, step-fits, kind-decides, flags-fit, object-bound-there, value-bound-there, fields-flagged, processor-place, arrived-place-there, awaited-place-there, marks-flagged, processor-flagged, fits-by-flags, bounds-long, needs)

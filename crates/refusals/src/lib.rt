@@ -1,4 +1,4 @@
-// The refusals 3 to 10 and 17 of a step, in the order of document 01's table: from the marks of a state in order and the own entry of the step's
+// The refusals 3 to 10, 17 and 18 of a step, in the order of document 01's table: from the marks of a state in order and the own entry of the step's
 // processor, and from nothing else. Every contract is an equation over the state that the marks alone show, with a definition of the rules
 // or of specs/Parts.antt and specs/Bounds.antt.
 ghost use mathlib.Core.Path.{_≡_};
@@ -9,11 +9,11 @@ ghost use Rattle.limits.specs.Limits.{processorLimit};
 ghost use Rattle.limits.specs.inner.Sizes.{boundArea, copyLimit, markArea};
 ghost use Rattle.rules.specs.State.{mainframe};
 ghost use Rattle.rules.specs.InOrder.{present, dirtyPages};
-ghost use Rattle.rules.specs.Refusals.{Write, Acquire, Release, knownKind, usesValue, lateRefusal};
+ghost use Rattle.rules.specs.Refusals.{Write, Acquire, Release, Arrive, knownKind, usesValue, holdsAny, lateRefusal};
 ghost use Rattle.layout.specs.inner.Needed.{LockMark};
 ghost use Rattle.refusals.specs.inner.Parts.{seen, boundOf, fieldsFit, mayAct, stepFits, earlyRefusal, earlyOfKnown, earlyOfFields, refusalOfKind, recordsToCome, roomIfAllDirty};
 ghost use Rattle.refusals.specs.inner.Bounds.{inBounds, marksFree};
-ghost use Rattle.refusals.specs.inner.Needed.{MarksCountable, BoundsOf, KnownKind, KnownStep, FittingStep, WriteOf};
+ghost use Rattle.refusals.specs.inner.Needed.{MarksCountable, BoundsOf, KnownKind, KnownStep, FittingStep, WriteOf, PagesOf};
 use clock::PageId;
 use clock::ProcessorId;
 use layout::flag;
@@ -30,9 +30,11 @@ use limits::COPY_LIMIT;
 use limits::FIRST_ARRIVED;
 use limits::FIRST_AWAITED;
 use limits::FIRST_DIRTY;
+use limits::FIRST_HOLDER;
 use limits::KIND_BOUNDS;
 use limits::KIND_LIMIT;
 use limits::LAST_INTERVAL;
+use limits::LOCK_LIMIT;
 use limits::PAGE_WIDTH;
 use limits::PROCESSOR_LIMIT;
 use limits::RECORD_LIMIT;
@@ -207,7 +209,7 @@ fn uses_value(kind: u32) -> bool
     kind == 8
 }
 
-// The number of the row from 7 to 10 that refuses a step that fits, or 0: each row for its kind.
+// The number of the row behind 17 that refuses a step that fits, or 0: each row for its kind.
 pub fn late_refusal(kind: u32, processor: ProcessorId, object: usize, own: u8, marks: &[u8]) -> u8
     requires { ⌜ FittingStep (now marks) kind (processor .0) object ⌝ }
     ensures { λ r. ⌜ r ≡ refusalOfKind (seen (now (marks .entry))) own kind (processor .0) object ⌝ }
@@ -220,6 +222,9 @@ pub fn late_refusal(kind: u32, processor: ProcessorId, object: usize, own: u8, m
     }
     if kind == 4 {
         return refusal_of_release(processor, object, marks);
+    }
+    if kind == 5 {
+        return refusal_of_arrival(processor, marks);
     }
     0
 }
@@ -246,6 +251,33 @@ fn refusal_of_release(processor: ProcessorId, lock: usize, marks: &[u8]) -> u8
         return 0;
     }
     8
+}
+
+// Row 18: this processor holds a lock.
+fn refusal_of_arrival(processor: ProcessorId, marks: &[u8]) -> u8
+    requires { ⌜ PagesOf (now marks) (processor .0) ⌝ }
+    ensures { λ r. ⌜ r ≡ lateRefusal mainframe (seen (now (marks .entry))) 0 (processor .0) Arrive ⌝ }
+{
+    if holds_any(processor, marks) {
+        return 18;
+    }
+    0
+}
+
+// Whether a processor holds a lock: the marks of all locks are looked at, those of absent locks too, which are 0. One loop without a branch, and a
+// byte as its sum.
+fn holds_any(processor: ProcessorId, marks: &[u8]) -> bool
+    requires { ⌜ PagesOf (now marks) (processor .0) ⌝ }
+    ensures { λ r. ⌜ r ≡ holdsAny mainframe (seen (now (marks .entry))) (processor .0) ⌝ }
+{
+    let own = processor.0 as u8;
+    let mut held: u8 = 0;
+    let mut l: usize = 0;
+    while l < LOCK_LIMIT {
+        held = held + flag(marks[FIRST_HOLDER + l] == own);
+        l = l + 1;
+    }
+    held != 0
 }
 
 // Rows 9 and 10, for a clean page: no interval is left, or no room for one record more.

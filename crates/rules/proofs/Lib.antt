@@ -4,6 +4,7 @@ pub mod InOrderRuns
 pub mod StrictOrder
 pub mod WaitsItsTurn
 pub mod WaitingCases
+pub mod LocksFree
 pub mod StoresNoted
 pub mod TallyReads
 pub mod TallyCases

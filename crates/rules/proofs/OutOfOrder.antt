@@ -9,7 +9,7 @@ use Rattle.lists.specs.Tables.{putCell}
 use Rattle.clock.specs.Clocks.{covered}
 use Rattle.diff.specs.Reading.{mostRuns, pairHolds, orderly, pairsRefusal, readRefusal}
 use Rattle.rules.specs.State.{Limits, Holder, Processor, Applied, Interval, withClock, slotBytes, laidOver, State, withClocks, withPages, withRecords, withMarks, withLines, withShared}
-use Rattle.rules.specs.InOrder.{everyProcessor, everyPage, everyHolder, slotSize, rowsSized, sized, inRange, countsInRange, presentHolder, allZero, absentZero, laterIntervalsZero, entriesKnown, appliedKnown, recordAt, diffLegal, recordSound, sameNotice, recordsSound, roomKept, dirtyHaveInterval, holdersPresent, someoneMissing, standBefore, waiterSound, apartInLine, linesSound, inOrder}
+use Rattle.rules.specs.InOrder.{everyProcessor, everyPage, everyHolder, slotSize, rowsSized, sized, inRange, countsInRange, presentHolder, allZero, absentZero, laterIntervalsZero, entriesKnown, appliedKnown, recordAt, diffLegal, recordSound, sameNotice, recordsSound, roomKept, dirtyHaveInterval, holdersPresent, holdersAway, someoneMissing, standBefore, waiterSound, apartInLine, linesSound, inOrder}
 use Rattle.rules.specs.Opening.{opened}
 use Rattle.rules.specs.Refusals.{stepOf, refusedAs, answer}
 use Rattle.rules.proofs.inorder.Conditions.{waiterTests, lineTests, orderTests}
@@ -17,7 +17,7 @@ use Rattle.rules.proofs.runs.Listing.{start}
 
 -- limits of two of each, and pages of one word; two processors, one page and one lock are opened
 unfoldable pub twoOfEach : Limits
-unfolding start covered mostRuns pairHolds orderly pairsRefusal readRefusal everyProcessor everyPage everyHolder rowsSized sized inRange countsInRange presentHolder allZero absentZero laterIntervalsZero entriesKnown appliedKnown recordAt diffLegal recordSound sameNotice recordsSound roomKept dirtyHaveInterval holdersPresent someoneMissing standBefore waiterSound apartInLine linesSound inOrder orderTests waiterTests lineTests
+unfolding start covered mostRuns pairHolds orderly pairsRefusal readRefusal everyProcessor everyPage everyHolder rowsSized sized inRange countsInRange presentHolder allZero absentZero laterIntervalsZero entriesKnown appliedKnown recordAt diffLegal recordSound sameNotice recordsSound roomKept dirtyHaveInterval holdersPresent holdersAway someoneMissing standBefore waiterSound apartInLine linesSound inOrder orderTests waiterTests lineTests
 twoOfEach = record { processors = 2; pages = 2; words = 1; locks = 2; records = 2; intervals = 2; tallies = 1 }
 
 unfoldable pub plain : State
@@ -65,12 +65,12 @@ queued s awaited turns = withMarks s (withLines (s .marks) awaited turns)
 -- a state out of order by one condition alone, by its number in document 01's order from 0
 pub record BreaksOnly (k : ℕ) (s : State) : Type 0 where
   pub out : inOrder twoOfEach s ≡ false
-  pub alone : orderTests twoOfEach s ≡ set (replicate 12 true) k false
+  pub alone : orderTests twoOfEach s ≡ set (replicate 13 true) k false
 
 -- the same for other limits
 pub record Breaks (lim : Limits) (k : ℕ) (s : State) : Type 0 where
   pub out : inOrder lim s ≡ false
-  pub alone : orderTests lim s ≡ set (replicate 12 true) k false
+  pub alone : orderTests lim s ≡ set (replicate 13 true) k false
 
 -- a state out of order by one condition on its lines alone
 pub record BreaksLine (k : ℕ) (s : State) : Type 0 where
@@ -138,6 +138,8 @@ pub record OutOfOrder : Type 0 where
   pub gap : BreaksWaiter 3 (queued (marked threeOpened (1 ∷ 0 ∷ []) (0 ∷ 0 ∷ 0 ∷ 0 ∷ [])) (0 ∷ 0 ∷ 1 ∷ 0 ∷ []) (0 ∷ 0 ∷ 1 ∷ 0 ∷ []))
   -- two at one place
   pub same-place : BreaksLine 2 (queued (marked threeOpened (1 ∷ 0 ∷ []) (0 ∷ 0 ∷ 0 ∷ 0 ∷ [])) (0 ∷ 0 ∷ 1 ∷ 1 ∷ []) (0 ∷ 0 ∷ 0 ∷ 0 ∷ []))
+  -- L7: "a state that has an arrived card holding a lock"
+  pub arrived-holds : BreaksOnly 12 (marked plain (1 ∷ 0 ∷ []) (0 ∷ 1 ∷ 0 ∷ []))
   -- row 1 of the table of refusals stands above the others: kind 7, processor 9, object 99
   pub row-1 : answer twoOfEach (marked plain (0 ∷ 0 ∷ []) (0 ∷ 1 ∷ 1 ∷ [])) (stepOf 7 9 99 0) ≡ refusedAs 1
 
@@ -173,5 +175,6 @@ each-condition-counts =
       arrived-waits = record { by-line = record { by-lines = record { out = refl; alone = refl }; alone = refl }; alone = refl };
       gap = record { by-line = record { by-lines = record { out = refl; alone = refl }; alone = refl }; alone = refl };
       same-place = record { by-lines = record { out = refl; alone = refl }; alone = refl };
+      arrived-holds = record { out = refl; alone = refl };
       row-1 = refl;
     }

@@ -50,23 +50,44 @@ pub waiting-refused : answers mainframe (start 3 1 2) waitingRows
 unfolding countsInRange inRange mainframe
 waiting-refused = answers-from-start 3 1 2 refl waitingRows ∙ computed-waiting
 
+-- Two processors, two locks. 2 takes lock 1, 1 takes lock 0, and 2 asks for lock 0 and waits. 2 arrives (17, 18); 1 arrives (18), with an object and
+-- with a value (5, 18); 1 frees lock 0, arrives, and arrives again (6); 2, which holds both locks, arrives (18), frees lock 0 and arrives (18), frees
+-- lock 1 and arrives
+unfoldable pub holderRows : List Step
+holderRows =
+    acquires 2 1 ∷ acquires 1 0 ∷ acquires 2 0 ∷ arrives 2 ∷ arrives 1 ∷ stepOf 5 1 1 0 ∷ stepOf 5 1 0 7 ∷ releases 1 0 ∷ arrives 1 ∷ arrives 1 ∷ arrives 2 ∷ releases 2 0 ∷ arrives 2
+    ∷ releases 2 1 ∷ arrives 2 ∷ []
+
+computed-holder : answersInOrder mainframe (start 2 1 2) holderRows
+    ≡ accepted ∷ accepted ∷ accepted ∷ answering 17 0 0 ∷ answering 18 0 0 ∷ answering 5 0 0 ∷ answering 5 0 0 ∷ accepted ∷ accepted ∷ answering 6 0 0 ∷ answering 18 0 0 ∷ accepted
+    ∷ answering 18 0 0 ∷ accepted ∷ accepted ∷ []
+unfolding start holderRows stepOf
+computed-holder = refl
+
+-- L7: "18, an arrival by a holder, after 17", whichever lock it holds
+pub holder-refused : answers mainframe (start 2 1 2) holderRows
+    ≡ accepted ∷ accepted ∷ accepted ∷ answering 17 0 0 ∷ answering 18 0 0 ∷ answering 5 0 0 ∷ answering 5 0 0 ∷ accepted ∷ accepted ∷ answering 6 0 0 ∷ answering 18 0 0 ∷ accepted
+    ∷ answering 18 0 0 ∷ accepted ∷ accepted ∷ []
+unfolding countsInRange inRange mainframe
+holder-refused = answers-from-start 2 1 2 refl holderRows ∙ computed-holder
+
 -- limits with room for one record and one interval, and pages of one word
 unfoldable pub tight : Limits
 tight = record { processors = 2; pages = 2; words = 1; locks = 1; records = 1; intervals = 1; tallies = 1 }
 
 -- 1 stores in page 0 and takes a lock, so that its one interval is made and the one record stands; it stores in page 1, which is clean (rows 9, 10);
--- 2, with its interval left, stores there (10), waits for the lock and stores once more (17, 10); 1 arrives and stores once more (6, 9, 10)
+-- 2, with its interval left, stores there (10), waits for the lock and stores once more (17, 10); 1 frees the lock, arrives and stores once more (6, 9, 10)
 unfoldable pub noSpace : List Step
-noSpace = writes 1 0 5 ∷ acquires 1 0 ∷ writes 1 1 5 ∷ writes 2 1 5 ∷ acquires 2 0 ∷ writes 2 1 5 ∷ arrives 1 ∷ writes 1 1 5 ∷ []
+noSpace = writes 1 0 5 ∷ acquires 1 0 ∷ writes 1 1 5 ∷ writes 2 1 5 ∷ acquires 2 0 ∷ writes 2 1 5 ∷ releases 1 0 ∷ arrives 1 ∷ writes 1 1 5 ∷ []
 
 computed-space : answersInOrder tight (opened tight (record { processors = 2; pages = 2; locks = 1 })) noSpace
-    ≡ accepted ∷ accepted ∷ answering 9 0 0 ∷ answering 10 0 0 ∷ accepted ∷ answering 17 0 0 ∷ accepted ∷ answering 6 0 0 ∷ []
+    ≡ accepted ∷ accepted ∷ answering 9 0 0 ∷ answering 10 0 0 ∷ accepted ∷ answering 17 0 0 ∷ accepted ∷ accepted ∷ answering 6 0 0 ∷ []
 unfolding start tight noSpace
 computed-space = refl
 
 -- 9 stands above 10, and both below 6 and 17
 pub nine-before-ten : answers tight (opened tight (record { processors = 2; pages = 2; locks = 1 })) noSpace
-    ≡ accepted ∷ accepted ∷ answering 9 0 0 ∷ answering 10 0 0 ∷ accepted ∷ answering 17 0 0 ∷ accepted ∷ answering 6 0 0 ∷ []
+    ≡ accepted ∷ accepted ∷ answering 9 0 0 ∷ answering 10 0 0 ∷ accepted ∷ answering 17 0 0 ∷ accepted ∷ accepted ∷ answering 6 0 0 ∷ []
 unfolding countsInRange inRange tight
 nine-before-ten =
     answers-in-order tight (opened tight (record { processors = 2; pages = 2; locks = 1 })) noSpace (opened-in-order tight (record { processors = 2; pages = 2; locks = 1 }) refl)

@@ -18,10 +18,10 @@ ownUntilPosted =
 unfoldable pub keptByCollection : List Step
 keptByCollection = adds 1 3 10 ∷ wants 2 ∷ arrives 1 ∷ adds 2 3 20 ∷ arrives 2 ∷ totals 1 3 ∷ adds 1 3 1 ∷ wants 1 ∷ arrives 1 ∷ totals 2 3 ∷ arrives 2 ∷ totals 2 3 ∷ []
 
--- "Tallies order nothing among ordinary words": 2 reads the tally and not what 1 stored before it added; a waiter's add is refused
+-- "Tallies order nothing among ordinary words": 2 reads the tally and not what 1 stored before it added; a waiter's add is refused. L7: 2 frees the lock before it arrives
 unfoldable pub ordersNothing : List Step
 ordersNothing =
-    writes 1 0 9 ∷ adds 1 0 1 ∷ totals 2 0 ∷ reads 2 0 ∷ acquires 3 0 ∷ acquires 2 0 ∷ adds 2 0 5 ∷ releases 3 0 ∷ adds 2 0 5 ∷ arrives 1 ∷ arrives 3 ∷ arrives 2 ∷ totals 2 0 ∷ reads 2 0 ∷ []
+    writes 1 0 9 ∷ adds 1 0 1 ∷ totals 2 0 ∷ reads 2 0 ∷ acquires 3 0 ∷ acquires 2 0 ∷ adds 2 0 5 ∷ releases 3 0 ∷ adds 2 0 5 ∷ arrives 1 ∷ arrives 3 ∷ releases 2 0 ∷ arrives 2 ∷ totals 2 0 ∷ reads 2 0 ∷ []
 
 pub record TallyCases : Type 0 where
   pub own-until-posted : answers mainframe (start 2 1 1) ownUntilPosted
@@ -30,7 +30,7 @@ pub record TallyCases : Type 0 where
   pub kept-by-collection : answers mainframe (start 2 1 1) keptByCollection
       ≡ accepted ∷ accepted ∷ accepted ∷ accepted ∷ accepted ∷ answering 0 30 0 ∷ accepted ∷ accepted ∷ accepted ∷ answering 0 30 0 ∷ accepted ∷ answering 0 31 0 ∷ []
   pub orders-nothing : answers mainframe (start 3 1 1) ordersNothing
-      ≡ accepted ∷ accepted ∷ accepted ∷ answering 0 0 0 ∷ accepted ∷ accepted ∷ answering 17 0 0 ∷ accepted ∷ accepted ∷ accepted ∷ accepted ∷ accepted ∷ answering 0 6 0
+      ≡ accepted ∷ accepted ∷ accepted ∷ answering 0 0 0 ∷ accepted ∷ accepted ∷ answering 17 0 0 ∷ accepted ∷ accepted ∷ accepted ∷ accepted ∷ accepted ∷ accepted ∷ answering 0 6 0
       ∷ answering 0 9 1 ∷ []
 
 -- ---- the runs, computed
@@ -47,7 +47,7 @@ unfolding start keptByCollection
 computed-kept = refl
 
 computed-nothing : answersInOrder mainframe (start 3 1 1) ordersNothing
-    ≡ accepted ∷ accepted ∷ accepted ∷ answering 0 0 0 ∷ accepted ∷ accepted ∷ answering 17 0 0 ∷ accepted ∷ accepted ∷ accepted ∷ accepted ∷ accepted ∷ answering 0 6 0
+    ≡ accepted ∷ accepted ∷ accepted ∷ answering 0 0 0 ∷ accepted ∷ accepted ∷ answering 17 0 0 ∷ accepted ∷ accepted ∷ accepted ∷ accepted ∷ accepted ∷ accepted ∷ answering 0 6 0
     ∷ answering 0 9 1 ∷ []
 unfolding start ordersNothing
 computed-nothing = refl

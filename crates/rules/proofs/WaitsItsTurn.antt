@@ -120,14 +120,13 @@ module _ (lim : Limits) (s : State) (t : Step) (ordered : inOrder lim s ≡ true
   accepted e = accepted-says lim s t (rw ordered at e)
 
   -- the lines that it leaves
-  lines-next : (a : Action) → refusal lim s t ≡ 0 → actionOf t ≡ a → (l : ℕ) → lineIn (next lim s t) l ≡ lineOf n (linesAfter s (t .processor) a) l
-  unfolding n
+  pub lines-next : (a : Action) → refusal lim s t ≡ 0 → actionOf t ≡ a → (l : ℕ) → lineIn (next lim s t) l ≡ lineOf (s .counts .processors) (linesAfter s (t .processor) a) l
   lines-next a e is l =
       ap (λ (u : State). lineIn u l) (accepted-next e ∙ ap (λ (x : Action). effect lim s (t .processor) x .after) is)
       ∙ ap (λ (c : Counts). lineOf (c .processors) (effect lim s (t .processor) a .after .marks) l) (effect-keeps-counts lim s (t .processor) a)
       ∙ line-same (s .counts .processors) (effect lim s (t .processor) a .after .marks) (linesAfter s (t .processor) a) l (lines-after lim s (t .processor) a .awaited) (lines-after lim s (t .processor) a .turns)
 
-  holder-next : (a : Action) → refusal lim s t ≡ 0 → actionOf t ≡ a → (l : ℕ) → holder (next lim s t) l ≡ holderIn (linesAfter s (t .processor) a) l
+  pub holder-next : (a : Action) → refusal lim s t ≡ 0 → actionOf t ≡ a → (l : ℕ) → holder (next lim s t) l ≡ holderIn (linesAfter s (t .processor) a) l
   holder-next a e is l = ap (λ (u : State). holder u l) (accepted-next e) ∙ ap (λ (x : Action). holder (effect lim s (t .processor) x .after) l) is ∙ holder-after lim s (t .processor) a l
 
   -- asking for a lock that another holds puts the processor at the end of its line

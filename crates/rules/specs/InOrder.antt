@@ -217,6 +217,12 @@ linesSound s =
     && every (s .counts .processors) (λ k. every (s .counts .locks) (waiterSound s (suc k)))
     && every (s .counts .processors) (λ k. every k (λ j. apartInLine s (suc k) (suc j)))
 
+-- ---- L7: "A state that has an arrived card holding a lock is no longer in order"
+
+-- for every lock
+unfoldable pub holdersAway : Limits → State → Bool
+holdersAway lim s = every (lim .locks) (λ l. eqb (holder s l) 0 || not (hasArrived s (holder s l)))
+
 -- all of the above
 unfoldable pub inOrder : Limits → State → Bool
 inOrder lim s =
@@ -232,3 +238,4 @@ inOrder lim s =
     && holdersPresent lim s
     && someoneMissing s
     && linesSound s
+    && holdersAway lim s

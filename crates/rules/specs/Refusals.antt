@@ -2,6 +2,7 @@
 use Prim.Native.Nat.{ℕ, _+_, _*_}
 use mathlib.Core.Bool.{Bool, cond, not, _&&_, _||_}
 use lib.Dec.{leb, ltb, eqb}
+use Rattle.lists.specs.Tables.{any}
 use Rattle.rules.specs.State.{Limits, dirtyAt, State, own, holder, hasArrived}
 use Rattle.rules.specs.Lines.{waits}
 use Rattle.rules.specs.InOrder.{present, dirtyPages, inOrder}
@@ -67,8 +68,12 @@ usesValue kind = eqb kind 2 || eqb kind 8
 unfoldable pub fits : Limits → State → Step → Bool
 fits lim s t = ltb (t .object) (objectBound lim s (actionOf t)) && (usesValue (t .kind) || eqb (t .value) 0)
 
+-- L7: whether processor p holds a lock
+unfoldable pub holdsAny : Limits → State → ℕ → Bool
+holdsAny lim s p = any (lim .locks) (λ l. eqb (holder s l) p)
+
 -- 7: "7 remains for the holder's own acquire" (L1); 8: "this card is not the holder"; for a write to a clean page 9: "own entry is 63" and
--- 10: "records plus dirty pages are 128"; e is the own entry of processor p
+-- 10: "records plus dirty pages are 128"; L7: "18, an arrival by a holder, after 17"; e is the own entry of processor p
 unfoldable pub lateRefusal : Limits → State → ℕ → ℕ → Action → ℕ
 lateRefusal lim s e p (Read w) = 0
 lateRefusal lim s e p (Write w v) =
@@ -78,7 +83,7 @@ lateRefusal lim s e p (Write w v) =
     0))
 lateRefusal lim s e p (Acquire l) = cond (eqb (holder s l) p) 7 0
 lateRefusal lim s e p (Release l) = cond (eqb (holder s l) p) 0 8
-lateRefusal lim s e p Arrive = 0
+lateRefusal lim s e p Arrive = cond (holdsAny lim s p) 18 0
 lateRefusal lim s e p Want = 0
 lateRefusal lim s e p (TallyAdd t v) = 0
 lateRefusal lim s e p (TallyRead t) = 0

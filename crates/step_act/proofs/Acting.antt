@@ -11,9 +11,9 @@ use borrow.Author.Needs.{needs}
 use Rattle.limits.specs.Limits.{pageWidth, processorLimit, tallyLimit}
 use Rattle.limits.specs.inner.Sizes.{markArea}
 use Rattle.rules.specs.Refusals.{stepOf, Action, Read, Write, Acquire, Release, Arrive, Want, TallyAdd, TallyRead, actionOf, knownKind, objectBound, effect}
-use Rattle.rules.specs.State.{mainframe, State}
+use Rattle.rules.specs.State.{mainframe, State, own}
 use Rattle.rules.specs.Steps.{Effect, read, write, acquire, release, arrive}
-use Rattle.rules.proofs.inorder.Accepted.{Accepted, accepted-says, present-says, object-there, acquire-there, release-there}
+use Rattle.rules.proofs.inorder.Accepted.{Accepted, accepted-says, present-says, object-there, acquire-there, release-there, late-arrive}
 use Rattle.rules.proofs.inorder.Kept.{effect-keeps-order}
 use Rattle.rules.proofs.order.Timeline.{effect-keeps-counts}
 use Rattle.rules.proofs.inorder.KindsOfSteps.{objectIn, known-says}
@@ -252,11 +252,21 @@ module _ (c w r m : List ℕ) (k p o v : ℕ) (x : List ℕ) (q : MeetingKept c 
   abbrev t : Meeting c w r m k p o v
   t = q .meeting
 
-  -- the processor of an arrival is present, has not arrived and does not wait
+  -- the processor of an arrival is present, has not arrived, does not wait and holds no lock
   pub arrival-there : k ≡ 5 → ArrivesKept c w r m p x
   unfolding stepOf
   arrival-there e =
-      record { arrives = record { acts = acts c w r m k p o v (t .acting); not-arrived = accepted c w r m k p o v (t .acting) .not-arrived; not-waiting = accepted c w r m k p o v (t .acting) .not-waiting }; kept = q .kept }
+      let ok = accepted c w r m k p o v (t .acting) in
+      record {
+        arrives =
+            record {
+              acts = acts c w r m k p o v (t .acting);
+              not-arrived = ok .not-arrived;
+              not-waiting = ok .not-waiting;
+              no-lock = late-arrive mainframe (stateIn mainframe c w r m) (own (stateIn mainframe c w r m) p) p (rw (arrives k p o v e) at (ok .not-late));
+            };
+        kept = q .kept;
+      }
 
   -- an arrival was done
   pub arrival-done : (n j : ℕ) (c′ w′ r′ m′ x′ : List ℕ) → k ≡ 5 → CountedKept (arrive mainframe (stateIn mainframe c w r m) p) n j c′ w′ r′ m′ x′

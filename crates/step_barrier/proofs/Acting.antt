@@ -159,7 +159,7 @@ module _ (c w r m : List ℕ) (p : ℕ) (x : List ℕ) (k : ArrivesKept c w r m 
           let missing : allArrived (atBarrier s p) ≡ false = sym answer-is ∙ not-true b z in
           let waiting : arrive mainframe s p ≡ noneFetched (atBarrier s p) = arrive-waits s p missing in
           let order : InOrder mainframe (atBarrier s p) =
-          in-order-of mainframe (atBarrier s p) (waiting-parts mainframe s p (parts-of mainframe s (a .acts .in-order)) (among-when (s .counts) p (a .acts .from) (a .acts .to)) (a .not-waiting) missing) in
+          in-order-of mainframe (atBarrier s p) (waiting-parts mainframe s p (parts-of mainframe s (a .acts .in-order)) (among-when (s .counts) p (a .acts .from) (a .acts .to)) (a .not-waiting) (a .no-lock) missing) in
           record {
             counted =
                 record {

@@ -127,7 +127,7 @@ listingBytes =
     ∷ 5 ∷ 2 ∷ 0 ∷ 0 ∷ 0 ∷ 0 ∷ 0 ∷ 0
     ∷ []
 
--- "0 0 0 0" to "12 0 0 0", then "words 1", a row a line
+-- "0 0 0 0" to "12 18 0 0", then "words 1", a row a line
 unfoldable listingLines : List ℕ
 listingLines =
     48 ∷ 32 ∷ 48 ∷ 32 ∷ 48 ∷ 32 ∷ 48 ∷ 10
@@ -142,7 +142,7 @@ listingLines =
     ∷ 57 ∷ 32 ∷ 48 ∷ 32 ∷ 48 ∷ 32 ∷ 48 ∷ 10
     ∷ 49 ∷ 48 ∷ 32 ∷ 54 ∷ 32 ∷ 48 ∷ 32 ∷ 48 ∷ 10
     ∷ 49 ∷ 49 ∷ 32 ∷ 48 ∷ 32 ∷ 48 ∷ 32 ∷ 48 ∷ 10
-    ∷ 49 ∷ 50 ∷ 32 ∷ 48 ∷ 32 ∷ 48 ∷ 32 ∷ 48 ∷ 10
+    ∷ 49 ∷ 50 ∷ 32 ∷ 49 ∷ 56 ∷ 32 ∷ 48 ∷ 32 ∷ 48 ∷ 10
     ∷ 119 ∷ 111 ∷ 114 ∷ 100 ∷ 115 ∷ 32 ∷ 49 ∷ 10
     ∷ []
 
@@ -156,7 +156,7 @@ listing-steps = refl
 
 listing-answers : stepAnswers listingBytes
     ≡ answering 0 0 0 ∷ answering 0 0 0 ∷ answering 0 0 0 ∷ answering 0 0 0 ∷ answering 0 0 0 ∷ answering 7 0 0 ∷ answering 0 700 1 ∷ answering 0 700 0 ∷ answering 0 0 0
-    ∷ answering 6 0 0 ∷ answering 0 0 0 ∷ answering 0 0 0 ∷ []
+    ∷ answering 6 0 0 ∷ answering 0 0 0 ∷ answering 18 0 0 ∷ []
 unfolding stepAnswers
 listing-answers =
     ap (λ (s : State). answers mainframe s (stepsIn (min (stepCount listingBytes) stepLimit) (drop fileRecordWidth listingBytes))) listing-state

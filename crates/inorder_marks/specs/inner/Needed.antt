@@ -37,6 +37,18 @@ pub record WaiterOne (m : List ℕ) (processors locks k : ℕ) : Type 0 where
   pub locks-fit : locks ≤ lockLimit
   pub processor : k < processorLimit
 
+-- the area of the marks, a count of processors that fits, and a lock of sixteen
+pub record HolderThere (m : List ℕ) (processors l : ℕ) : Type 0 where
+  pub marks : length m ≡ markArea
+  pub processors-fit : processors ≤ processorLimit
+  pub lock : l < lockLimit
+
+-- the area of the marks, and counts of processors and of locks that fit
+pub record HoldersThere (m : List ℕ) (processors locks : ℕ) : Type 0 where
+  pub marks : length m ≡ markArea
+  pub processors-fit : processors ≤ processorLimit
+  pub locks-fit : locks ≤ lockLimit
+
 -- the area of the marks, and counts that fit
 pub record MarksThere (m : List ℕ) (processors pages locks standing : ℕ) : Type 0 where
   pub marks : length m ≡ markArea

@@ -30,9 +30,13 @@ mayBeDirty own processors pages k = cond (ltb (getD own k 0) intervalLimit) (pag
 unfoldable pub dirtyHold : List ℕ → List ℕ → ℕ → ℕ → ℕ → Bool
 dirtyHold own m processors pages k = every (pageLimit - mayBeDirty own processors pages k) (zeroAt m (firstDirty + pageLimit * k + mayBeDirty own processors pages k))
 
--- the holder of a lock is a present processor or 0
+-- the holder of lock l
+abbrev pub holderByte : List ℕ → ℕ → ℕ
+holderByte m l = getD m (firstHolder + l) 0
+
+-- it is a present processor that has not arrived, or 0
 unfoldable pub holderWithin : List ℕ → ℕ → ℕ → Bool
-holderWithin m processors l = leb (getD m (firstHolder + l) 0) processors
+holderWithin m processors l = leb (holderByte m l) processors && (eqb (holderByte m l) 0 || zeroAt m firstArrived (holderByte m l - 1))
 
 -- and that of an absent lock is 0
 unfoldable pub holdersHold : List ℕ → ℕ → ℕ → Bool

@@ -7,7 +7,7 @@ use lib.Dec.{leb, ltb, eqb}
 use Rattle.rules.specs.State.{mainframe, State, hasArrived}
 use Rattle.rules.specs.InOrder.{present, dirtyPages}
 use Rattle.rules.specs.Lines.{waits}
-use Rattle.rules.specs.Refusals.{Write, Acquire, Release, knownKind, usesValue, lateRefusal}
+use Rattle.rules.specs.Refusals.{Write, Acquire, Release, Arrive, knownKind, usesValue, lateRefusal}
 use Rattle.layout.specs.Areas.{stateIn}
 
 -- the state of the mainframe with these marks, its clocks, words and slots left out
@@ -22,13 +22,14 @@ boundOf s kind = cond (leb kind 2) (s .counts .pages * mainframe .words) (cond (
 unfoldable pub fieldsFit : State → ℕ → ℕ → ℕ → Bool
 fieldsFit s kind object value = ltb object (boundOf s kind) && (usesValue kind || eqb value 0)
 
--- the rows 7 to 10, by the step's kind; none looks at the value, and 7 and 8 not at the own entry
+-- the rows 7 to 10 and 18, by the step's kind; none looks at the value, and 7, 8 and 18 not at the own entry
 unfoldable pub refusalOfKind : State → ℕ → ℕ → ℕ → ℕ → ℕ
 refusalOfKind s own kind processor object =
     cond (eqb kind 2) (lateRefusal mainframe s own processor (Write object 0))
     (cond (eqb kind 3) (lateRefusal mainframe s 0 processor (Acquire object))
     (cond (eqb kind 4) (lateRefusal mainframe s 0 processor (Release object))
-    0))
+    (cond (eqb kind 5) (lateRefusal mainframe s 0 processor Arrive)
+    0)))
 
 -- 6 and 17: whether a processor has not arrived and does not wait
 unfoldable pub isFree : State → ℕ → Bool

@@ -11,7 +11,7 @@ use Rattle.rules.specs.State.{Limits, State, own, holder, hasArrived}
 use Rattle.rules.specs.Lines.{waits}
 use Rattle.rules.specs.InOrder.{present}
 use Rattle.rules.specs.Steps.{pageOfWord}
-use Rattle.rules.specs.Refusals.{TallyAdd, Step, Action, Read, Write, Acquire, Release, actionOf, knownKind, objectBound, usesValue, fits, lateRefusal, refusalBy, refusalInOrder}
+use Rattle.rules.specs.Refusals.{TallyAdd, Step, Action, Read, Write, Acquire, Release, Arrive, actionOf, knownKind, objectBound, usesValue, fits, holdsAny, lateRefusal, refusalBy, refusalInOrder}
 use Rattle.rules.proofs.inorder.KindsOfSteps.{objectIn, object-in}
 use Rattle.rules.proofs.inorder.KeptParts.{among-says, among-when}
 
@@ -45,6 +45,15 @@ late-acquire lim s e p l z same = go (eqb (holder s l) p) refl z
     go : (b : Bool) → eqb (holder s l) p ≡ b → cond {A = ℕ} b 7 0 ≡ 0 → ⊥
     go true d z = omega (arith, z)
     go false d z = eqb-false (holder s l) p d same
+
+-- an arrival that is not refused is not by a holder
+pub late-arrive : (lim : Limits) (s : State) (e p : ℕ) → lateRefusal lim s e p Arrive ≡ 0 → holdsAny lim s p ≡ false
+unfolding lateRefusal
+late-arrive lim s e p z = go (holdsAny lim s p) refl z
+  where
+    go : (b : Bool) → holdsAny lim s p ≡ b → cond {A = ℕ} b 18 0 ≡ 0 → holdsAny lim s p ≡ false
+    go true d z = absurd (omega (arith, z))
+    go false d z = d
 
 -- ---- a present processor is 1 to the number of processors
 

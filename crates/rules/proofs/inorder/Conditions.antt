@@ -10,7 +10,7 @@ use Rattle.lists.proofs.Conditions.{conjoined}
 use Rattle.clock.specs.Clocks.{entryOf}
 use Rattle.rules.specs.State.{Limits, Counts, Lock, Applied, Interval, clockOf, copyOf, twinOf, dirtyAt, Record, State, own, holder, hasArrived}
 use Rattle.rules.specs.Lines.{waits, waitsFor, turnOf}
-use Rattle.rules.specs.InOrder.{present, everyProcessor, everyPage, everyHolder, slotSize, rowsSized, sized, inRange, countsInRange, presentHolder, allZero, absentZero, laterIntervalsZero, entriesKnown, appliedKnown, recordSound, recordsSound, roomKept, dirtyHaveInterval, holdersPresent, someoneMissing, standBefore, waiterSound, apartInLine, linesSound, inOrder}
+use Rattle.rules.specs.InOrder.{present, everyProcessor, everyPage, everyHolder, slotSize, rowsSized, sized, inRange, countsInRange, presentHolder, allZero, absentZero, laterIntervalsZero, entriesKnown, appliedKnown, recordSound, recordsSound, roomKept, dirtyHaveInterval, holdersPresent, holdersAway, someoneMissing, standBefore, waiterSound, apartInLine, linesSound, inOrder}
 
 -- of the size
 unfoldable pub sizedTests : Limits → State → List Bool
@@ -123,6 +123,7 @@ orderTests lim s =
     ∷ holdersPresent lim s
     ∷ someoneMissing s
     ∷ linesSound s
+    ∷ holdersAway lim s
     ∷ []
 
 -- the test is the conjunction of the list

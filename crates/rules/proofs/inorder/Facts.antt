@@ -108,6 +108,7 @@ pub record InOrder (lim : Limits) (s : State) : Type 0 where
   pub holder-present : (l : ℕ) → (holder s l ≡ 0) ⊎ (present s (holder s l) ≡ true)
   pub someone-missing : Passes (s .counts .processors) (λ k. not (hasArrived s (suc k)))
   pub lines : LinesInOrder (s .counts) (s .marks)
+  pub holder-away : (l : ℕ) → (holder s l ≡ 0) ⊎ (hasArrived s (holder s l) ≡ false)
 
 -- ---- what follows at once
 

@@ -18,7 +18,7 @@ use Rattle.clock.specs.Clocks.{entryOf}
 use Rattle.diff.specs.Reading.{readRefusal}
 use Rattle.rules.specs.State.{addsOf, Limits, Holder, Processor, Lock, Applied, Interval, clockOf, copyOf, twinOf, dirtyAt, State, clock, own, holder, hasArrived}
 use Rattle.rules.specs.Lines.{waits, waitsFor, turnOf}
-use Rattle.rules.specs.InOrder.{present, everyProcessor, everyPage, everyHolder, slotSize, sized, inRange, presentHolder, allZero, absentZero, laterIntervalsZero, entriesKnown, appliedKnown, recordAt, diffLegal, recordSound, sameNotice, recordsSound, roomKept, dirtyHaveInterval, holdersPresent, someoneMissing, standBefore, waiterSound, apartInLine, inOrder}
+use Rattle.rules.specs.InOrder.{present, everyProcessor, everyPage, everyHolder, slotSize, sized, inRange, presentHolder, allZero, absentZero, laterIntervalsZero, entriesKnown, appliedKnown, recordAt, diffLegal, recordSound, sameNotice, recordsSound, roomKept, dirtyHaveInterval, holdersPresent, holdersAway, someoneMissing, standBefore, waiterSound, apartInLine, inOrder}
 use Rattle.rules.proofs.state.Lines.{ahead, Lines}
 use Rattle.rules.proofs.state.Waiters.{awaits, turnAt, waits-for-when, waiter-waits}
 use Rattle.rules.proofs.inorder.Facts.{Within, Sized, RecordSound, LinesInOrder, InOrder}
@@ -232,6 +232,17 @@ module _ (lim : Limits) (s : State) where
       go (inl k) = inl (eqb-true _ _ k)
       go (inr k) = inr k
 
+  holder-away-says : Sized lim s → holdersAway lim s ≡ true → (l : ℕ) → (holder s l ≡ 0) ⊎ (hasArrived s (holder s l) ≡ false)
+  unfolding holdersAway Within
+  holder-away-says z e l =
+      by-place lim (Lock l)
+      (λ w. go (or-either (eqb (holder s l) 0) (not (hasArrived s (holder s l))) (every-at (lim .locks) _ l e w)))
+      (λ n. inl (not-held-outside lim s z l (omega (arith, lt-of-not-le n))))
+    where
+      go : (eqb (holder s l) 0 ≡ true) ⊎ (not (hasArrived s (holder s l)) ≡ true) → (holder s l ≡ 0) ⊎ (hasArrived s (holder s l) ≡ false)
+      go (inl k) = inl (eqb-true _ _ k)
+      go (inr k) = inr (not-true _ k)
+
 -- ---- the lines of waiters
 
 module _ (s : State) (part : (i : ℕ) → getD (lineTests s) i true ≡ true) where
@@ -326,4 +337,5 @@ in-order-says lim s e = go (λ i. conjoined-at (orderTests lim s) i (sym (order-
           holder-present = holder-present-says lim s z (part 9);
           someone-missing = any-at _ _ (part 10);
           lines = lines-say s (λ i. conjoined-at (lineTests s) i (sym (line-tests s) ∙ part 11));
+          holder-away = holder-away-says lim s z (part 12);
         }

@@ -16,7 +16,7 @@ use Rattle.clock.specs.Clocks.{entryOf}
 use Rattle.diff.specs.Reading.{readRefusal}
 use Rattle.rules.specs.State.{Limits, Holder, Lock, Applied, Interval, clockOf, copyOf, twinOf, dirtyAt, addsOf, State, clock, own, holder, hasArrived}
 use Rattle.rules.specs.Lines.{waits, waitsFor, turnOf}
-use Rattle.rules.specs.InOrder.{present, everyProcessor, everyHolder, slotSize, sized, inRange, countsInRange, presentHolder, allZero, absentZero, laterIntervalsZero, entriesKnown, appliedKnown, recordAt, diffLegal, recordSound, sameNotice, recordsSound, roomKept, dirtyHaveInterval, holdersPresent, someoneMissing, standBefore, waiterSound, apartInLine, linesSound, inOrder}
+use Rattle.rules.specs.InOrder.{present, everyProcessor, everyHolder, slotSize, sized, inRange, countsInRange, presentHolder, allZero, absentZero, laterIntervalsZero, entriesKnown, appliedKnown, recordAt, diffLegal, recordSound, sameNotice, recordsSound, roomKept, dirtyHaveInterval, holdersPresent, holdersAway, someoneMissing, standBefore, waiterSound, apartInLine, linesSound, inOrder}
 use Rattle.rules.proofs.state.Lines.{ahead}
 use Rattle.rules.proofs.state.Waiters.{awaits, turnAt, waits-for-says}
 use Rattle.rules.proofs.inorder.Facts.{Sized, RecordSound, LinesInOrder, InOrder}
@@ -140,6 +140,14 @@ module _ (lim : Limits) (s : State) (o : InOrder lim s) where
       go l (inl k) = inl (eq-eqb _ _ k)
       go l (inr k) = inr k
 
+  holders-away-when : holdersAway lim s ≡ true
+  unfolding holdersAway
+  holders-away-when = every-holds (lim .locks) _ (λ l k. either-or (eqb (holder s l) 0) (not (hasArrived s (holder s l))) (go l (o .holder-away l)))
+    where
+      go : (l : ℕ) → (holder s l ≡ 0) ⊎ (hasArrived s (holder s l) ≡ false) → (eqb (holder s l) 0 ≡ true) ⊎ (not (hasArrived s (holder s l)) ≡ true)
+      go l (inl k) = inl (eq-eqb _ _ k)
+      go l (inr k) = inr (not-when _ k)
+
   someone-missing-when : someoneMissing s ≡ true
   unfolding someoneMissing
   someone-missing-when =
@@ -209,3 +217,4 @@ in-order-when lim s o =
     (holders-present-when lim s o)
     (someone-missing-when lim s o)
     (lines-when s (o .lines))
+    (holders-away-when lim s o)

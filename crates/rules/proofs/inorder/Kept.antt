@@ -12,7 +12,7 @@ use Rattle.rules.specs.Steps.{pageOfWord, read}
 use Rattle.rules.specs.Refusals.{Step, Action, Read, Write, Acquire, Release, Arrive, Want, TallyAdd, TallyRead, Unknown, actionOf, lateRefusal, refusalInOrder, effect, nextInOrder}
 use Rattle.rules.proofs.inorder.Facts.{InOrder}
 use Rattle.rules.proofs.inorder.KeptParts.{Parts, parts-of, in-order-of}
-use Rattle.rules.proofs.inorder.Accepted.{add-there, Accepted, accepted-says, read-on-page, write-on-page, acquire-there, release-there, late-acquire}
+use Rattle.rules.proofs.inorder.Accepted.{add-there, Accepted, accepted-says, read-on-page, write-on-page, acquire-there, release-there, late-acquire, late-arrive}
 use Rattle.rules.specs.Tallies.{tallyAdded}
 use Rattle.rules.proofs.inorder.KeptShared.{shared-changed, added-in-order}
 use Rattle.rules.proofs.inorder.KeptFetch.{fetched-parts, MayDirty, write-parts}
@@ -54,7 +54,8 @@ effect-parts lim s t (Acquire i) e f acc =
     acquire-parts lim s (t .processor) i f (acc .processor-present) (acquire-there lim s t i e acc) (acc .not-waiting) (unfold hasArrived in acc .not-arrived)
     (unfold holder in late-acquire lim s (own s (t .processor)) (t .processor) i (rw e at (acc .not-late)))
 effect-parts lim s t (Release i) e f acc = release-parts lim s (t .processor) i f (acc .processor-present) (release-there lim s t i e acc)
-effect-parts lim s t Arrive e f acc = arrive-parts lim s (t .processor) f (acc .processor-present) (acc .not-waiting)
+effect-parts lim s t Arrive e f acc =
+    arrive-parts lim s (t .processor) f (acc .processor-present) (acc .not-waiting) (late-arrive lim s (own s (t .processor)) (t .processor) (rw e at (acc .not-late)))
 effect-parts lim s t Want e f acc = want-parts lim s f
 effect-parts lim s t (TallyAdd j v) e f acc =
     shared-changed lim s (tallyAdded (s .shared) (t .processor) j v) f

@@ -4,16 +4,19 @@ use Prim.Native.Nat.{ℕ, suc, _<_}
 use native.Mathlib.Omega.{arith}
 use mathlib.Core.Path.{_≡_, refl, sym, ap, _∙_}
 use mathlib.Core.Bool.{Bool, true, false, cond, not, false≢true}
+use mathlib.Core.Logic.{_⊎_, inl, inr}
 use mathlib.Core.List.{List, map}
-use lib.ListN.{length, getD, length-map}
-use lib.Dec.{eqb}
+use lib.ListN.{length, getD, length-map, List·getD-eq-default}
+use lib.Dec.{ltb, eqb}
+use borrow.Author.Tests.{ltb-true, ltb-false, eq-eqb}
 use Rattle.lists.specs.Tables.{put}
-use Rattle.lists.proofs.Tables.{get-put-other, length-put-within, get-map, Passes, every-fails}
-use Rattle.rules.specs.State.{Limits, Counts, Processor, Barrier, Clocks, withClock, cleared, Marks, withArrived, State, hasArrived, withClocks, withMarks}
+use Rattle.lists.proofs.Tables.{get-put-other, length-put-within, get-map, Passes, every-fails, any-holds}
+use Rattle.rules.specs.State.{Limits, Counts, Processor, Barrier, Clocks, withClock, cleared, Marks, withArrived, State, holder, hasArrived, withClocks, withMarks}
 use Rattle.rules.specs.Lines.{waits, turnOf}
 use Rattle.rules.specs.Close.{closed}
 use Rattle.rules.specs.Fetch.{fetched}
 use Rattle.rules.specs.Steps.{learned, atBarrier, allArrived, allLearned, roundDone, allFetched, noneFetched, emptied, collected, wantsCollection, arrive}
+use Rattle.rules.specs.Refusals.{holdsAny}
 use Rattle.rules.proofs.state.Holders.{barrier-carries}
 use Rattle.rules.proofs.state.Fetches.{all-fetched-keep}
 use Rattle.rules.proofs.state.Waiters.{waiter-waits}
@@ -29,10 +32,10 @@ use Rattle.rules.proofs.inorder.KeptLocks.{wish-set}
 
 -- ---- marks
 
--- a present processor is marked, and one is still missing
+-- a present processor that neither waits nor holds a lock is marked, and one is still missing
 arrived-set : (lim : Limits) (n : Counts) (k : Marks) (p : ℕ) → CountsInOrder lim n → MarksInOrder lim n k → presentAmong n p ≡ true → waits k p ≡ false
-    → Passes (n .processors) (λ i. not (arrivedIn (withArrived k (put 0 (k .arrived) p 1)) (suc i))) → MarksInOrder lim n (withArrived k (put 0 (k .arrived) p 1))
-arrived-set lim n k p c f a awake missing =
+    → ((l : ℕ) → getD (k .holders) l 0 ≡ p → ⊥) → Passes (n .processors) (λ i. not (arrivedIn (withArrived k (put 0 (k .arrived) p 1)) (suc i))) → MarksInOrder lim n (withArrived k (put 0 (k .arrived) p 1))
+arrived-set lim n k p c f a awake free missing =
     let b = among-says n p a in
     record {
       holders = f .holders;
@@ -48,7 +51,13 @@ arrived-set lim n k p c f a awake missing =
       holder-present = f .holder-present;
       someone-missing = missing;
       lines = arrived-lines n k (f .lines) p (λ i l h e d. false≢true (sym awake ∙ ap (waits k) d ∙ waiter-waits k i l e));
+      holder-away = λ l. away l (f .holder-away l);
     }
+  where
+    away : (l : ℕ) → (getD (k .holders) l 0 ≡ 0) ⊎ (arrivedIn k (getD (k .holders) l 0) ≡ false)
+        → (getD (k .holders) l 0 ≡ 0) ⊎ (arrivedIn (withArrived k (put 0 (k .arrived) p 1)) (getD (k .holders) l 0) ≡ false)
+    away l (inl e) = inl e
+    away l (inr e) = inr (ap (λ (x : ℕ). not (eqb x 0)) (get-put-other 0 (k .arrived) p (getD (k .holders) l 0) 1 (free l)) ∙ e)
 
 -- all marks clear
 arrived-cleared : (lim : Limits) (n : Counts) (k : Marks) (marks : List ℕ) → CountsInOrder lim n → MarksInOrder lim n k → length marks ≡ suc (lim .processors)
@@ -66,6 +75,7 @@ arrived-cleared lim n k marks c f l =
       holder-present = f .holder-present;
       someone-missing = record { at = 0; below = c .some-processor; passes = ap not (clear 1) };
       lines = cleared-lines n k (f .lines) marks;
+      holder-away = λ l. inr (clear (getD (k .holders) l 0));
     }
   where
     clear : (q : ℕ) → not (eqb (getD (map (λ mark. 0) marks) q 0) 0) ≡ false
@@ -79,14 +89,25 @@ barrier-learned : (lim : Limits) (s : State) (p : ℕ) → Parts lim s → prese
 unfolding closed
 barrier-learned lim s p f a = carrier-learned lim (s .counts) (closed s p .clocks) Barrier p (f .counts) (closed-parts lim s p f a .clocks) (barrier-carries (s .counts)) a
 
+-- whoever holds no lock is the holder of none
+holds-none : (lim : Limits) (s : State) (p : ℕ) → Parts lim s → presentAmong (s .counts) p ≡ true → holdsAny lim s p ≡ false → (l : ℕ) → getD (s .marks .holders) l 0 ≡ p → ⊥
+unfolding holdsAny holder
+holds-none lim s p f a free l e = go (ltb l (lim .locks)) refl
+  where
+    go : (b : Bool) → ltb l (lim .locks) ≡ b → ⊥
+    go true h = false≢true (sym free ∙ any-holds (lim .locks) (λ i. eqb (getD (s .marks .holders) i 0) p) l (ltb-true l (lim .locks) h) (eq-eqb _ _ e))
+    go false h =
+        let none : getD (s .marks .holders) l 0 ≡ 0 = List·getD-eq-default (s .marks .holders) 0 (omega (arith, f .marks .holders, ltb-false l (lim .locks) h)) in
+        omega (arith, none, e, among-says (s .counts) p a .0)
+
 -- no round is complete
-pub waiting-parts : (lim : Limits) (s : State) (p : ℕ) → Parts lim s → presentAmong (s .counts) p ≡ true → waits (s .marks) p ≡ false → allArrived (atBarrier s p) ≡ false
-    → Parts lim (atBarrier s p)
+pub waiting-parts : (lim : Limits) (s : State) (p : ℕ) → Parts lim s → presentAmong (s .counts) p ≡ true → waits (s .marks) p ≡ false → holdsAny lim s p ≡ false
+    → allArrived (atBarrier s p) ≡ false → Parts lim (atBarrier s p)
 unfolding atBarrier closed allArrived hasArrived
-waiting-parts lim s p f a awake e =
+waiting-parts lim s p f a awake free e =
     moved-parts lim (closed s p) (learned (closed s p .clocks) Barrier (Processor p)) (withArrived (s .marks) (put 0 (s .marks .arrived) p 1)) (closed-parts lim s p f a)
     (barrier-learned lim s p f a)
-    (arrived-set lim (s .counts) (s .marks) p (f .counts) (f .marks) a awake (every-fails (s .counts .processors) (λ i. hasArrived (atBarrier s p) (suc i)) e))
+    (arrived-set lim (s .counts) (s .marks) p (f .counts) (f .marks) a awake (holds-none lim s p f a free) (every-fails (s .counts .processors) (λ i. hasArrived (atBarrier s p) (suc i)) e))
 
 -- a round is complete
 pub round-parts : (lim : Limits) (s : State) (p : ℕ) → Parts lim s → presentAmong (s .counts) p ≡ true → Parts lim (roundDone (atBarrier s p))
@@ -152,13 +173,14 @@ unfolding collected
 collected-parts lim s f = emptied-parts lim (allFetched lim s (s .counts .processors) .after) (all-fetched-parts lim s f .parts)
 
 -- every arrival
-pub arrive-parts : (lim : Limits) (s : State) (p : ℕ) → Parts lim s → presentAmong (s .counts) p ≡ true → waits (s .marks) p ≡ false → Parts lim (arrive lim s p .after)
+pub arrive-parts : (lim : Limits) (s : State) (p : ℕ) → Parts lim s → presentAmong (s .counts) p ≡ true → waits (s .marks) p ≡ false → holdsAny lim s p ≡ false
+    → Parts lim (arrive lim s p .after)
 unfolding arrive
-arrive-parts lim s p f a awake = go (allArrived (atBarrier s p)) (wantsCollection (atBarrier s p)) refl
+arrive-parts lim s p f a awake free = go (allArrived (atBarrier s p)) (wantsCollection (atBarrier s p)) refl
   where
     go : (b c : Bool) → allArrived (atBarrier s p) ≡ b
         → Parts lim
         ((cond b (cond c (collected lim (roundDone (atBarrier s p))) (noneFetched (roundDone (atBarrier s p)))) (noneFetched (atBarrier s p))) .after)
     go true true e = collected-parts lim (roundDone (atBarrier s p)) (round-parts lim s p f a)
     go true false e = round-parts lim s p f a
-    go false c e = waiting-parts lim s p f a awake e
+    go false c e = waiting-parts lim s p f a awake free e

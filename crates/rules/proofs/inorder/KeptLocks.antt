@@ -37,11 +37,20 @@ module _ (lim : Limits) (n : Counts) (k : Marks) (f : MarksInOrder lim n k) (l q
       go (yes e) = rw (e, get-put-same 0 (k .holders) l q) held
       go (no e) = rw (get-put-other 0 (k .holders) l i q e) (f .holder-present i)
 
+-- no holder has arrived when a lock gets a holder that has not, or none
+away-holds : (lim : Limits) (n : Counts) (k : Marks) → MarksInOrder lim n k → (l q : ℕ) → (q ≡ 0) ⊎ (arrivedIn k q ≡ false)
+    → (i : ℕ) → (getD (put 0 (k .holders) l q) i 0 ≡ 0) ⊎ (arrivedIn k (getD (put 0 (k .holders) l q) i 0) ≡ false)
+away-holds lim n k f l q away i = go (ℕ-discrete i l)
+  where
+    go : Dec (i ≡ l) → (getD (put 0 (k .holders) l q) i 0 ≡ 0) ⊎ (arrivedIn k (getD (put 0 (k .holders) l q) i 0) ≡ false)
+    go (yes e) = rw (e, get-put-same 0 (k .holders) l q) away
+    go (no e) = rw (get-put-other 0 (k .holders) l i q e) (f .holder-away i)
+
 module _ (lim : Limits) (n : Counts) (c : CountsInOrder lim n) where
   -- the holder of a present lock is replaced, and the lines stay lines
-  holder-set : (k : Marks) (l q : ℕ) → MarksInOrder lim n k → l < n .locks → (q ≡ 0) ⊎ (presentAmong n q ≡ true) → LinesInOrder n (withHolder k l q) → MarksInOrder lim n (withHolder k l q)
+  holder-set : (k : Marks) (l q : ℕ) → MarksInOrder lim n k → l < n .locks → (q ≡ 0) ⊎ (presentAmong n q ≡ true) → (q ≡ 0) ⊎ (arrivedIn k q ≡ false) → LinesInOrder n (withHolder k l q) → MarksInOrder lim n (withHolder k l q)
   unfolding withHolder waits turnOf
-  holder-set k l q f h held lines =
+  holder-set k l q f h held away lines =
       record {
         holders = length-put-within 0 (k .holders) l q (omega (arith, f .holders, c .locks-fit)) ∙ f .holders;
         arrived = f .arrived;
@@ -54,6 +63,7 @@ module _ (lim : Limits) (n : Counts) (c : CountsInOrder lim n) where
         holder-present = present-holds lim n k f l q h held;
         someone-missing = f .someone-missing;
         lines = lines;
+        holder-away = away-holds lim n k f l q away;
       }
 
   -- a present processor that neither waits nor has arrived asks for a lock that it does not hold
@@ -86,10 +96,11 @@ module _ (lim : Limits) (n : Counts) (c : CountsInOrder lim n) where
             holder-present = f .holder-present;
             someone-missing = f .someone-missing;
             lines = waiter-lines n k (f .lines) l p (omega (arith, b .1)) h (awake-says k p awake) missing held other;
+            holder-away = f .holder-away;
           }
 
       go : (d : Bool) → eqb (holderIn k l) 0 ≡ d → MarksInOrder lim n (cond d (withHolder k l (suc p)) (withWaiter k l (suc p) (inLine (n .processors) k l)))
-      go true e = holder-set k l (suc p) f h (inr a) (taken-lines n k (f .lines) l (suc p) (eqb-true (holderIn k l) 0 e))
+      go true e = holder-set k l (suc p) f h (inr a) (inr missing) (taken-lines n k (f .lines) l (suc p) (eqb-true (holderIn k l) 0 e))
       go false e = waits-now (eqb-false (holderIn k l) 0 e)
 
   -- the first of a line is a present processor, where there is one
@@ -100,6 +111,17 @@ module _ (lim : Limits) (n : Counts) (c : CountsInOrder lim n) where
       go : (q : ℕ) → waiterAt (n .processors) k l 0 ≡ q → (q ≡ 0) ⊎ (presentAmong n q ≡ true)
       go zero e = inl refl
       go (suc h) e = inr (among-when n (suc h) (omega arith) (found-stands (n .processors) k l 0 h e .0))
+
+  -- and has not arrived
+  pub first-away : (k : Marks) (l : ℕ) → LinesInOrder n k → (firstInLine (n .processors) k l ≡ 0) ⊎ (arrivedIn k (firstInLine (n .processors) k l) ≡ false)
+  unfolding firstInLine
+  first-away k l f = go (waiterAt (n .processors) k l 0) refl
+    where
+      go : (q : ℕ) → waiterAt (n .processors) k l 0 ≡ q → (q ≡ 0) ⊎ (arrivedIn k q ≡ false)
+      go zero e = inl refl
+      go (suc h) e =
+          let s = found-stands (n .processors) k l 0 h e in
+          inr (f .not-arrived h l (omega (arith, s .0)) (s .1))
 
   -- a lock is handed on
   handed-marks : (k : Marks) (l : ℕ) → MarksInOrder lim n k → l < n .locks → MarksInOrder lim n (lockHanded (n .processors) k l)
@@ -118,6 +140,7 @@ module _ (lim : Limits) (n : Counts) (c : CountsInOrder lim n) where
         holder-present = present-holds lim n k f l q h (first-present k l);
         someone-missing = f .someone-missing;
         lines = unfold lockHanded withHolder withoutWaiter in handed-in-order n k (f .lines) l;
+        holder-away = away-holds lim n k f l q (first-away k l (f .lines));
       }
     where
       first-at-most : firstInLine (n .processors) k l ≤ n .processors
@@ -199,6 +222,7 @@ wish-set lim n k w f =
       holder-present = f .holder-present;
       someone-missing = f .someone-missing;
       lines = wanted-lines n k (f .lines) w;
+      holder-away = f .holder-away;
     }
 
 -- wanting collection

@@ -128,6 +128,7 @@ pub record MarksInOrder (lim : Limits) (n : Counts) (k : Marks) : Type 0 where
   pub holder-present : (l : ℕ) → (getD (k .holders) l 0 ≡ 0) ⊎ (presentAmong n (getD (k .holders) l 0) ≡ true)
   pub someone-missing : Passes (n .processors) (λ i. not (arrivedIn k (suc i)))
   pub lines : LinesInOrder n k
+  pub holder-away : (l : ℕ) → (getD (k .holders) l 0 ≡ 0) ⊎ (arrivedIn k (getD (k .holders) l 0) ≡ false)
 
 -- the shared values, with the counts
 pub record SharedInOrder (lim : Limits) (n : Counts) (h : Shared) : Type 0 where
@@ -229,6 +230,7 @@ parts-of lim s f =
             holder-present = f .holder-present;
             someone-missing = f .someone-missing;
             lines = f .lines;
+            holder-away = f .holder-away;
           };
       shared = record { posted = f .sized .posted; adds = adds-rows lim s (f .sized); absent-adds = f .absent-adds };
       room = f .room;
@@ -312,4 +314,5 @@ in-order-of lim s f =
       holder-present = f .marks .holder-present;
       someone-missing = f .marks .someone-missing;
       lines = f .marks .lines;
+      holder-away = f .marks .holder-away;
     }

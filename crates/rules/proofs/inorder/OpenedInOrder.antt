@@ -278,6 +278,7 @@ module _ (lim : Limits) (c : Counts) where
             holder-present = λ l. inl (opened-not-held l);
             someone-missing = record { at = 0; below = processors .0; passes = ap not (opened-not-arrived 1) };
             lines = opened-no-lines;
+            holder-away = λ l. inl (opened-not-held l);
           }
 
 -- an accepted opening has its counts in range

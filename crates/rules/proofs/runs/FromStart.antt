@@ -32,6 +32,6 @@ state-from-start processors pages locks in-range ts =
 -- Listing A: the lines 1 to 12, refusal, value and count of each step
 pub listing-a : answers mainframe (start 2 1 1) listing
     ≡ answering 0 0 0 ∷ answering 0 0 0 ∷ answering 0 0 0 ∷ answering 0 0 0 ∷ answering 0 0 0 ∷ answering 7 0 0 ∷ answering 0 700 1 ∷ answering 0 700 0 ∷ answering 0 0 0
-    ∷ answering 6 0 0 ∷ answering 0 0 0 ∷ answering 0 0 0 ∷ []
+    ∷ answering 6 0 0 ∷ answering 0 0 0 ∷ answering 18 0 0 ∷ []
 unfolding countsInRange inRange mainframe
 listing-a = answers-from-start 2 1 1 refl listing ∙ computed-listing

@@ -14,7 +14,7 @@ use Rattle.rules.specs.Close.{anyDirty, raised, ticked, newRecord, recor
 use Rattle.rules.specs.Fetch.{isPending, sumAt, earlier, due, appliedAll, isSet, anySets, replaced, unreplaced, wordsIn, applying, withCopy, fetched, fetchCount, fetchWords}
 use Rattle.rules.specs.Steps.{pageOfWord, offsetOfWord, wordOf, read, newTwin, twinTaken, stored, write, learned, acquire, lockTold, waiterTold, release, atBarrier, allArrived, allLearned, roundDone, pagesFetched, allFetched, allCleared, emptied, collected, wantsCollection, arrive, want}
 use Rattle.rules.specs.Tallies.{tallyAdded, tallyTotal, totalAfter, posting}
-use Rattle.rules.specs.Refusals.{Step, actionOf, knownKind, objectBound, usesValue, fits, lateRefusal, refusalBy, refusalInOrder, effect, Answer, refusedAs, answerInOrder, nextInOrder}
+use Rattle.rules.specs.Refusals.{Step, actionOf, knownKind, objectBound, usesValue, fits, holdsAny, lateRefusal, refusalBy, refusalInOrder, effect, Answer, refusedAs, answerInOrder, nextInOrder}
 use Rattle.rules.specs.Runs.{answersInOrder, stateInOrder}
 
 -- the kinds of step: a processor, then the word, lock or tally, then the value
@@ -44,7 +44,7 @@ totals p t = record { kind = 9; processor = p; object = t; value = 0 }
 
 -- the mainframe opened with so many processors, pages and locks; who unfolds it unfolds the rules that a run computes with
 unfoldable pub start : ℕ → ℕ → ℕ → State
-unfolding mainframe zeros joined entryOf sumOf setting difference ended runsFrom runs setWords pairBytes wordBytes wordsBytes bytesOf written runCount runsAt runsIn wordsPlace wordAt wordsAt wordCount wordsSet settingsOf settings overlay applied anyDirty raised ticked newRecord recorded cleaned closed isPending sumAt earlier due appliedAll isSet anySets replaced unreplaced wordsIn applying withCopy fetched fetchCount fetchWords present slotSize dirtyPages rows zeroClocks zeroPages zeroMarks zeroShared opened actionOf knownKind objectBound usesValue fits lateRefusal refusalBy refusalInOrder effect refusedAs answerInOrder nextInOrder answersInOrder stateInOrder clockOf withClock cleared copyOf twinOf dirtyAt slotBytes recordIn recordsOf laidOver appended clock own standing holder hasArrived pageOfWord offsetOfWord wordOf read newTwin twinTaken stored write withHolder waits waitsFor turnOf inLine waiterAt firstInLine withWaiter lockAsked movedUp withoutWaiter lockHanded learned acquire lockTold waiterTold release atBarrier allArrived allLearned roundDone pagesFetched allFetched allCleared emptied collected wantsCollection arrive want postedOf addsOf tallyAdded tallyTotal totalAfter posting tabulate put putCell every any total firstOf select insertBy sortBy
+unfolding mainframe zeros joined entryOf sumOf setting difference ended runsFrom runs setWords pairBytes wordBytes wordsBytes bytesOf written runCount runsAt runsIn wordsPlace wordAt wordsAt wordCount wordsSet settingsOf settings overlay applied anyDirty raised ticked newRecord recorded cleaned closed isPending sumAt earlier due appliedAll isSet anySets replaced unreplaced wordsIn applying withCopy fetched fetchCount fetchWords present slotSize dirtyPages rows zeroClocks zeroPages zeroMarks zeroShared opened actionOf knownKind objectBound usesValue fits holdsAny lateRefusal refusalBy refusalInOrder effect refusedAs answerInOrder nextInOrder answersInOrder stateInOrder clockOf withClock cleared copyOf twinOf dirtyAt slotBytes recordIn recordsOf laidOver appended clock own standing holder hasArrived pageOfWord offsetOfWord wordOf read newTwin twinTaken stored write withHolder waits waitsFor turnOf inLine waiterAt firstInLine withWaiter lockAsked movedUp withoutWaiter lockHanded learned acquire lockTold waiterTold release atBarrier allArrived allLearned roundDone pagesFetched allFetched allCleared emptied collected wantsCollection arrive want postedOf addsOf tallyAdded tallyTotal totalAfter posting tabulate put putCell every any total firstOf select insertBy sortBy
 start processors pages locks = opened mainframe (record { processors = processors; pages = pages; locks = locks })
 
 -- an answer: refusal, value, the count of the records applied, and the number of words that they set
@@ -62,9 +62,10 @@ listing =
     acquires 1 0 ∷ writes 1 3 700 ∷ reads 2 3 ∷ acquires 2 0 ∷ releases 1 0 ∷ acquires 2 0 ∷ reads 2 3 ∷ reads 2 3 ∷ arrives 1 ∷ reads 1 3 ∷ wants 2 ∷ arrives 2
     ∷ []
 
--- the lines 1 to 12 of the listing: refusal, value and count of each step, and the words that it moves. L1: "In listing A line 4 now shows 0 and line 6 shows 7"
+-- the lines 1 to 12 of the listing: refusal, value and count of each step, and the words that it moves. L1: "In listing A line 4 now shows 0 and line 6 shows 7";
+-- L7: "line 12 of listing A becomes 12 18 0 0"
 pub computed-listing : answersInOrder mainframe (start 2 1 1) listing
     ≡ answering 0 0 0 ∷ answering 0 0 0 ∷ answering 0 0 0 ∷ answering 0 0 0 ∷ answering 0 0 0 ∷ answering 7 0 0 ∷ answering 0 700 1 ∷ answering 0 700 0 ∷ answering 0 0 0
-    ∷ answering 6 0 0 ∷ answering 0 0 0 ∷ answering 0 0 0 ∷ []
+    ∷ answering 6 0 0 ∷ answering 0 0 0 ∷ answering 18 0 0 ∷ []
 unfolding listing start
 computed-listing = refl

@@ -13,7 +13,7 @@ use Rattle.rules.specs.Lines.{firstInLine, lockAsked, lockHanded}
 use Rattle.rules.specs.Close.{anyDirty, ticked, newRecord, recorded, cleaned, closed}
 use Rattle.rules.specs.Fetch.{withCopy, fetched}
 use Rattle.rules.specs.Steps.{pageOfWord, read, newTwin, twinTaken, stored, write, learned, acquire, lockTold, waiterTold, release, atBarrier, allArrived, roundDone, pagesFetched, allFetched, noneFetched, emptied, collected, wantsCollection, arrive, want}
-use Rattle.rules.specs.Refusals.{Step, Action, Read, Write, Acquire, Release, Arrive, Want, TallyAdd, TallyRead, Unknown, actionOf, objectBound, usesValue, fits, lateRefusal, refusalBy, refusalInOrder, effect, nextInOrder}
+use Rattle.rules.specs.Refusals.{Step, Action, Read, Write, Acquire, Release, Arrive, Want, TallyAdd, TallyRead, Unknown, actionOf, objectBound, usesValue, fits, holdsAny, lateRefusal, refusalBy, refusalInOrder, effect, nextInOrder}
 
 -- a state without what words, twins and diffs hold: of the pages which are dirty, of the records how many stand
 pub record Outline : Type 0 where
@@ -171,7 +171,7 @@ effect-by-outline lim p Unknown s = unfold outline blank in refl
 -- ---- the refusals
 
 late-by-outline : (lim : Limits) (s : State) (e p : ℕ) (a : Action) → lateRefusal lim s e p a ≡ lateRefusal lim (blank (outline s)) e p a
-unfolding lateRefusal dirtyPages dirtyAt holder outline blank
+unfolding lateRefusal holdsAny dirtyPages dirtyAt holder outline blank
 late-by-outline lim s e p (Read w) = refl
 late-by-outline lim s e p (Write w v) = refl
 late-by-outline lim s e p (Acquire l) = refl

@@ -7,6 +7,7 @@ use lib.ListN.{length}
 use Rattle.limits.specs.Limits.{processorLimit}
 use Rattle.limits.specs.inner.Sizes.{clockArea, markArea, wordArea}
 use Rattle.rules.specs.Lines.{waits}
+use Rattle.rules.specs.Refusals.{holdsAny}
 use Rattle.rules.specs.State.{mainframe, hasArrived}
 use Rattle.rules.specs.Steps.{roundDone}
 use Rattle.rules.proofs.inorder.Facts.{InOrder}
@@ -16,11 +17,12 @@ use Rattle.layout.specs.inner.Marks.{processorCount, arrivedMark}
 use Rattle.fetch_index.specs.inner.Index.{IndexKept}
 use Rattle.step_barrier.specs.inner.Effects.{RoundDone}
 
--- p is a processor of the state in order that the areas hold, has not arrived and does not wait
+-- p is a processor of the state in order that the areas hold, has not arrived, does not wait and holds no lock
 pub record Arrives (c w r m : List ℕ) (p : ℕ) : Type 0 where
   pub acts : Acts c w r m p
   pub not-arrived : hasArrived (stateIn mainframe c w r m) p ≡ false
   pub not-waiting : waits (stateIn mainframe c w r m .marks) p ≡ false
+  pub no-lock : holdsAny mainframe (stateIn mainframe c w r m) p ≡ false
 
 -- the same, and the index is kept
 pub record ArrivesKept (c w r m : List ℕ) (p : ℕ) (x : List ℕ) : Type 0 where
