@@ -1,8 +1,12 @@
 //! The commands of `./steps`. What is wrong goes to standard error, with
 //! status 1.
 
+use super::input::{self, Range};
 use super::pack::{self, Mistake};
-use super::{help, input, text};
+use super::progress::Progress;
+use super::proved::{self, Home};
+use super::{explain, help, sentence, state, text};
+use super::areas::Areas;
 use std::env;
 use std::io::{self, BufWriter, IsTerminal, Write};
 use std::process::ExitCode;
@@ -57,6 +61,8 @@ fn command(words: &[&str], out: &mut dyn Write) -> Result<(), Failure> {
         [command, "-h" | "--help"] => Ok(out.write_all(help::text(command).as_bytes())?),
         ["pack", file] => pack_file(file, out),
         ["text", file] => Ok(out.write_all(text::text(&input::bytes(file)?).as_bytes())?),
+        ["explain", file, range @ ..] if range.len() != 1 => explain_file(file, range, out),
+        ["state", file, number] => state_after(file, number, out),
         [] => Err(Failure::Said(format!("no command\n{}", help::text("")))),
         [command, ..] => Err(Failure::Said(wrong_words(command))),
     }
@@ -105,4 +111,35 @@ fn utf8<'a>(name: &str, bytes: &'a [u8]) -> Result<&'a str, Failure> {
         let found = "found a byte that is none: is this a step file?";
         Failure::Mistakes(format!("{name}:{line}:{column}: expected a text in UTF-8, {found}"))
     })
+}
+
+fn explain_file(name: &str, range: &[&str], out: &mut dyn Write) -> Result<(), Failure> {
+    let file = input::bytes(name)?;
+    let mut progress = Progress::new();
+    let run = proved::run(&Home::found()?, &file)?;
+    let range = Range::asked(range, run.last())?;
+    let fine = explain::explain(&file, &run, range, &mut progress, out)?;
+    out.flush()?;
+    if fine {
+        return Ok(());
+    }
+    Err(Failure::Said("a read did not answer what is due".to_string()))
+}
+
+fn state_after(name: &str, number: &str, out: &mut dyn Write) -> Result<(), Failure> {
+    let file = input::bytes(name)?;
+    let number = input::number(number)?;
+    let whole = file.len() / 8;
+    if whole == 0 {
+        return Err(Failure::Said(format!("{name} has no whole record")));
+    }
+    if number >= whole {
+        let last = whole - 1;
+        return Err(Failure::Said(format!("N is {number}, and the last whole record of {name} is {last}")));
+    }
+    let records = &file[..8 * number + 8];
+    let areas = Areas::from_bytes(&proved::areas(&Home::found()?, records)?)?;
+    let sentence = sentence::of_record(number, &records[8 * number..]);
+    writeln!(out, "after record {number}, {sentence}:")?;
+    Ok(out.write_all(state::text(&areas).as_bytes())?)
 }

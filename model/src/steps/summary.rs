@@ -1,0 +1,100 @@
+//! What a whole run came to.
+
+use super::ledger::Deed;
+use super::sentence::counted;
+use super::walk::{Told, Walk};
+use super::writes::Finding;
+use std::collections::BTreeMap;
+
+/// So many reads that are not ordered are named.
+const MOST_NAMED: usize = 10;
+
+#[derive(Default)]
+pub struct Summary {
+    ordered: usize,
+    none_written: usize,
+    not_ordered: usize,
+    /// The first reads that are not ordered.
+    named: Vec<String>,
+    tally_reads: usize,
+    refusals: BTreeMap<u32, usize>,
+    /// Reads that answered another value than is due.
+    pub broken: usize,
+}
+
+impl Summary {
+    pub fn take(&mut self, told: &Told, fine: bool) {
+        self.broken += usize::from(!fine);
+        if told.reply.refusal != 0 {
+            *self.refusals.entry(told.reply.refusal).or_insert(0) += 1;
+        }
+        match (&told.finding, &told.accepted) {
+            (Some(Finding::NoneWritten), _) => self.none_written += 1,
+            (Some(Finding::Ordered { .. }), _) => self.ordered += 1,
+            (Some(Finding::NotOrdered(_)), _) => self.count_not_ordered(told.number),
+            (_, Some((_, Deed::TallyRead { .. }))) => self.tally_reads += 1,
+            _ => {}
+        }
+    }
+
+    fn count_not_ordered(&mut self, number: usize) {
+        self.not_ordered += 1;
+        if self.named.len() < MOST_NAMED {
+            self.named.push(number.to_string());
+        }
+    }
+
+    pub fn text(&self, walk: &Walk) -> String {
+        let last = walk.run.last();
+        let mut lines = vec![
+            format!("the whole run, records 0 to {last}:"),
+            format!("    reads ordered: {}", self.ordered),
+            format!("    reads ordered, none written: {}", self.none_written),
+            format!("    reads not ordered: {}{}", self.not_ordered, self.which()),
+        ];
+        if self.tally_reads > 0 {
+            lines.push(format!("    reads of tallies: {}", self.tally_reads));
+        }
+        lines.push(format!("    refusals: {}", self.refusals_text()));
+        if let Some(ledger) = &walk.ledger {
+            let (standing, dirty) = (ledger.standing(), ledger.dirty.len());
+            let (records, pages) = (counted(standing, "record"), counted(dirty, "dirty page"));
+            lines.push(format!("    at the end: {records} standing, {pages}"));
+        }
+        lines.push(format!("    words moved: {}", self.words(walk)));
+        if self.broken > 0 {
+            lines.push(format!("    BROKEN: {} did not answer what is due", counted(self.broken, "read")));
+        }
+        lines.join("\n") + "\n"
+    }
+
+    fn which(&self) -> String {
+        if self.named.is_empty() {
+            return String::new();
+        }
+        let more = if self.not_ordered > self.named.len() { " and more" } else { "" };
+        format!(" ({}{more})", self.named.join(", "))
+    }
+
+    fn refusals_text(&self) -> String {
+        if self.refusals.is_empty() {
+            return "none".to_string();
+        }
+        let each = |(refusal, count): (&u32, &usize)| match count {
+            1 => format!("{refusal} once"),
+            _ => format!("{refusal} {count} times"),
+        };
+        let all: Vec<String> = self.refusals.iter().map(each).collect();
+        all.join(", ")
+    }
+
+    /// The run program tells them where it did not stop before the end.
+    fn words(&self, walk: &Walk) -> String {
+        let stopped = [2, 15, 16].iter().any(|refusal| self.refusals.contains_key(refusal));
+        match walk.run.words {
+            Some(words) => words.to_string(),
+            None if stopped => format!("not told, since the run stopped at {}", walk.run.last()),
+            None => "not told by this run program".to_string(),
+        }
+    }
+}
