@@ -1,12 +1,14 @@
 //! The commands of `./steps`. What is wrong goes to standard error, with
 //! status 1.
 
+use super::areas::Areas;
 use super::input::{self, Range};
 use super::pack::{self, Mistake};
 use super::progress::Progress;
 use super::proved::{self, Home};
-use super::{explain, help, sentence, state, text};
-use super::areas::Areas;
+use super::scene::Scene;
+use super::walk::Walk;
+use super::{explain, help, picture, sentence, state, text};
 use std::env;
 use std::io::{self, BufWriter, IsTerminal, Write};
 use std::process::ExitCode;
@@ -62,6 +64,7 @@ fn command(words: &[&str], out: &mut dyn Write) -> Result<(), Failure> {
         ["pack", file] => pack_file(file, out),
         ["text", file] => Ok(out.write_all(text::text(&input::bytes(file)?).as_bytes())?),
         ["explain", file, range @ ..] if range.len() != 1 => explain_file(file, range, out),
+        ["picture", file, range @ ..] if range.len() != 1 => picture_file(file, range, out),
         ["state", file, number] => state_after(file, number, out),
         [] => Err(Failure::Said(format!("no command\n{}", help::text("")))),
         [command, ..] => Err(Failure::Said(wrong_words(command))),
@@ -142,4 +145,18 @@ fn state_after(name: &str, number: &str, out: &mut dyn Write) -> Result<(), Fail
     let sentence = sentence::of_record(number, &records[8 * number..]);
     writeln!(out, "after record {number}, {sentence}:")?;
     Ok(out.write_all(state::text(&areas).as_bytes())?)
+}
+
+fn picture_file(name: &str, range: &[&str], out: &mut dyn Write) -> Result<(), Failure> {
+    let file = input::bytes(name)?;
+    let mut progress = Progress::new();
+    let run = proved::run(&Home::found()?, &file)?;
+    let asked = Range::asked(range, run.last())?;
+    let (shown, note) = picture::window(asked, run.last());
+    if shown != asked {
+        eprintln!("steps: the picture shows records {} to {} of 0 to {}", shown.from, shown.to, run.last());
+    }
+    let scene = Scene::of(Walk::new(&file, &run, &mut progress), shown);
+    let title = format!("{name}, records {} to {}", shown.from, shown.to);
+    Ok(out.write_all(picture::picture(&scene, &title, note.as_deref()).as_bytes())?)
 }

@@ -183,19 +183,49 @@ fn no_interval(step: &Step, ledger: &Ledger) -> String {
 
 /// What fills the space: records by card, and dirty pages.
 fn no_space(ledger: &Ledger) -> String {
-    let by_card: Vec<String> = ledger.records.iter().map(|(card, count)| format!("{count} of card {card}")).collect();
-    let records = match by_card.len() {
-        0 => String::new(),
-        _ => format!(" ({})", listed(&by_card)),
+    let of_card = |(card, count): (&u8, &usize)| format!("{count} of card {card}");
+    let records = ledger.records.iter().map(of_card).collect();
+    let pages_of = |card: u8| {
+        let dirty = ledger.dirty.iter().filter(move |(owner, _)| *owner == card);
+        let pages: Vec<String> = dirty.map(|(_, page)| page.to_string()).collect();
+        (!pages.is_empty()).then(|| format!("{} of card {card}", listed(&pages)))
     };
-    let pages: Vec<String> = ledger.dirty.iter().map(|(card, page)| format!("page {page} of card {card}")).collect();
-    let dirty = match pages.len() {
-        0 => String::new(),
-        _ => format!(" ({})", listed(&pages)),
-    };
-    let standing = counted(ledger.standing(), "record");
-    let pages = counted(pages.len(), "dirty page");
-    format!("{standing}{records} and {pages}{dirty} fill the {MOST_RECORDS} places {}; {HELPS}", since_collection(ledger))
+    let dirty = (1..=ledger.cards).filter_map(pages_of).collect();
+    format!(
+        "{}{} and {}{} fill the {MOST_RECORDS} places {}; {HELPS}",
+        counted(ledger.standing(), "record"),
+        in_brackets(records),
+        counted(ledger.dirty.len(), "dirty page"),
+        in_brackets(dirty),
+        since_collection(ledger)
+    )
+}
+
+fn in_brackets(items: Vec<String>) -> String {
+    if items.is_empty() {
+        return String::new();
+    }
+    format!(" ({})", items.join("; "))
+}
+
+/// A refusal in a few words, by its number.
+pub fn in_short(refusal: u32) -> &'static str {
+    match refusal {
+        2 => "the opening",
+        3 => "no such kind of step",
+        4 => "no such card",
+        5 => "no such word, lock or tally, or a field not used",
+        6 => "the card has arrived",
+        17 => "the card waits for a lock",
+        18 => "an arrival by a holder",
+        7 => "the card holds the lock already",
+        8 => "the card does not hold the lock",
+        9 => "no interval left",
+        10 => "no space left",
+        15 => "the file ends within a record",
+        16 => "a step too many",
+        _ => "unknown",
+    }
 }
 
 const HELPS: &str = "a collecting round would help: want collection, then each card arrives";

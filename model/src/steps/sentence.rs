@@ -49,6 +49,9 @@ pub fn deed(step: &Step) -> Option<String> {
 }
 
 fn raw(bytes: &[u8]) -> String {
+    if bytes.is_empty() {
+        return "the end of the file".to_string();
+    }
     let mut text = "raw".to_string();
     for byte in bytes {
         text.push_str(&format!(" {byte:02x}"));

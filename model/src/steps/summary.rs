@@ -1,6 +1,7 @@
 //! What a whole run came to.
 
 use super::ledger::Deed;
+use super::refusal;
 use super::sentence::counted;
 use super::walk::{Told, Walk};
 use super::writes::Finding;
@@ -55,7 +56,10 @@ impl Summary {
         if self.tally_reads > 0 {
             lines.push(format!("    reads of tallies: {}", self.tally_reads));
         }
-        lines.push(format!("    refusals: {}", self.refusals_text()));
+        lines.push(format!("    refusals: {}", self.refusals.values().sum::<usize>()));
+        for (number, count) in &self.refusals {
+            lines.push(format!("        {number}, {}: {count}", refusal::in_short(*number)));
+        }
         if let Some(ledger) = &walk.ledger {
             let (standing, dirty) = (ledger.standing(), ledger.dirty.len());
             let (records, pages) = (counted(standing, "record"), counted(dirty, "dirty page"));
@@ -74,18 +78,6 @@ impl Summary {
         }
         let more = if self.not_ordered > self.named.len() { " and more" } else { "" };
         format!(" ({}{more})", self.named.join(", "))
-    }
-
-    fn refusals_text(&self) -> String {
-        if self.refusals.is_empty() {
-            return "none".to_string();
-        }
-        let each = |(refusal, count): (&u32, &usize)| match count {
-            1 => format!("{refusal} once"),
-            _ => format!("{refusal} {count} times"),
-        };
-        let all: Vec<String> = self.refusals.iter().map(each).collect();
-        all.join(", ")
     }
 
     /// The run program tells them where it did not stop before the end.
