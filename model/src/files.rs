@@ -42,8 +42,9 @@ fn readme(cases: &[Case]) -> String {
 
 const README_HEAD: &str = "# Step files and their lines
 
-NAME.steps is a step file, NAME.lines what the run program prints for it.
-Written by `model make-files`; each line was set down by hand from documents 01
+NAME.steps is a step file, NAME.lines what the run program prints for it,
+NAME.txt the file in words (`tests/steps/store` writes it). The others are
+written by `model make-files`; each line was set down by hand from documents 01
 and 02 (model/src/cases.rs, wait_cases.rs, equal_cases.rs, tally_cases.rs,
 skip_cases.rs) and agrees with the second model.
 

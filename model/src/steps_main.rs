@@ -23,6 +23,29 @@ mod stepfile;
 #[allow(dead_code)]
 mod tally_judge;
 
+// The generator, for the tests.
+#[cfg(test)]
+#[allow(dead_code)]
+mod batons;
+#[cfg(test)]
+#[allow(dead_code)]
+mod blend;
+#[cfg(test)]
+#[allow(dead_code)]
+mod generate;
+#[cfg(test)]
+#[allow(dead_code)]
+mod plan;
+#[cfg(test)]
+#[allow(dead_code)]
+mod rng;
+#[cfg(test)]
+#[allow(dead_code)]
+mod script;
+#[cfg(test)]
+#[allow(dead_code)]
+mod triggers;
+
 mod steps;
 
 fn main() -> std::process::ExitCode {

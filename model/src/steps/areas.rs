@@ -167,12 +167,6 @@ impl Areas {
     pub fn added(&self, tally: u8, card: u8) -> u32 {
         self.words[FIRST_TALLY + TALLIES * usize::from(card) + usize::from(tally)]
     }
-
-    /// The words of a card's copy of a page.
-    pub fn copy(&self, card: u8, page: u8) -> &[u32] {
-        let first = PAGE_WORDS * of_page(card, page);
-        &self.words[first..first + PAGE_WORDS]
-    }
 }
 
 /// Cards are numbered from 1.

@@ -186,10 +186,10 @@ fn answer(walk: &Walk, told: &Told) -> String {
 fn tally_text(walk: &Walk, total: u32, posted: u32, own: u32) -> String {
     let round = walk.ledger.as_ref().and_then(|ledger| ledger.round);
     let posted = match round {
-        Some(at) => format!("{posted} posted at the round of {at}"),
-        None => "nothing posted yet".to_string(),
+        Some(at) => format!("posted {posted} (round complete at {at})"),
+        None => "posted nothing yet".to_string(),
     };
-    format!("{total}: {posted}, {own} by itself since")
+    format!("{total}; {posted}, own adds since {own}")
 }
 
 /// A chain as `2 -> release 5 -> acquire 6 -> 7`.

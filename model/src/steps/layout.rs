@@ -64,7 +64,7 @@ impl Layout {
             left = lane.right + LANE_GAP;
             layout.lanes.push(lane);
         }
-        layout.width = layout.width.max(left).max(layout.widest_outside(scene));
+        layout.width = layout.width.max(left);
         layout
     }
 
@@ -104,7 +104,8 @@ impl Layout {
     fn lane(&mut self, scene: &Scene, card: u8, left: f64) -> Lane {
         let bars = self.take_bar_slots(scene, card) as f64;
         let arrows = self.take_arrow_slots(scene, card) as f64;
-        let labels = scene.rows.iter().filter(|row| row.card == Some(card));
+        // Records of no card stand in the first lane.
+        let labels = scene.rows.iter().filter(|row| row.card.unwrap_or(1) == card);
         let label = labels.map(|row| text_width(&row.label)).fold(text_width("card 8"), f64::max);
         let first_bar = left + GUTTER_STEP * (arrows + 1.0);
         let axis = first_bar + BAR_STEP * bars + BAR / 2.0;
@@ -115,13 +116,6 @@ impl Layout {
             label: axis + LABEL_GAP,
             right: axis + LABEL_GAP + label,
         }
-    }
-
-    /// Records of no card stand at the first lane's labels.
-    fn widest_outside(&self, scene: &Scene) -> f64 {
-        let outside = scene.rows.iter().filter(|row| row.card.is_none());
-        let widest = outside.map(|row| text_width(&row.label)).fold(0.0, f64::max);
-        self.lanes[0].label + widest + MARGIN
     }
 
     fn take_bar_slots(&mut self, scene: &Scene, card: u8) -> usize {

@@ -18,6 +18,8 @@ mod sentence;
 mod state;
 mod summary;
 mod svg;
+#[cfg(test)]
+mod tests;
 mod text;
 mod walk;
 mod writes;

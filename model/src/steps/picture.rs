@@ -94,14 +94,18 @@ impl Drawing<'_> {
         (from, to)
     }
 
-    /// A bar has the number of its lock at its upper end.
+    /// A bar has the number of its lock at its upper end and in each band.
     fn bars(&self, svg: &mut Svg) {
         for (nth, bar) in self.scene.bars.iter().enumerate() {
             let left = self.layout.bar_left(self.scene, nth);
             let (from, to) = self.layout.bar_span(bar);
             let (ground, text) = if bar.waiting { ("waits", "lock-waits") } else { ("holds", "lock") };
             svg.rect(ground, (left, from), BAR, to - from);
-            svg.text(text, (left + BAR / 2.0, from + 10.0), &bar.lock.to_string());
+            let bands = self.layout.bands().into_iter();
+            let bands = bands.filter(|y| from + ROW < *y && *y < to).map(|y| y + 3.0);
+            for y in [from + 10.0].into_iter().chain(bands) {
+                svg.text(text, (left + BAR / 2.0, y), &bar.lock.to_string());
+            }
         }
     }
 

@@ -58,22 +58,22 @@ impl Run {
 
 /// Runs a file by the proved program.
 pub fn run(home: &Home, file: &[u8]) -> Result<Run, String> {
-    let printed = ask(&home.run, &["-"], file)?;
+    let printed = ask(&home.run, file)?;
     let text = String::from_utf8_lossy(&printed);
     parse(&text).ok_or_else(|| format!("{} printed no lines of a run", home.run.display()))
 }
 
 /// The areas after a row of records, all of which are run by the library.
 pub fn areas(home: &Home, records: &[u8]) -> Result<Vec<u8>, String> {
-    ask(&home.areas, &[], records)
+    ask(&home.areas, records)
 }
 
 /// What a program prints for some bytes on its standard input. What it says on
-/// standard error goes there.
-fn ask(program: &Path, words: &[&str], bytes: &[u8]) -> Result<Vec<u8>, String> {
+/// standard error is the user's to read.
+fn ask(program: &Path, bytes: &[u8]) -> Result<Vec<u8>, String> {
     let name = program.display();
     let mut command = Command::new(program);
-    command.args(words).stdin(Stdio::piped()).stdout(Stdio::piped());
+    command.stdin(Stdio::piped()).stdout(Stdio::piped());
     let mut child = command.spawn().map_err(|why| format!("{name} cannot be started: {why}"))?;
     let (input, output) = (child.stdin.take(), child.stdout.take());
     let mut printed = Vec::new();

@@ -72,16 +72,23 @@ fn clocks(areas: &Areas) -> String {
     table(&rows)
 }
 
+/// The applied clocks that are not all 0.
 fn applied(areas: &Areas) -> String {
-    let mut head = vec!["applied".to_string()];
-    head.extend((0..areas.pages()).map(|page| format!("page {page}")));
-    let mut rows = vec![head];
+    let mut rows = vec![row(["applied to", "clock"])];
     for card in 1..=areas.cards() {
-        let mut cells = vec![format!("card {card}")];
-        cells.extend((0..areas.pages()).map(|page| entries(areas.applied_clock(card, page))));
-        rows.push(cells);
+        for page in 0..areas.pages() {
+            let clock = areas.applied_clock(card, page);
+            if clock.iter().any(|entry| *entry != 0) {
+                rows.push(vec![format!("card {card}, page {page}"), entries(clock)]);
+            }
+        }
     }
-    table(&rows)
+    let all = usize::from(areas.cards()) * usize::from(areas.pages());
+    match (rows.len() - 1, all) {
+        (0, _) => "nothing is applied to any page: all these clocks are 0\n".to_string(),
+        (some, all) if some < all => table(&rows) + "the others are 0\n",
+        _ => table(&rows),
+    }
 }
 
 fn locks(areas: &Areas) -> String {
