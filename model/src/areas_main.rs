@@ -64,6 +64,11 @@ fn areas_after(file: &[u8]) -> Option<Vec<u8>> {
     let accepted = run == records && records > 0 && answers[0] == 0;
     accepted.then(|| {
         let words = words.iter().flat_map(|word| word.to_le_bytes());
-        clocks.into_iter().chain(words).chain(slots).chain(marks).collect()
+        clocks
+            .into_iter()
+            .chain(words)
+            .chain(slots)
+            .chain(marks)
+            .collect()
     })
 }

@@ -101,7 +101,8 @@ impl Verdict {
         let due = finding.last.unwrap_or(0);
         self.reads += 1;
         self.strong += usize::from(finding.premise);
-        self.strong_numbers.extend(finding.premise.then_some(read.number));
+        self.strong_numbers
+            .extend(finding.premise.then_some(read.number));
         self.strong_written += usize::from(finding.premise && finding.last.is_some());
         let strong_broken = finding.premise && due != read.answered;
         if strong_broken {

@@ -107,7 +107,9 @@ impl Areas {
 
     /// The cards that wait for a lock, the longest first.
     pub fn line(&self, lock: u8) -> Vec<u8> {
-        let mut line: Vec<u8> = (1..=self.cards()).filter(|card| self.awaited(*card) == Some(lock)).collect();
+        let mut line: Vec<u8> = (1..=self.cards())
+            .filter(|card| self.awaited(*card) == Some(lock))
+            .collect();
         line.sort_by_key(|card| self.marks[FIRST_TURN + index(*card)]);
         line
     }
@@ -180,7 +182,10 @@ fn of_page(card: u8, page: u8) -> usize {
 }
 
 fn word(bytes: &[u8]) -> u32 {
-    bytes.iter().rev().fold(0, |word, byte| word << 8 | u32::from(*byte))
+    bytes
+        .iter()
+        .rev()
+        .fold(0, |word, byte| word << 8 | u32::from(*byte))
 }
 
 /// The words that a change sets: "One byte n; n pairs of bytes, offset and
@@ -190,6 +195,8 @@ fn settings(change: &[u8]) -> Vec<(u8, u32)> {
         return Vec::new();
     };
     let (pairs, words) = rest.split_at(2 * usize::from(*runs));
-    let offsets = pairs.chunks_exact(2).flat_map(|pair| pair[0]..pair[0] + pair[1]);
+    let offsets = pairs
+        .chunks_exact(2)
+        .flat_map(|pair| pair[0]..pair[0] + pair[1]);
     offsets.zip(words.chunks_exact(4).map(word)).collect()
 }

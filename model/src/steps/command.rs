@@ -112,7 +112,9 @@ fn utf8<'a>(name: &str, bytes: &'a [u8]) -> Result<&'a str, Failure> {
         let line = good.matches('\n').count() + 1;
         let column = good.rsplit('\n').next().unwrap_or("").chars().count() + 1;
         let found = "found a byte that is none: is this a step file?";
-        Failure::Mistakes(format!("{name}:{line}:{column}: expected a text in UTF-8, {found}"))
+        Failure::Mistakes(format!(
+            "{name}:{line}:{column}: expected a text in UTF-8, {found}"
+        ))
     })
 }
 
@@ -126,7 +128,9 @@ fn explain_file(name: &str, range: &[&str], out: &mut dyn Write) -> Result<(), F
     if fine {
         return Ok(());
     }
-    Err(Failure::Said("a read did not answer what is due".to_string()))
+    Err(Failure::Said(
+        "a read did not answer what is due".to_string(),
+    ))
 }
 
 fn state_after(name: &str, number: &str, out: &mut dyn Write) -> Result<(), Failure> {
@@ -138,7 +142,9 @@ fn state_after(name: &str, number: &str, out: &mut dyn Write) -> Result<(), Fail
     }
     if number >= whole {
         let last = whole - 1;
-        return Err(Failure::Said(format!("N is {number}, and the last whole record of {name} is {last}")));
+        return Err(Failure::Said(format!(
+            "N is {number}, and the last whole record of {name} is {last}"
+        )));
     }
     let records = &file[..8 * number + 8];
     let areas = Areas::from_bytes(&proved::areas(&Home::found()?, records)?)?;
@@ -154,7 +160,12 @@ fn picture_file(name: &str, range: &[&str], out: &mut dyn Write) -> Result<(), F
     let asked = Range::asked(range, run.last())?;
     let (shown, note) = picture::window(asked, run.last());
     if shown != asked {
-        eprintln!("steps: the picture shows records {} to {} of 0 to {}", shown.from, shown.to, run.last());
+        eprintln!(
+            "steps: the picture shows records {} to {} of 0 to {}",
+            shown.from,
+            shown.to,
+            run.last()
+        );
     }
     let scene = Scene::of(Walk::new(&file, &run, &mut progress), shown);
     let title = format!("{name}, records {} to {}", shown.from, shown.to);

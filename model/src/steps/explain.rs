@@ -95,10 +95,17 @@ impl Explainer {
             (None, _) => "0 is what the opening gave".to_string(),
         };
         let word = order.list[read].step.object;
-        writeln!(out, "    not ordered: 0 or any value written to word {word} before may stand here; {like}")?;
+        writeln!(
+            out,
+            "    not ordered: 0 or any value written to word {word} before may stand here; {like}"
+        )?;
         for (nth, unknown) in disorder.unknown.iter().enumerate() {
             let writes = writes_text(order, unknown);
-            writeln!(out, "        {writes}: {}", not_reached(order, unknown.last, read))?;
+            writeln!(
+                out,
+                "        {writes}: {}",
+                not_reached(order, unknown.last, read)
+            )?;
             if nth < MOST_DETAILED {
                 missing(order, unknown.last, read, out)?;
             }
@@ -106,7 +113,13 @@ impl Explainer {
         let Some((first, second)) = disorder.pair else {
             return Ok(());
         };
-        self.pair(order, told.number, (first, second), disorder.more_pairs, out)
+        self.pair(
+            order,
+            told.number,
+            (first, second),
+            disorder.more_pairs,
+            out,
+        )
     }
 
     /// Two writes that are not ordered with one another; why is said once.
@@ -127,13 +140,20 @@ impl Explainer {
         );
         let more = match more {
             0 => String::new(),
-            _ => format!("; so it is with {} more behind them", counted(more, "write")),
+            _ => format!(
+                "; so it is with {} more behind them",
+                counted(more, "write")
+            ),
         };
         if let Some(said) = self.said.get(&(first, second)) {
             return writeln!(out, "        {names}: see {said}{more}");
         }
         self.said.insert((first, second), number);
-        writeln!(out, "        {names}: {}{more}", not_reached(order, first, second))?;
+        writeln!(
+            out,
+            "        {names}: {}{more}",
+            not_reached(order, first, second)
+        )?;
         missing(order, first, second, out)
     }
 }
@@ -149,7 +169,9 @@ fn answer(walk: &Walk, told: &Told) -> String {
     if refusal != 0 {
         let bytes = walk.bytes(told.number);
         let why = match &walk.ledger {
-            Some(ledger) if told.number > 0 => refusal::of_step(refusal, told.number, bytes, ledger),
+            Some(ledger) if told.number > 0 => {
+                refusal::of_step(refusal, told.number, bytes, ledger)
+            }
             _ => refusal::of_opening(bytes),
         };
         return format!("refused ({refusal}): {why}");
@@ -167,16 +189,24 @@ fn answer(walk: &Walk, told: &Told) -> String {
                 0 => String::new(),
                 _ => format!(" behind {}", cards_listed(before)),
             };
-            format!("waits{behind}; card {} holds it, since {}", holder.card, holder.since)
+            format!(
+                "waits{behind}; card {} holds it, since {}",
+                holder.card, holder.since
+            )
         }
         Deed::Freed => "it is free".to_string(),
-        Deed::HandedTo(turn) => format!("it goes to card {}, which has waited since {}", turn.card, turn.since),
+        Deed::HandedTo(turn) => format!(
+            "it goes to card {}, which has waited since {}",
+            turn.card, turn.since
+        ),
         Deed::Arrived { so_far } => {
             let cards = walk.ledger.as_ref().map_or(0, |ledger| ledger.cards);
             format!("{so_far} of {cards} cards have arrived")
         }
         Deed::RoundComplete { collected: false } => "the round is complete".to_string(),
-        Deed::RoundComplete { collected: true } => format!("the round is complete, collection, {applied} applied"),
+        Deed::RoundComplete { collected: true } => {
+            format!("the round is complete, collection, {applied} applied")
+        }
         Deed::Wanted => "at the end of this round".to_string(),
         Deed::Added => "added".to_string(),
         Deed::TallyRead { posted, own } => tally_text(walk, told.reply.value, *posted, *own),
@@ -244,7 +274,11 @@ fn missing(order: &Order, s: usize, t: usize, out: &mut dyn Write) -> io::Result
         } else {
             format!("card {card}, which knows of it at {},", order.number(known))
         };
-        writeln!(out, "            {who} {}", handed_on(order, card, known, t))?;
+        writeln!(
+            out,
+            "            {who} {}",
+            handed_on(order, card, known, t)
+        )?;
     }
     Ok(())
 }
@@ -271,7 +305,10 @@ fn handed_on(order: &Order, card: u8, from: usize, t: usize) -> String {
     };
     let mut said: Vec<String> = places.iter().take(MOST_HANDED_ON).map(one).collect();
     if places.len() > MOST_HANDED_ON {
-        said.push(format!("and so on, {} releases and arrivals in all", places.len()));
+        said.push(format!(
+            "and so on, {} releases and arrivals in all",
+            places.len()
+        ));
     }
     said.join("; ")
 }

@@ -1,6 +1,7 @@
 //! What `--help` says.
 
-const ALL: &str = "./steps: step files in words, and what a run of one did. Nothing of it is proved;
+const ALL: &str =
+    "./steps: step files in words, and what a run of one did. Nothing of it is proved;
 the answers that it shows are always those of the proved run program.
 
     ./steps pack FILE.txt > FILE.steps          makes a step file of sentences

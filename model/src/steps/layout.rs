@@ -76,7 +76,8 @@ impl Layout {
     /// Where the names of the cards stand: above the rows, and in each band.
     pub fn bands(&self) -> Vec<f64> {
         let nths = (0..self.rows.max(1)).step_by(BAND);
-        nths.map(|nth| self.top + ROW * (self.line_of(nth + 1) as f64 - 1.5)).collect()
+        nths.map(|nth| self.top + ROW * (self.line_of(nth + 1) as f64 - 1.5))
+            .collect()
     }
 
     /// The middle of a record's row.
@@ -105,8 +106,13 @@ impl Layout {
         let bars = self.take_bar_slots(scene, card) as f64;
         let arrows = self.take_arrow_slots(scene, card) as f64;
         // Records of no card stand in the first lane.
-        let labels = scene.rows.iter().filter(|row| row.card.unwrap_or(1) == card);
-        let label = labels.map(|row| text_width(&row.label)).fold(text_width("card 8"), f64::max);
+        let labels = scene
+            .rows
+            .iter()
+            .filter(|row| row.card.unwrap_or(1) == card);
+        let label = labels
+            .map(|row| text_width(&row.label))
+            .fold(text_width("card 8"), f64::max);
         let first_bar = left + GUTTER_STEP * (arrows + 1.0);
         let axis = first_bar + BAR_STEP * bars + BAR / 2.0;
         Lane {
@@ -119,8 +125,13 @@ impl Layout {
     }
 
     fn take_bar_slots(&mut self, scene: &Scene, card: u8) -> usize {
-        let nths: Vec<usize> = (0..scene.bars.len()).filter(|nth| scene.bars[*nth].card == card).collect();
-        let spans: Vec<(f64, f64)> = nths.iter().map(|nth| self.bar_span(&scene.bars[*nth])).collect();
+        let nths: Vec<usize> = (0..scene.bars.len())
+            .filter(|nth| scene.bars[*nth].card == card)
+            .collect();
+        let spans: Vec<(f64, f64)> = nths
+            .iter()
+            .map(|nth| self.bar_span(&scene.bars[*nth]))
+            .collect();
         let (slots, count) = slots(&spans);
         for (nth, slot) in nths.iter().zip(slots) {
             self.bar_slots[*nth] = slot;
@@ -130,8 +141,13 @@ impl Layout {
 
     fn take_arrow_slots(&mut self, scene: &Scene, card: u8) -> usize {
         let down = |arrow: &Arrow| arrow.to == card && matches!(arrow.at, Time::At(_));
-        let nths: Vec<usize> = (0..scene.arrows.len()).filter(|nth| down(&scene.arrows[*nth])).collect();
-        let spans: Vec<(f64, f64)> = nths.iter().map(|nth| self.arrow_span(&scene.arrows[*nth])).collect();
+        let nths: Vec<usize> = (0..scene.arrows.len())
+            .filter(|nth| down(&scene.arrows[*nth]))
+            .collect();
+        let spans: Vec<(f64, f64)> = nths
+            .iter()
+            .map(|nth| self.arrow_span(&scene.arrows[*nth]))
+            .collect();
         let (slots, count) = slots(&spans);
         for (nth, slot) in nths.iter().zip(slots) {
             self.arrow_slots[*nth] = slot;

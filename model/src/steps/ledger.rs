@@ -29,16 +29,26 @@ pub enum Deed {
     Stored,
     Holds,
     /// Who holds the lock, and who waits for it already.
-    Waits { holder: Turn, before: Vec<u8> },
+    Waits {
+        holder: Turn,
+        before: Vec<u8>,
+    },
     Freed,
     /// The lock goes to one who has waited since then.
     HandedTo(Turn),
-    Arrived { so_far: usize },
-    RoundComplete { collected: bool },
+    Arrived {
+        so_far: usize,
+    },
+    RoundComplete {
+        collected: bool,
+    },
     Wanted,
     Added,
     /// The posted total, where it was posted, and the own adds since.
-    TallyRead { posted: u32, own: u32 },
+    TallyRead {
+        posted: u32,
+        own: u32,
+    },
 }
 
 pub struct Ledger {
@@ -103,7 +113,9 @@ impl Ledger {
     /// The cards that have not arrived.
     pub fn missing(&self) -> Vec<u8> {
         let cards = 1..=self.cards;
-        cards.filter(|card| self.arrived[usize::from(*card)].is_none()).collect()
+        cards
+            .filter(|card| self.arrived[usize::from(*card)].is_none())
+            .collect()
     }
 
     /// Takes an accepted step.
@@ -204,7 +216,11 @@ impl Ledger {
     fn read_tally(&self, step: &Step) -> Deed {
         Deed::TallyRead {
             posted: self.posted[usize::from(step.object)],
-            own: self.adds.get(&(step.object, step.card)).copied().unwrap_or(0),
+            own: self
+                .adds
+                .get(&(step.object, step.card))
+                .copied()
+                .unwrap_or(0),
         }
     }
 }

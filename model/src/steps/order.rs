@@ -121,7 +121,9 @@ impl Order {
                     chain.extend((learnt != here).then_some(learnt));
                     release
                 }
-                None => self.told_by_grant(learnt, s).or(self.told_by_round(learnt, s))?,
+                None => self
+                    .told_by_grant(learnt, s)
+                    .or(self.told_by_round(learnt, s))?,
             };
             chain.push(here);
         }
@@ -134,9 +136,15 @@ impl Order {
     /// that knows of `s`.
     fn told_by_lock(&self, acquire: usize, s: usize) -> Option<usize> {
         let step = self.list[acquire].step;
-        let releases = self.releases.get(&step.object).filter(|_| step.kind == ACQUIRE)?;
+        let releases = self
+            .releases
+            .get(&step.object)
+            .filter(|_| step.kind == ACQUIRE)?;
         let ignorant = releases.partition_point(|release| !self.known_at(s, *release));
-        releases.get(ignorant).copied().filter(|release| *release < acquire)
+        releases
+            .get(ignorant)
+            .copied()
+            .filter(|release| *release < acquire)
     }
 
     /// L1: "the release precedes the waiter's next step".

@@ -1,9 +1,7 @@
 //! `./steps pack`: a text of sentences, a record a line, as a step file.
 //! `sentence.rs` has the sentences.
 
-use crate::model::{
-    Step, ACQUIRE, ARRIVE, READ, RELEASE, TALLY_ADD, TALLY_READ, WANT, WRITE,
-};
+use crate::model::{Step, ACQUIRE, ARRIVE, READ, RELEASE, TALLY_ADD, TALLY_READ, WANT, WRITE};
 
 /// What is wrong in a text, and where; lines and columns count from 1.
 #[derive(Debug, PartialEq, Eq)]
@@ -266,6 +264,10 @@ fn shown(word: &str) -> String {
     const MOST: usize = 30;
     let visible = |letter: char| if letter.is_control() { '?' } else { letter };
     let cut: String = word.chars().map(visible).take(MOST).collect();
-    let more = if word.chars().count() > MOST { ".." } else { "" };
+    let more = if word.chars().count() > MOST {
+        ".."
+    } else {
+        ""
+    };
     format!("`{cut}{more}`")
 }

@@ -21,7 +21,9 @@ pub fn window(range: Range, last: usize) -> (Range, Option<String>) {
 
 /// The file. The legend folds where it would be wider than the rows.
 pub fn picture(scene: &Scene, title: &str, note: Option<&str>) -> String {
-    let width = Layout::of(scene, 0.0).width.max(text_width(title) * 1.4 + 2.0 * MARGIN);
+    let width = Layout::of(scene, 0.0)
+        .width
+        .max(text_width(title) * 1.4 + 2.0 * MARGIN);
     let width = note.map_or(width, |note| width.max(text_width(note) + 2.0 * MARGIN));
     let mut svg = Svg::default();
     let mut head = Svg::default();
@@ -89,8 +91,12 @@ impl Drawing<'_> {
     }
 
     fn rest_span(&self, rest: &Rest) -> (f64, f64) {
-        let from = rest.from.map_or(self.layout.top, |number| self.layout.row(number));
-        let to = rest.to.map_or(self.layout.bottom, |number| self.layout.gap(number));
+        let from = rest
+            .from
+            .map_or(self.layout.top, |number| self.layout.row(number));
+        let to = rest
+            .to
+            .map_or(self.layout.bottom, |number| self.layout.gap(number));
         (from, to)
     }
 
@@ -99,10 +105,16 @@ impl Drawing<'_> {
         for (nth, bar) in self.scene.bars.iter().enumerate() {
             let left = self.layout.bar_left(self.scene, nth);
             let (from, to) = self.layout.bar_span(bar);
-            let (ground, text) = if bar.waiting { ("waits", "lock-waits") } else { ("holds", "lock") };
+            let (ground, text) = if bar.waiting {
+                ("waits", "lock-waits")
+            } else {
+                ("holds", "lock")
+            };
             svg.rect(ground, (left, from), BAR, to - from);
             let bands = self.layout.bands().into_iter();
-            let bands = bands.filter(|y| from + ROW < *y && *y < to).map(|y| y + 3.0);
+            let bands = bands
+                .filter(|y| from + ROW < *y && *y < to)
+                .map(|y| y + 3.0);
             for y in [from + 10.0].into_iter().chain(bands) {
                 svg.text(text, (left + BAR / 2.0, y), &bar.lock.to_string());
             }
@@ -155,7 +167,8 @@ impl Drawing<'_> {
     /// The left edge of the bar that an arrow leads to.
     fn bar_begun(&self, arrow: &Arrow) -> Option<f64> {
         let mut bars = self.scene.bars.iter();
-        let nth = bars.position(|bar| bar.card == arrow.to && bar.from == Some(arrow.at) && !bar.waiting)?;
+        let nth = bars
+            .position(|bar| bar.card == arrow.to && bar.from == Some(arrow.at) && !bar.waiting)?;
         Some(self.layout.bar_left(self.scene, nth))
     }
 
@@ -170,7 +183,11 @@ impl Drawing<'_> {
 
     fn row(&self, svg: &mut Svg, row: &Row) {
         let y = self.layout.row(row.number);
-        svg.text("number", (self.layout.numbers, y + 4.0), &row.number.to_string());
+        svg.text(
+            "number",
+            (self.layout.numbers, y + 4.0),
+            &row.number.to_string(),
+        );
         let lane = self.layout.lane_of(row.card.unwrap_or(1));
         if let (Some(_), Some(shape)) = (row.card, row.mark) {
             mark(svg, shape, (lane.axis, y));
@@ -188,7 +205,10 @@ fn mark(svg: &mut Svg, mark: Mark, (x, y): (f64, f64)) {
     match mark {
         Mark::ReadOrdered => svg.circle("ordered", (x, y), 5.0),
         Mark::ReadNoneWritten => svg.circle("none-written", (x, y), 5.0),
-        Mark::ReadNotOrdered => svg.path("not-ordered", &format!("M {x} {} l 7 7 l -7 7 l -7 -7 z", y - 7.0)),
+        Mark::ReadNotOrdered => svg.path(
+            "not-ordered",
+            &format!("M {x} {} l 7 7 l -7 7 l -7 -7 z", y - 7.0),
+        ),
         Mark::Write => svg.rect("solid", (x - 4.5, y - 4.5), 9.0, 9.0),
         Mark::Lock => svg.line("step", (x - 6.0, y), (x + 6.0, y)),
         Mark::Arrival => svg.path("solid", &format!("M {} {} h 12 l -6 9 z", x - 6.0, y - 4.0)),
@@ -212,7 +232,10 @@ enum Sign {
 
 const LEGEND: [(Sign, &str); 13] = [
     (Sign::Mark(Mark::ReadOrdered), "read, ordered"),
-    (Sign::Mark(Mark::ReadNoneWritten), "read, ordered, none written"),
+    (
+        Sign::Mark(Mark::ReadNoneWritten),
+        "read, ordered, none written",
+    ),
     (Sign::Mark(Mark::ReadNotOrdered), "read, not ordered"),
     (Sign::Mark(Mark::Write), "write"),
     (Sign::Mark(Mark::Lock), "acquire, release"),

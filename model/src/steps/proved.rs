@@ -74,7 +74,9 @@ fn ask(program: &Path, bytes: &[u8]) -> Result<Vec<u8>, String> {
     let name = program.display();
     let mut command = Command::new(program);
     command.stdin(Stdio::piped()).stdout(Stdio::piped());
-    let mut child = command.spawn().map_err(|why| format!("{name} cannot be started: {why}"))?;
+    let mut child = command
+        .spawn()
+        .map_err(|why| format!("{name} cannot be started: {why}"))?;
     let (input, output) = (child.stdin.take(), child.stdout.take());
     let mut printed = Vec::new();
     let read = thread::scope(|scope| {

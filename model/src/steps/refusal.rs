@@ -19,7 +19,10 @@ pub fn of_opening(bytes: &[u8]) -> String {
     }
     for (count, most, what) in [(cards, 8, "card"), (pages, 8, "page"), (locks, 16, "lock")] {
         if !(1..=most).contains(&count) {
-            wrong.push(format!("{}, and there can be 1 to {most}", counted(count.into(), what)));
+            wrong.push(format!(
+                "{}, and there can be 1 to {most}",
+                counted(count.into(), what)
+            ));
         }
     }
     if rest != [0; 4] {
@@ -82,23 +85,44 @@ fn wrong_field(step: &Step, ledger: &Ledger) -> String {
     let mut wrong = Vec::new();
     if step.object >= there {
         wrong.push(match (what, there) {
-            ("", _) => format!("its object is {}, and must be 0: it is not used", step.object),
-            (_, 1) => format!("there is no {what} {}: there is {what} 0 alone", step.object),
-            _ => format!("there is no {what} {}: they are 0 to {}", step.object, there - 1),
+            ("", _) => format!(
+                "its object is {}, and must be 0: it is not used",
+                step.object
+            ),
+            (_, 1) => format!(
+                "there is no {what} {}: there is {what} 0 alone",
+                step.object
+            ),
+            _ => format!(
+                "there is no {what} {}: they are 0 to {}",
+                step.object,
+                there - 1
+            ),
         });
     }
     if step.value != 0 && !matches!(step.kind, WRITE | TALLY_ADD) {
-        wrong.push(format!("its value is {}, and must be 0: it is not used", step.value));
+        wrong.push(format!(
+            "its value is {}, and must be 0: it is not used",
+            step.value
+        ));
     }
     wrong.join("; ")
 }
 
 fn has_arrived(step: &Step, ledger: &Ledger) -> String {
     let since = ledger.arrived[usize::from(step.card)];
-    let arrived = since.map_or("it has arrived".to_string(), |at| format!("it has arrived, at {at}"));
+    let arrived = since.map_or("it has arrived".to_string(), |at| {
+        format!("it has arrived, at {at}")
+    });
     let missing = ledger.missing();
-    let hindered: Vec<String> = missing.iter().filter_map(|card| hindrance(*card, ledger)).collect();
-    let mut why = format!("{arrived}; {} would have to arrive first", cards_listed(&missing));
+    let hindered: Vec<String> = missing
+        .iter()
+        .filter_map(|card| hindrance(*card, ledger))
+        .collect();
+    let mut why = format!(
+        "{arrived}; {} would have to arrive first",
+        cards_listed(&missing)
+    );
     if !hindered.is_empty() {
         why.push_str(&format!(" ({})", hindered.join("; ")));
     }
@@ -109,7 +133,9 @@ fn has_arrived(step: &Step, ledger: &Ledger) -> String {
 fn hindrance(card: u8, ledger: &Ledger) -> Option<String> {
     let (lock, _) = ledger.awaited_by(card)?;
     let holder = ledger.locks[lock].holder?.card;
-    Some(format!("card {card} waits for lock {lock}, which card {holder} holds"))
+    Some(format!(
+        "card {card} waits for lock {lock}, which card {holder} holds"
+    ))
 }
 
 fn waits(step: &Step, ledger: &Ledger) -> String {
@@ -125,7 +151,10 @@ fn waits(step: &Step, ledger: &Ledger) -> String {
     let Some(holder) = ledger.locks[lock].holder else {
         return why;
     };
-    let first = format!("card {}, holder since {}, would have to release it", holder.card, holder.since);
+    let first = format!(
+        "card {}, holder since {}, would have to release it",
+        holder.card, holder.since
+    );
     format!("{why}; {first}{}", stuck(holder.card, ledger))
 }
 
@@ -147,7 +176,10 @@ fn stuck(holder: u8, ledger: &Ledger) -> String {
         let Some(next) = ledger.locks[lock].holder else {
             return why;
         };
-        why.push_str(&format!("; card {card} waits for lock {lock} of card {}", next.card));
+        why.push_str(&format!(
+            "; card {card} waits for lock {lock} of card {}",
+            next.card
+        ));
         card = next.card;
     }
     format!("{why}: they wait for each other for good")
@@ -155,14 +187,23 @@ fn stuck(holder: u8, ledger: &Ledger) -> String {
 
 fn arrives_holding(step: &Step, ledger: &Ledger) -> String {
     let held = ledger.held_by(step.card);
-    let names: Vec<String> = held.iter().map(|(lock, since)| format!("lock {lock} (since {since})")).collect();
-    format!("it holds {}; it would have to release what it holds first", listed(&names))
+    let names: Vec<String> = held
+        .iter()
+        .map(|(lock, since)| format!("lock {lock} (since {since})"))
+        .collect();
+    format!(
+        "it holds {}; it would have to release what it holds first",
+        listed(&names)
+    )
 }
 
 fn holds_already(step: &Step, ledger: &Ledger) -> String {
     let lock = ledger.locks.get(usize::from(step.object));
     match lock.and_then(|lock| lock.holder) {
-        Some(holder) => format!("it holds lock {} already, since {}; it would have to release it first", step.object, holder.since),
+        Some(holder) => format!(
+            "it holds lock {} already, since {}; it would have to release it first",
+            step.object, holder.since
+        ),
         None => "it holds the lock already".to_string(),
     }
 }
@@ -173,12 +214,19 @@ fn not_holder(step: &Step, ledger: &Ledger) -> String {
         Some(holder) => format!("card {} holds it, since {}", holder.card, holder.since),
         None => "nobody holds it".to_string(),
     };
-    format!("card {} does not hold lock {}: {who}", step.card, step.object)
+    format!(
+        "card {} does not hold lock {}: {who}",
+        step.card, step.object
+    )
 }
 
 fn no_interval(step: &Step, ledger: &Ledger) -> String {
     let made = ledger.intervals[usize::from(step.card)];
-    format!("card {} has made {made} of {MOST_INTERVALS} intervals {}; {HELPS}", step.card, since_collection(ledger))
+    format!(
+        "card {} has made {made} of {MOST_INTERVALS} intervals {}; {HELPS}",
+        step.card,
+        since_collection(ledger)
+    )
 }
 
 /// What fills the space: records by card, and dirty pages.

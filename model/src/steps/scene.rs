@@ -209,8 +209,14 @@ impl Stage {
 
 fn row(walk: &Walk, told: &Told) -> Row {
     let cards = walk.ledger.as_ref().map_or(0, |ledger| ledger.cards);
-    let card = told.step.map(|step| step.card).filter(|card| (1..=cards).contains(card));
-    let deed = told.step.filter(|_| card.is_some()).and_then(|step| sentence::deed(&step));
+    let card = told
+        .step
+        .map(|step| step.card)
+        .filter(|card| (1..=cards).contains(card));
+    let deed = told
+        .step
+        .filter(|_| card.is_some())
+        .and_then(|step| sentence::deed(&step));
     let whole = || sentence::of_record(told.number, walk.bytes(told.number));
     Row {
         number: told.number,

@@ -1,9 +1,7 @@
 //! A record as a sentence, in the words of the documents. `pack.rs` reads what
 //! is written here.
 
-use crate::model::{
-    Step, ACQUIRE, ARRIVE, READ, RELEASE, TALLY_ADD, TALLY_READ, WANT, WRITE,
-};
+use crate::model::{Step, ACQUIRE, ARRIVE, READ, RELEASE, TALLY_ADD, TALLY_READ, WANT, WRITE};
 
 /// The sentence of record `number`. Bytes for which there is none, an odd
 /// record or one that is cut, are written as they are.

@@ -28,22 +28,37 @@ fn head(areas: &Areas) -> String {
         counted(areas.locks().into(), "lock"),
     ];
     let standing = counted(areas.standing(), "record");
-    let all_dirty = (1..=areas.cards()).map(|card| dirty_pages(areas, card).len()).sum();
+    let all_dirty = (1..=areas.cards())
+        .map(|card| dirty_pages(areas, card).len())
+        .sum();
     let dirty = counted(all_dirty, "dirty page");
-    let wanted = if areas.is_wanted() { "wanted" } else { "not wanted" };
-    format!("{}; {standing} standing, {dirty}; collection is {wanted}\n", counts.join(", "))
+    let wanted = if areas.is_wanted() {
+        "wanted"
+    } else {
+        "not wanted"
+    };
+    format!(
+        "{}; {standing} standing, {dirty}; collection is {wanted}\n",
+        counts.join(", ")
+    )
 }
 
 /// Rows under a head, in columns as wide as their longest text.
 fn table(rows: &[Vec<String>]) -> String {
     let columns = rows.iter().map(Vec::len).max().unwrap_or(0);
     let width = |column: usize| {
-        let lengths = rows.iter().filter_map(|row| row.get(column)).map(String::len);
+        let lengths = rows
+            .iter()
+            .filter_map(|row| row.get(column))
+            .map(String::len);
         lengths.max().unwrap_or(0)
     };
     let widths: Vec<usize> = (0..columns).map(width).collect();
     let line = |row: &Vec<String>| {
-        let cells = row.iter().zip(&widths).map(|(cell, width)| format!("{cell:<width$}"));
+        let cells = row
+            .iter()
+            .zip(&widths)
+            .map(|(cell, width)| format!("{cell:<width$}"));
         let line = cells.collect::<Vec<_>>().join("   ");
         line.trim_end().to_string() + "\n"
     };
@@ -63,10 +78,16 @@ fn entries(clock: &[u8]) -> String {
 fn clocks(areas: &Areas) -> String {
     let mut rows = vec![row(["of", "clock"])];
     for card in 1..=areas.cards() {
-        rows.push(vec![format!("card {card}"), entries(areas.card_clock(card))]);
+        rows.push(vec![
+            format!("card {card}"),
+            entries(areas.card_clock(card)),
+        ]);
     }
     for lock in 0..areas.locks() {
-        rows.push(vec![format!("lock {lock}"), entries(areas.lock_clock(lock))]);
+        rows.push(vec![
+            format!("lock {lock}"),
+            entries(areas.lock_clock(lock)),
+        ]);
     }
     rows.push(vec!["barrier".to_string(), entries(areas.barrier_clock())]);
     table(&rows)
@@ -94,9 +115,19 @@ fn applied(areas: &Areas) -> String {
 fn locks(areas: &Areas) -> String {
     let mut rows = vec![row(["lock", "holder", "line, the longest waiter first"])];
     for lock in 0..areas.locks() {
-        let holder = areas.holder(lock).map_or("nobody".to_string(), |card| format!("card {card}"));
-        let line: Vec<String> = areas.line(lock).iter().map(|card| format!("card {card}")).collect();
-        rows.push(vec![format!("lock {lock}"), holder, or_dash(line.join(", "))]);
+        let holder = areas
+            .holder(lock)
+            .map_or("nobody".to_string(), |card| format!("card {card}"));
+        let line: Vec<String> = areas
+            .line(lock)
+            .iter()
+            .map(|card| format!("card {card}"))
+            .collect();
+        rows.push(vec![
+            format!("lock {lock}"),
+            holder,
+            or_dash(line.join(", ")),
+        ]);
     }
     table(&rows)
 }
@@ -105,9 +136,16 @@ fn cards(areas: &Areas) -> String {
     let mut rows = vec![row(["card", "arrived", "waits for", "dirty pages"])];
     for card in 1..=areas.cards() {
         let arrived = if areas.has_arrived(card) { "yes" } else { "no" };
-        let awaited = areas.awaited(card).map_or("-".to_string(), |lock| format!("lock {lock}"));
+        let awaited = areas
+            .awaited(card)
+            .map_or("-".to_string(), |lock| format!("lock {lock}"));
         let dirty = dirty_pages(areas, card).join(", ");
-        rows.push(vec![format!("card {card}"), arrived.to_string(), awaited, or_dash(dirty)]);
+        rows.push(vec![
+            format!("card {card}"),
+            arrived.to_string(),
+            awaited,
+            or_dash(dirty),
+        ]);
     }
     table(&rows)
 }
@@ -122,7 +160,13 @@ fn records(areas: &Areas) -> String {
     if records.is_empty() {
         return "no records stand\n".to_string();
     }
-    let mut rows = vec![row(["record of", "interval", "page", "its clock", "words set"])];
+    let mut rows = vec![row([
+        "record of",
+        "interval",
+        "page",
+        "its clock",
+        "words set",
+    ])];
     for record in &records {
         rows.push(vec![
             format!("card {}", record.card),
@@ -138,7 +182,8 @@ fn records(areas: &Areas) -> String {
 /// `word 3 to 700 and word 4 to 1`
 fn words_set(record: &Record) -> String {
     let first = 32 * u16::from(record.page);
-    let one = |(offset, value): &(u8, u32)| format!("word {} to {value}", first + u16::from(*offset));
+    let one =
+        |(offset, value): &(u8, u32)| format!("word {} to {value}", first + u16::from(*offset));
     let mut shown: Vec<String> = record.sets.iter().take(MOST_SET).map(one).collect();
     if record.sets.len() > MOST_SET {
         shown.push(format!("{} more", record.sets.len() - MOST_SET));

@@ -51,14 +51,24 @@ impl Summary {
             format!("the whole run, records 0 to {last}:"),
             format!("    reads ordered: {}", self.ordered),
             format!("    reads ordered, none written: {}", self.none_written),
-            format!("    reads not ordered: {}{}", self.not_ordered, self.which()),
+            format!(
+                "    reads not ordered: {}{}",
+                self.not_ordered,
+                self.which()
+            ),
         ];
         if self.tally_reads > 0 {
             lines.push(format!("    reads of tallies: {}", self.tally_reads));
         }
-        lines.push(format!("    refusals: {}", self.refusals.values().sum::<usize>()));
+        lines.push(format!(
+            "    refusals: {}",
+            self.refusals.values().sum::<usize>()
+        ));
         for (number, count) in &self.refusals {
-            lines.push(format!("        {number}, {}: {count}", refusal::in_short(*number)));
+            lines.push(format!(
+                "        {number}, {}: {count}",
+                refusal::in_short(*number)
+            ));
         }
         if let Some(ledger) = &walk.ledger {
             let (standing, dirty) = (ledger.standing(), ledger.dirty.len());
@@ -67,7 +77,10 @@ impl Summary {
         }
         lines.push(format!("    words moved: {}", self.words(walk)));
         if self.broken > 0 {
-            lines.push(format!("    BROKEN: {} did not answer what is due", counted(self.broken, "read")));
+            lines.push(format!(
+                "    BROKEN: {} did not answer what is due",
+                counted(self.broken, "read")
+            ));
         }
         lines.join("\n") + "\n"
     }
@@ -76,13 +89,19 @@ impl Summary {
         if self.named.is_empty() {
             return String::new();
         }
-        let more = if self.not_ordered > self.named.len() { " and more" } else { "" };
+        let more = if self.not_ordered > self.named.len() {
+            " and more"
+        } else {
+            ""
+        };
         format!(" ({}{more})", self.named.join(", "))
     }
 
     /// The run program tells them where it did not stop before the end.
     fn words(&self, walk: &Walk) -> String {
-        let stopped = [2, 15, 16].iter().any(|refusal| self.refusals.contains_key(refusal));
+        let stopped = [2, 15, 16]
+            .iter()
+            .any(|refusal| self.refusals.contains_key(refusal));
         match walk.run.words {
             Some(words) => words.to_string(),
             None if stopped => format!("not told, since the run stopped at {}", walk.run.last()),

@@ -9,15 +9,21 @@ pub struct Svg {
 
 impl Svg {
     pub fn line(&mut self, class: &str, (x1, y1): (f64, f64), (x2, y2): (f64, f64)) {
-        self.put(&format!(r#"<line class="{class}" x1="{x1}" y1="{y1}" x2="{x2}" y2="{y2}"/>"#));
+        self.put(&format!(
+            r#"<line class="{class}" x1="{x1}" y1="{y1}" x2="{x2}" y2="{y2}"/>"#
+        ));
     }
 
     pub fn rect(&mut self, class: &str, (x, y): (f64, f64), width: f64, height: f64) {
-        self.put(&format!(r#"<rect class="{class}" x="{x}" y="{y}" width="{width}" height="{height}"/>"#));
+        self.put(&format!(
+            r#"<rect class="{class}" x="{x}" y="{y}" width="{width}" height="{height}"/>"#
+        ));
     }
 
     pub fn circle(&mut self, class: &str, (x, y): (f64, f64), radius: f64) {
-        self.put(&format!(r#"<circle class="{class}" cx="{x}" cy="{y}" r="{radius}"/>"#));
+        self.put(&format!(
+            r#"<circle class="{class}" cx="{x}" cy="{y}" r="{radius}"/>"#
+        ));
     }
 
     /// A path by its own letters.
@@ -26,7 +32,10 @@ impl Svg {
     }
 
     pub fn text(&mut self, class: &str, (x, y): (f64, f64), text: &str) {
-        self.put(&format!(r#"<text class="{class}" x="{x}" y="{y}">{}</text>"#, escaped(text)));
+        self.put(&format!(
+            r#"<text class="{class}" x="{x}" y="{y}">{}</text>"#,
+            escaped(text)
+        ));
     }
 
     /// What another has, behind what this one has.
@@ -51,7 +60,10 @@ impl Svg {
 }
 
 fn escaped(text: &str) -> String {
-    let text = text.replace('&', "&amp;").replace('<', "&lt;").replace('>', "&gt;");
+    let text = text
+        .replace('&', "&amp;")
+        .replace('<', "&lt;")
+        .replace('>', "&gt;");
     text.chars().filter(|letter| !letter.is_control()).collect()
 }
 

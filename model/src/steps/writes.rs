@@ -11,7 +11,9 @@ pub enum Finding {
     /// Ordered, none written: 0 is due.
     NoneWritten,
     /// Ordered: the value of this write is due, the last in the list.
-    Ordered { write: usize },
+    Ordered {
+        write: usize,
+    },
     NotOrdered(Disorder),
 }
 
@@ -85,8 +87,15 @@ impl Writes {
 impl WordWrites {
     /// Of each other card the last write, if it is not before `place`. A card's
     /// last write is known only after its earlier ones.
-    fn last_unknown<'a>(&'a self, order: &'a Order, place: usize) -> impl Iterator<Item = usize> + 'a {
-        let lasts = self.by_card.iter().filter_map(|writes| writes.last().copied());
+    fn last_unknown<'a>(
+        &'a self,
+        order: &'a Order,
+        place: usize,
+    ) -> impl Iterator<Item = usize> + 'a {
+        let lasts = self
+            .by_card
+            .iter()
+            .filter_map(|writes| writes.last().copied());
         lasts.filter(move |write| !order.before(*write, place))
     }
 

@@ -45,7 +45,9 @@ fn ledger_after(tried: &Tried, number: usize) -> Ledger {
 }
 
 fn entries(clock: &VectorClock, cards: u8) -> Vec<u8> {
-    (1..=cards).map(|card| clock.entry(ProcId(card)) as u8).collect()
+    (1..=cards)
+        .map(|card| clock.entry(ProcId(card)) as u8)
+        .collect()
 }
 
 #[test]
@@ -62,21 +64,39 @@ fn areas_are_the_models() {
         records_agree(&name, &areas, &model);
         tallies_agree(&name, &areas, &model);
         assert_eq!(areas.is_wanted(), model.barrier.wanted, "{name}");
-        assert_eq!(areas.barrier_clock(), entries(&model.barrier.clock, areas.cards()), "{name}");
+        assert_eq!(
+            areas.barrier_clock(),
+            entries(&model.barrier.clock, areas.cards()),
+            "{name}"
+        );
     });
 }
 
 fn cards_agree(name: &str, areas: &Areas, model: &Model) {
     let cards = areas.cards();
     for (ProcId(card), processor) in &model.processors {
-        assert_eq!(areas.card_clock(*card), entries(&processor.clock, cards), "{name}");
-        assert_eq!(areas.has_arrived(*card), model.has_arrived(ProcId(*card)), "{name}");
-        let awaited = model.awaited_by(ProcId(*card)).map(|LockId(lock)| lock as u8);
+        assert_eq!(
+            areas.card_clock(*card),
+            entries(&processor.clock, cards),
+            "{name}"
+        );
+        assert_eq!(
+            areas.has_arrived(*card),
+            model.has_arrived(ProcId(*card)),
+            "{name}"
+        );
+        let awaited = model
+            .awaited_by(ProcId(*card))
+            .map(|LockId(lock)| lock as u8);
         assert_eq!(areas.awaited(*card), awaited, "{name}");
         assert_eq!(usize::from(areas.pages()), processor.pages.len(), "{name}");
         for (PageId(page), copy) in &processor.pages {
             let page = *page as u8;
-            assert_eq!(areas.applied_clock(*card, page), entries(&copy.applied, cards), "{name}");
+            assert_eq!(
+                areas.applied_clock(*card, page),
+                entries(&copy.applied, cards),
+                "{name}"
+            );
             assert_eq!(areas.is_dirty(*card, page), copy.twin.is_some(), "{name}");
         }
     }
@@ -85,10 +105,18 @@ fn cards_agree(name: &str, areas: &Areas, model: &Model) {
 fn locks_agree(name: &str, areas: &Areas, model: &Model) {
     for (LockId(number), lock) in &model.locks {
         let number = *number as u8;
-        assert_eq!(areas.holder(number), lock.holder.map(|ProcId(card)| card), "{name}");
+        assert_eq!(
+            areas.holder(number),
+            lock.holder.map(|ProcId(card)| card),
+            "{name}"
+        );
         let line: Vec<u8> = lock.line.iter().map(|ProcId(card)| *card).collect();
         assert_eq!(areas.line(number), line, "{name}");
-        assert_eq!(areas.lock_clock(number), entries(&lock.clock, areas.cards()), "{name}");
+        assert_eq!(
+            areas.lock_clock(number),
+            entries(&lock.clock, areas.cards()),
+            "{name}"
+        );
     }
 }
 
@@ -96,12 +124,29 @@ fn records_agree(name: &str, areas: &Areas, model: &Model) {
     let records = areas.records();
     assert_eq!(records.len(), model.records.len(), "{name}");
     for (mine, theirs) in records.iter().zip(&model.records) {
-        let (ProcId(card), IntervalId(interval), PageId(page)) = (theirs.card, theirs.interval, theirs.page);
-        assert_eq!((mine.card, mine.interval as u32, mine.page as u16), (card, interval, page), "{name}");
-        let sets: Vec<(u8, u32)> = theirs.diff.0.iter().map(|(at, word)| (*at as u8, *word)).collect();
+        let (ProcId(card), IntervalId(interval), PageId(page)) =
+            (theirs.card, theirs.interval, theirs.page);
+        assert_eq!(
+            (mine.card, mine.interval as u32, mine.page as u16),
+            (card, interval, page),
+            "{name}"
+        );
+        let sets: Vec<(u8, u32)> = theirs
+            .diff
+            .0
+            .iter()
+            .map(|(at, word)| (*at as u8, *word))
+            .collect();
         assert_eq!(mine.sets, sets, "{name}");
-        let kept = entries(&model.intervals[&(theirs.card, theirs.interval)], areas.cards());
-        assert_eq!(areas.interval_clock(mine.card, mine.interval), kept, "{name}");
+        let kept = entries(
+            &model.intervals[&(theirs.card, theirs.interval)],
+            areas.cards(),
+        );
+        assert_eq!(
+            areas.interval_clock(mine.card, mine.interval),
+            kept,
+            "{name}"
+        );
     }
 }
 
@@ -124,21 +169,37 @@ fn ledgers_are_the_engines() {
         let name = format!("{} after {number}", tried.name);
         for (number, lock) in ledger.locks.iter().enumerate() {
             let number = number as u8;
-            assert_eq!(lock.holder.map(|turn| turn.card), areas.holder(number), "{name}");
+            assert_eq!(
+                lock.holder.map(|turn| turn.card),
+                areas.holder(number),
+                "{name}"
+            );
             let line: Vec<u8> = lock.line.iter().map(|turn| turn.card).collect();
             assert_eq!(line, areas.line(number), "{name}");
         }
         for card in 1..=ledger.cards {
             let index = usize::from(card);
-            assert_eq!(ledger.arrived[index].is_some(), areas.has_arrived(card), "{name}");
+            assert_eq!(
+                ledger.arrived[index].is_some(),
+                areas.has_arrived(card),
+                "{name}"
+            );
             let own = areas.card_clock(card)[index - 1];
             assert_eq!(ledger.intervals[index], usize::from(own), "{name}");
             for page in 0..ledger.pages {
                 let dirty = ledger.dirty.contains(&(card, page.into()));
                 assert_eq!(dirty, areas.is_dirty(card, page), "{name}");
             }
-            let of_card = areas.records().iter().filter(|record| record.card == card).count();
-            assert_eq!(ledger.records.get(&card).copied().unwrap_or(0), of_card, "{name}");
+            let of_card = areas
+                .records()
+                .iter()
+                .filter(|record| record.card == card)
+                .count();
+            assert_eq!(
+                ledger.records.get(&card).copied().unwrap_or(0),
+                of_card,
+                "{name}"
+            );
         }
         assert_eq!(ledger.wanted, areas.is_wanted(), "{name}");
     });

@@ -33,7 +33,10 @@ pub fn all() -> &'static [Tried] {
             let file = source.bytes().expect("a file");
             let run = run(&home(), &file).expect("a run");
             let name = source.name();
-            tried.lock().unwrap_or_else(PoisonError::into_inner).push(Tried { name, file, run });
+            tried
+                .lock()
+                .unwrap_or_else(PoisonError::into_inner)
+                .push(Tried { name, file, run });
         });
         tried.into_inner().unwrap_or_else(PoisonError::into_inner)
     })
@@ -41,7 +44,9 @@ pub fn all() -> &'static [Tried] {
 
 /// Those of at most so many records.
 pub fn short(most: usize) -> impl Iterator<Item = &'static Tried> {
-    all().iter().filter(move |tried| tried.run.replies.len() <= most)
+    all()
+        .iter()
+        .filter(move |tried| tried.run.replies.len() <= most)
 }
 
 /// Does something with each, in some threads.

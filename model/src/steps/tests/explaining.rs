@@ -40,11 +40,20 @@ fn reads_are_as_the_judge_finds_them() {
         let is_ordered = |finding: &Finding| !matches!(finding, Finding::NotOrdered(_));
         let ordered = found.iter().filter(|(.., finding)| is_ordered(finding));
         let ordered: Vec<usize> = ordered.map(|(number, ..)| *number).collect();
-        let written = found.iter().filter(|(.., finding)| matches!(finding, Finding::Ordered { .. }));
+        let written = found
+            .iter()
+            .filter(|(.., finding)| matches!(finding, Finding::Ordered { .. }));
         let name = &tried.name;
-        assert!(ordered == verdict.strong_numbers, "{name}: other reads are ordered");
+        assert!(
+            ordered == verdict.strong_numbers,
+            "{name}: other reads are ordered"
+        );
         assert_eq!(found.len(), verdict.reads, "{name}: reads");
-        assert_eq!(written.count(), verdict.strong_written, "{name}: ordered and written");
+        assert_eq!(
+            written.count(),
+            verdict.strong_written,
+            "{name}: ordered and written"
+        );
     });
 }
 
@@ -56,7 +65,13 @@ fn every_explanation_is_free_of_broken_reads() {
             to: tried.run.last(),
         };
         let mut lines = Lines::default();
-        let fine = explain(&tried.file, &tried.run, range, &mut Progress::new(), &mut lines);
+        let fine = explain(
+            &tried.file,
+            &tried.run,
+            range,
+            &mut Progress::new(),
+            &mut lines,
+        );
         assert!(fine.expect("printed"), "{}: a read is broken", tried.name);
         assert_eq!(lines.numbered, tried.run.replies.len(), "{}", tried.name);
     });
@@ -98,8 +113,14 @@ fn chains_are_steps_directly_before_one_another() {
             let chain = order.chain(write, read).expect("a chain");
             let ends = (chain.first().copied(), chain.last().copied());
             assert_eq!(ends, (Some(write), Some(read)), "{}: {number}", tried.name);
-            let tied = |two: &[usize]| two[0] < two[1] && directly_before(&order.list, &ties, two[0], two[1]);
-            assert!(chain.windows(2).all(tied), "{}: {number}: {chain:?}", tried.name);
+            let tied = |two: &[usize]| {
+                two[0] < two[1] && directly_before(&order.list, &ties, two[0], two[1])
+            };
+            assert!(
+                chain.windows(2).all(tied),
+                "{}: {number}: {chain:?}",
+                tried.name
+            );
             chains += 1;
         }
     }
@@ -133,7 +154,10 @@ fn handed_on_in_vain(order: &Order, ties: &Ties, write: usize, step: usize) -> u
     let reader = order.card(step);
     let mut looked_at = 0;
     for card in (1..=8).filter(|card| *card != reader) {
-        let Some(known) = order.first_knowing(card, write).filter(|known| *known < step) else {
+        let Some(known) = order
+            .first_knowing(card, write)
+            .filter(|known| *known < step)
+        else {
             continue;
         };
         for handed in order.handed_on(card, known, step) {

@@ -8,7 +8,10 @@ use crate::steps::text::text;
 
 fn packs_back(name: &str, file: &[u8]) {
     let back = pack(&text(file));
-    assert!(back.as_deref() == Ok(file), "{name}: its text packs to other bytes");
+    assert!(
+        back.as_deref() == Ok(file),
+        "{name}: its text packs to other bytes"
+    );
 }
 
 #[test]
@@ -116,17 +119,44 @@ fn mistakes_have_their_places() {
 #[test]
 fn mistakes_in_steps_have_their_places() {
     let cases = [
-        ("open 1 card, 1 page, 1 lock", "1: expected `card` or `raw`, found `open`"),
-        ("card", "5: expected the number of a card, 0 to 255, found the end of the line"),
-        ("card -1 arrives", "6: expected the number of a card, 0 to 255, found `-1`"),
-        ("card 1 arrives 2", "16: expected the end of the line, found `2`"),
-        ("card 1 reads lock 3", "14: expected `word` or `tally`, found `lock`"),
-        ("card 1 reads word 65536", "19: expected the number of a word, 0 to 65535, found `65536`"),
-        ("card 1 writes 4294967296 to word 3", "15: expected a value, 0 to 4294967295, found `4294967296`"),
+        (
+            "open 1 card, 1 page, 1 lock",
+            "1: expected `card` or `raw`, found `open`",
+        ),
+        (
+            "card",
+            "5: expected the number of a card, 0 to 255, found the end of the line",
+        ),
+        (
+            "card -1 arrives",
+            "6: expected the number of a card, 0 to 255, found `-1`",
+        ),
+        (
+            "card 1 arrives 2",
+            "16: expected the end of the line, found `2`",
+        ),
+        (
+            "card 1 reads lock 3",
+            "14: expected `word` or `tally`, found `lock`",
+        ),
+        (
+            "card 1 reads word 65536",
+            "19: expected the number of a word, 0 to 65535, found `65536`",
+        ),
+        (
+            "card 1 writes 4294967296 to word 3",
+            "15: expected a value, 0 to 4294967295, found `4294967296`",
+        ),
         ("card 1 writes 7 in word 3", "17: expected `to`, found `in`"),
-        ("card 1 adds 7 to word 3", "18: expected `tally`, found `word`"),
+        (
+            "card 1 adds 7 to word 3",
+            "18: expected `tally`, found `word`",
+        ),
         ("card 1 acquires 0", "17: expected `lock`, found `0`"),
-        ("card 1 wants", "13: expected `collection`, found the end of the line"),
+        (
+            "card 1 wants",
+            "13: expected `collection`, found the end of the line",
+        ),
         ("card 1 wants collection # now, please\nx", ""),
     ];
     for (step, due) in cases {

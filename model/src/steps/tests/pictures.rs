@@ -10,7 +10,10 @@ use crate::steps::walk::Walk;
 fn drawn(tried: &Tried, from: usize) -> (Range, String) {
     let last = tried.run.last();
     let (shown, note) = window(Range { from, to: last }, last);
-    let scene = Scene::of(Walk::new(&tried.file, &tried.run, &mut Progress::new()), shown);
+    let scene = Scene::of(
+        Walk::new(&tried.file, &tried.run, &mut Progress::new()),
+        shown,
+    );
     (shown, picture(&scene, "a <b> & \"c\"", note.as_deref()))
 }
 
@@ -23,7 +26,11 @@ fn pictures_are_well_formed() {
             assert!(tags > 0 && svg.starts_with("<svg "));
             let numbers = svg.matches("<text class=\"number\"").count();
             assert_eq!(numbers, shown.to - shown.from + 1, "{}", tried.name);
-            assert!(!svg.contains("NaN") && !svg.contains("inf\""), "{}", tried.name);
+            assert!(
+                !svg.contains("NaN") && !svg.contains("inf\""),
+                "{}",
+                tried.name
+            );
         }
     });
 }
@@ -34,7 +41,13 @@ fn a_long_run_is_shown_as_a_window() {
     let (shown, note) = all(MOST_SHOWN - 1);
     assert_eq!((shown.to, note), (MOST_SHOWN - 1, None));
     let (shown, note) = all(MOST_SHOWN);
-    assert_eq!(shown, Range { from: 0, to: MOST_SHOWN - 1 });
+    assert_eq!(
+        shown,
+        Range {
+            from: 0,
+            to: MOST_SHOWN - 1
+        }
+    );
     assert!(note.is_some_and(|note| note.contains("records 0 to 399 of 0 to 400")));
     let (shown, note) = window(Range { from: 10, to: 20 }, 30);
     assert!(shown == Range { from: 10, to: 20 } && note.is_some());
@@ -71,18 +84,27 @@ fn well_formed(text: &str) -> Result<usize, String> {
 }
 
 fn plain(text: &str) -> Result<(), String> {
-    let known = |rest: &str| ["amp;", "lt;", "gt;"].iter().any(|name| rest.starts_with(name));
+    let known = |rest: &str| {
+        ["amp;", "lt;", "gt;"]
+            .iter()
+            .any(|name| rest.starts_with(name))
+    };
     let good = text.split('&').skip(1).all(known) && !text.contains('>');
-    good.then_some(()).ok_or(format!("{text:?} is no plain text"))
+    good.then_some(())
+        .ok_or(format!("{text:?} is no plain text"))
 }
 
 /// `name="value"`, each behind a space.
 fn attributes(text: &str) -> Result<(), String> {
     let mut rest = text.trim_end_matches('/').trim();
     while !rest.is_empty() {
-        let (name, behind) = rest.split_once("=\"").ok_or(format!("{rest:?} is no attribute"))?;
+        let (name, behind) = rest
+            .split_once("=\"")
+            .ok_or(format!("{rest:?} is no attribute"))?;
         let letters = name.chars().all(|letter| letter.is_ascii_alphanumeric());
-        let (value, after) = behind.split_once('"').ok_or(format!("{name} does not end"))?;
+        let (value, after) = behind
+            .split_once('"')
+            .ok_or(format!("{name} does not end"))?;
         if !letters || value.contains(['<', '&']) {
             return Err(format!("{name} is wrong"));
         }
