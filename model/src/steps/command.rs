@@ -129,7 +129,8 @@ fn explain_file(name: &str, range: &[&str], out: &mut dyn Write) -> Result<(), F
         return Ok(());
     }
     Err(Failure::Said(
-        "a read did not answer what is due".to_string(),
+        "a read answered what it may not: the run program is at fault, or these tools are"
+            .to_string(),
     ))
 }
 

@@ -12,6 +12,7 @@ mod pack;
 mod picture;
 mod progress;
 mod proved;
+mod reading;
 mod refusal;
 mod scene;
 mod sentence;

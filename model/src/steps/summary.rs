@@ -19,13 +19,13 @@ pub struct Summary {
     named: Vec<String>,
     tally_reads: usize,
     refusals: BTreeMap<u32, usize>,
-    /// Reads that answered another value than is due.
+    /// Reads that answered what they may not.
     pub broken: usize,
 }
 
 impl Summary {
-    pub fn take(&mut self, told: &Told, fine: bool) {
-        self.broken += usize::from(!fine);
+    pub fn take(&mut self, told: &Told, broken: bool) {
+        self.broken += usize::from(broken);
         if told.reply.refusal != 0 {
             *self.refusals.entry(told.reply.refusal).or_insert(0) += 1;
         }
@@ -78,7 +78,7 @@ impl Summary {
         lines.push(format!("    words moved: {}", self.words(walk)));
         if self.broken > 0 {
             lines.push(format!(
-                "    BROKEN: {} did not answer what is due",
+                "    BROKEN: {} answered what they may not",
                 counted(self.broken, "read")
             ));
         }
