@@ -9,7 +9,7 @@ pub const ROW: f64 = 24.0;
 const BAND: usize = 50;
 pub const MARGIN: f64 = 16.0;
 pub const BAR: f64 = 12.0;
-const BAR_STEP: f64 = 16.0;
+const BAR_STEP: f64 = 20.0;
 const GUTTER_STEP: f64 = 8.0;
 const LABEL_GAP: f64 = 12.0;
 const LANE_GAP: f64 = 14.0;
@@ -17,7 +17,7 @@ const NARROWEST: f64 = 620.0;
 
 /// About the width of a text: of the usual fonts none is much wider.
 pub fn text_width(text: &str) -> f64 {
-    7.4 * text.chars().count() as f64
+    (7.4 * text.chars().count() as f64).ceil()
 }
 
 pub struct Lane {

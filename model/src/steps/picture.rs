@@ -23,7 +23,7 @@ pub fn window(range: Range, last: usize) -> (Range, Option<String>) {
 pub fn picture(scene: &Scene, title: &str, note: Option<&str>) -> String {
     let width = Layout::of(scene, 0.0)
         .width
-        .max(text_width(title) * 1.4 + 2.0 * MARGIN);
+        .max((1.4 * text_width(title)).ceil() + 2.0 * MARGIN);
     let width = note.map_or(width, |note| width.max(text_width(note) + 2.0 * MARGIN));
     let mut svg = Svg::default();
     let mut head = Svg::default();

@@ -79,7 +79,7 @@ const LIGHT: &str = "text { font-family: Verdana, 'DejaVu Sans', Arial, sans-ser
 .paper { fill: #ffffff; }
 .stripe { fill: #f3f5f7; }
 .lane { stroke: #9aa2ab; stroke-width: 1.5; }
-.rest { stroke: #9aa2ab; stroke-width: 1.5; stroke-dasharray: 2 4; }
+.rest { stroke: #6a727b; stroke-width: 2; stroke-dasharray: 2 4; }
 .holds { fill: #3667b5; }
 .waits { fill: url(#hatch); stroke: #3667b5; stroke-width: 1; }
 .hatch { stroke: #3667b5; stroke-width: 1.6; }
@@ -102,7 +102,8 @@ const DARK: &str = "text { fill: #e8eaed; }
 .lock-waits { fill: #e8eaed; stroke: #17191c; }
 .paper { fill: #17191c; }
 .stripe { fill: #1f2327; }
-.lane, .rest { stroke: #69727c; }
+.lane { stroke: #69727c; }
+.rest { stroke: #a5adb6; }
 .holds, .head { fill: #8ab4f8; }
 .waits, .hatch, .arrow { stroke: #8ab4f8; }
 .round, .step { stroke: #e8eaed; }
