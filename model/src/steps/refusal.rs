@@ -187,14 +187,11 @@ fn stuck(holder: u8, ledger: &Ledger) -> String {
 
 fn arrives_holding(step: &Step, ledger: &Ledger) -> String {
     let held = ledger.held_by(step.card);
-    let names: Vec<String> = held
-        .iter()
-        .map(|(lock, since)| format!("lock {lock} (since {since})"))
-        .collect();
-    format!(
-        "it holds {}; it would have to release what it holds first",
-        listed(&names)
-    )
+    let name = |(lock, since): &(usize, usize)| format!("lock {lock}, since {since}");
+    let names: Vec<String> = held.iter().map(name).collect();
+    let it = if held.len() == 1 { "it" } else { "them" };
+    let holds = format!("it holds {}", names.join("; "));
+    format!("{holds}; it would have to release {it} first")
 }
 
 fn holds_already(step: &Step, ledger: &Ledger) -> String {

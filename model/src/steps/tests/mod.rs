@@ -6,3 +6,5 @@ mod corpus;
 mod explaining;
 mod packing;
 mod pictures;
+mod refusals;
+mod replies;
