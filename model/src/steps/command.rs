@@ -169,6 +169,7 @@ fn picture_file(name: &str, range: &[&str], out: &mut dyn Write) -> Result<(), F
         );
     }
     let scene = Scene::of(Walk::new(&file, &run, &mut progress), shown);
-    let title = format!("{name}, records {} to {}", shown.from, shown.to);
+    let what = if name == "-" { "standard input" } else { name };
+    let title = format!("{what}, records {} to {}", shown.from, shown.to);
     Ok(out.write_all(picture::picture(&scene, &title, note.as_deref()).as_bytes())?)
 }

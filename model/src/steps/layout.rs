@@ -2,7 +2,7 @@
 //! downwards. In a lane, from the left: a gutter for arrows, the bars of locks,
 //! the card's own line with its marks, the labels.
 
-use super::scene::{Arrow, Bar, Scene, Time};
+use super::scene::{Arrow, Bar, Mark, Row, Scene, Time};
 
 pub const ROW: f64 = 24.0;
 /// After so many records the names of the cards stand again.
@@ -18,6 +18,15 @@ const NARROWEST: f64 = 620.0;
 /// About the width of a text: of the usual fonts none is much wider.
 pub fn text_width(text: &str) -> f64 {
     (7.4 * text.chars().count() as f64).ceil()
+}
+
+/// The labels of reads that are not ordered are bold, and wider.
+fn label_width(row: &Row) -> f64 {
+    let width = text_width(&row.label);
+    match row.mark {
+        Some(Mark::ReadNotOrdered) => (1.15 * width).ceil(),
+        _ => width,
+    }
 }
 
 pub struct Lane {
@@ -110,9 +119,7 @@ impl Layout {
             .rows
             .iter()
             .filter(|row| row.card.unwrap_or(1) == card);
-        let label = labels
-            .map(|row| text_width(&row.label))
-            .fold(text_width("card 8"), f64::max);
+        let label = labels.map(label_width).fold(text_width("card 8"), f64::max);
         let first_bar = left + GUTTER_STEP * (arrows + 1.0);
         let axis = first_bar + BAR_STEP * bars + BAR / 2.0;
         Lane {

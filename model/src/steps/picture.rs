@@ -19,22 +19,16 @@ pub fn window(range: Range, last: usize) -> (Range, Option<String>) {
     (shown, (!whole).then_some(note))
 }
 
-/// The file. The legend folds where it would be wider than the rows.
+/// The file.
 pub fn picture(scene: &Scene, title: &str, note: Option<&str>) -> String {
-    let width = Layout::of(scene, 0.0)
-        .width
-        .max((1.4 * text_width(title)).ceil() + 2.0 * MARGIN);
-    let width = note.map_or(width, |note| width.max(text_width(note) + 2.0 * MARGIN));
-    let mut svg = Svg::default();
+    let title_width = (1.4 * text_width(title)).ceil();
+    let widest_text = note.map_or(title_width, |note| title_width.max(text_width(note)));
+    let lanes = Layout::of(scene, 0.0).width;
+    let width = lanes.max(widest_text + 2.0 * MARGIN);
     let mut head = Svg::default();
-    head.text("title", (MARGIN, 28.0), title);
-    if let Some(note) = note {
-        head.text("bad", (MARGIN, 48.0), note);
-    }
-    let first_line = if note.is_some() { 72.0 } else { 52.0 };
-    let legend_end = legend(&mut head, first_line, width);
-    let layout = Layout::of(scene, legend_end);
+    let layout = Layout::of(scene, draw_head(&mut head, title, note, width));
     let height = layout.bottom + MARGIN;
+    let mut svg = Svg::default();
     svg.rect("paper", (0.0, 0.0), width, height);
     svg.append(head);
     let drawing = Drawing {
@@ -44,6 +38,16 @@ pub fn picture(scene: &Scene, title: &str, note: Option<&str>) -> String {
     };
     drawing.draw(&mut svg);
     svg.file(title, width, height)
+}
+
+/// Title, note and legend. Answers where they end.
+fn draw_head(svg: &mut Svg, title: &str, note: Option<&str>, width: f64) -> f64 {
+    svg.text("title", (MARGIN, 28.0), title);
+    let Some(note) = note else {
+        return legend(svg, 52.0, width);
+    };
+    svg.text("bad", (MARGIN, 48.0), note);
+    legend(svg, 72.0, width)
 }
 
 struct Drawing<'a> {

@@ -89,7 +89,7 @@ fn ask(program: &Path, bytes: &[u8]) -> Result<Vec<u8>, String> {
     match (read, status) {
         (Ok(_), Ok(status)) if status.success() => Ok(printed),
         (Err(why), _) | (_, Err(why)) => Err(broken_off(program, why)),
-        (_, Ok(status)) => Err(format!("{name} ended with {status}")),
+        (_, Ok(status)) => Err(format!("{name} could not do its work: {status}")),
     }
 }
 
