@@ -6,7 +6,7 @@
 mod declarations;
 
 use declarations as c;
-pub use declarations::{CLOCKS, MARKS, RECORDS, WORDS};
+pub use declarations::{ANSWER, CLOCKS, MARKS, RECORDS, WORDS};
 
 /// The four areas lent to a call that may write them.
 pub struct Lent<'a> {
@@ -70,8 +70,8 @@ pub fn in_order(areas: Shown) -> bool {
     }
 }
 
-/// One step; answers 0 or the refusal, with refusal, value and count in
-/// `answer`.
+/// One step; answers 0 or the refusal, with refusal, value, count and words
+/// in `answer`.
 pub fn step(step: Step, answer: &mut [u32], areas: Lent) -> u8 {
     // Slices give valid pointers, and mutable ones do not overlap.
     unsafe {

@@ -201,44 +201,49 @@ fn newline(byte: &u8) -> bool {
     *byte == b'\n'
 }
 
-/// How many steps of a file are accepted and refused, and how many records
-/// they apply.
+/// How many steps of a file are accepted and refused, how many records they
+/// apply, and how many words these set.
 #[derive(Default)]
 struct Content {
     accepted: u64,
     refused: u64,
     applied: u64,
+    words: u64,
 }
 
 impl Content {
+    /// Four numbers for each record, then "words" and their total.
     fn of(lines: &[u8]) -> Content {
         let mut content = Content::default();
         for line in lines.split(newline).skip(1) {
             let text = String::from_utf8_lossy(line);
-            let numbers: Vec<u64> = text.split(' ').flat_map(str::parse).collect();
-            match numbers[..] {
-                [_, 0, _, count] => {
+            let parts: Vec<&str> = text.split(' ').collect();
+            let number = |part: &str| part.parse().unwrap_or(0);
+            match parts[..] {
+                [_, "0", _, count] => {
                     content.accepted += 1;
-                    content.applied += count;
+                    content.applied += number(count);
                 }
                 [_, _, _, _] => content.refused += 1,
+                ["words", total] => content.words = number(total),
                 _ => {}
             }
         }
         content
     }
 
-    /// "mixed 1: 774006 accepted, 225994 refused, 1033596 records applied"
+    /// "mixed 1: 774006 accepted, 225994 refused, 1033596 records applied, of
+    /// 1437015 words"
     fn text(&self, case: &Case) -> String {
         let Case { profile, seed, .. } = case;
         let Content {
             accepted,
             refused,
             applied,
+            words,
         } = self;
-        format!(
-            "{profile} {seed}: {accepted} accepted, {refused} refused, {applied} records applied"
-        )
+        let steps = format!("{accepted} accepted, {refused} refused");
+        format!("{profile} {seed}: {steps}, {applied} records applied, of {words} words")
     }
 
     /// Accepted steps of 100.

@@ -3,7 +3,7 @@
 
 mod library;
 
-use library::{Lent, Shown, Step, CLOCKS, MARKS, RECORDS, WORDS};
+use library::{Lent, Shown, Step, ANSWER, CLOCKS, MARKS, RECORDS, WORDS};
 use std::hint::black_box;
 use std::time::Instant;
 
@@ -136,15 +136,15 @@ impl State {
 
     /// A step that must pass with this count.
     fn take(&mut self, step: Step, count: u32) {
-        let mut answer = [0; 3];
+        let mut answer = [0; ANSWER];
         library::step(step, &mut answer, self.lend());
-        let [refusal, _, found] = answer;
+        let [refusal, _, found, _] = answer;
         assert_eq!((refusal, found), (0, count), "{step:?}");
     }
 
     /// A step to be timed.
     fn go(&mut self, step: Step) {
-        let mut answer = [0; 3];
+        let mut answer = [0; ANSWER];
         library::step(black_box(step), &mut answer, self.lend());
         black_box(answer);
     }

@@ -30,18 +30,18 @@ extern "C" {
 #define LUGHTSAVI_RECORDS 17280 /* uint8_t: the change records */
 #define LUGHTSAVI_MARKS 110     /* uint8_t: counts, holders, arrived and dirty marks, the lines of waiters */
 #define LUGHTSAVI_OPENING 8     /* uint8_t: 0, processors, pages, locks, 0, 0, 0, 0 */
-#define LUGHTSAVI_ANSWER 3      /* uint32_t: refusal, value, count */
+#define LUGHTSAVI_ANSWER 4      /* uint32_t: refusal, value, count, words */
 #define LUGHTSAVI_PAGE 32       /* uint32_t: the words of a page */
 #define LUGHTSAVI_DIFF 131      /* uint8_t: no diff is longer */
 
-/* What lughtsavi_diff_write adds to a refusal. */
+/* What lughtsavi_diff_write and lughtsavi_diff_apply add to a refusal. */
 #define LUGHTSAVI_REFUSED 256
 
 /*
  * The kinds of step. The object is a word (read, write), a lock (acquire, release) or a tally (0 to 15), else 0; only a write and an add to a
  * tally have a value, else 0.
  * An acquire of a lock that another processor holds is accepted: the processor waits, and has no other step accepted until a release gives it
- * the lock.
+ * the lock. A processor that holds a lock must release it before it arrives.
  */
 enum lughtsavi_kind {
     LUGHTSAVI_READ = 1,
@@ -54,11 +54,11 @@ enum lughtsavi_kind {
     LUGHTSAVI_TALLY_READ = 9
 };
 
-/* The refusals, by the numbers of documents 01 and 02. Where several apply, the first that a call meets is given; 17 stands behind 6. */
+/* The refusals, by the numbers of documents 01 and 02. Where several apply, the first that a call meets is given; 17 and 18 stand behind 6. */
 enum lughtsavi_refusal {
     LUGHTSAVI_ACCEPTED = 0,
     LUGHTSAVI_OUT_OF_ORDER = 1,     /* the areas are not in order; for an opening: an area of a wrong size;
-                                       for a step also: an answer that has not three words */
+                                       for a step also: an answer that has not four words */
     LUGHTSAVI_BAD_OPENING = 2,      /* not eight bytes, first byte not 0, a count out of range (processors 1 to 8, pages 1 to 8,
                                        locks 1 to 16), or bytes 4 to 7 not all 0 */
     LUGHTSAVI_UNKNOWN_KIND = 3,     /* kind not 1 to 6, 8 or 9 */
@@ -73,7 +73,8 @@ enum lughtsavi_refusal {
     LUGHTSAVI_DIFF_PAIR = 12,       /* a pair breaks its rule */
     LUGHTSAVI_DIFF_ROOM = 13,       /* the destination is shorter than the diff */
     LUGHTSAVI_PAGE_LENGTH = 14,     /* a page lent is not 32 words */
-    LUGHTSAVI_WAITS = 17            /* the processor waits for a lock */
+    LUGHTSAVI_WAITS = 17,           /* the processor waits for a lock */
+    LUGHTSAVI_HOLDS_LOCK = 18       /* arrive: the processor holds a lock */
 };
 
 /*
@@ -101,10 +102,11 @@ bool lughtsavi_in_order(
 
 /*
  * One step of a processor. Processors are numbered from 1; words, locks and tallies from 0.
- * Answers 0 where the step was done: `answer` is 0, value, count, and the areas hold the state after the step. Only a read, of a word or of
- * a tally, has a value other than 0; the count is the change records that the step applied to copies.
- * Refuses by 1, then 3 to 6, 17, 7 to 10: it returns the refusal, `answer` is refusal, 0, 0, and the areas are left untouched.
- * Where `answer` has not three words it returns 1, and `answer` too is left untouched.
+ * Answers 0 where the step was done: `answer` is 0, value, count, words, and the areas hold the state after the step. Only a read, of a word
+ * or of a tally, has a value other than 0; the count is the change records that the step applied to copies, the words are those that these
+ * records set, all the words of each, a word that had its value already too.
+ * Refuses by 1, then 3 to 6, 17, 18, 7 to 10: it returns the refusal, `answer` is refusal, 0, 0, 0, and the areas are left untouched.
+ * Where `answer` has not four words it returns 1, and `answer` too is left untouched.
  */
 uint8_t lughtsavi_step(
     uint32_t kind, uint32_t processor, uint32_t object, uint32_t value,
@@ -117,7 +119,7 @@ uint8_t lughtsavi_step(
 /*
  * Runs an opening and the step records behind it, in one call. A record is eight bytes: kind, processor, object (two bytes, low first), value
  * (four, low first); the opening is 0, processors, pages, locks and four zeros.
- * For each record three words are written into `answers`: refusal or 0, value, count.
+ * For each record four words are written into `answers`: refusal or 0, value, count, words.
  * Answers how many records were run, the opening among them: as many whole records as `bytes` has and as `answers` has room for; bytes and
  * words beyond these are not looked at. Where the opening is refused (1 or 2) it alone is answered, and the areas are left untouched.
  * A refused step leaves the areas untouched, and the run goes on.
@@ -147,10 +149,11 @@ uint8_t lughtsavi_diff_check(const uint8_t *bytes, size_t bytes_len);
 
 /*
  * Carries a diff out on a page.
- * Answers 0, and the words of its runs are set in the page; the page's other words are left untouched.
- * Refuses by 14, then 11 or 12: the page is then left untouched. The bytes are only read.
+ * Answers how many words it set, 0 to 32, those of its runs, also where a word had its value already; the page's other words are left
+ * untouched.
+ * Refuses by 14, then 11 or 12: it answers 256 + the refusal, and the page is left untouched. The bytes are only read.
  */
-uint8_t lughtsavi_diff_apply(
+uint32_t lughtsavi_diff_apply(
     const uint8_t *bytes, size_t bytes_len,
     uint32_t *page, size_t page_len);
 

@@ -2,7 +2,7 @@
 
 use crate::judge::judge;
 use crate::program::Ran;
-use crate::stepfile::parse_lines;
+use crate::stepfile::Printed;
 use std::fs;
 use std::path::Path;
 
@@ -28,11 +28,11 @@ pub fn agrees_with_stored(steps: &Path, ran: &Ran) -> Result<(), String> {
     agrees(&due, ran)
 }
 
-/// Demand 3 on what the program printed.
+/// Demand 3, tallies and the last line on what the program printed.
 pub fn judged(file: &[u8], ran: &Ran) -> Result<(), String> {
     let text = str::from_utf8(&ran.output).ok();
-    let lines = text.and_then(parse_lines).ok_or("no lines of numbers")?;
-    let broken = judge(file, &lines)?.broken;
+    let printed = text.and_then(Printed::parse);
+    let broken = judge(file, &printed.ok_or("no lines of numbers")?)?.broken;
     match broken.first() {
         None => Ok(()),
         Some(first) => Err(format!("broken reads: {}; {}", broken.len(), first.text())),

@@ -6,13 +6,9 @@
 #[path = "../../tests/library/declarations.rs"]
 mod declarations;
 
-use declarations::{lughtsavi_run, CLOCKS, MARKS, RECORDS, WORDS};
+use declarations::{lughtsavi_run, ANSWER, CLOCKS, MARKS, RECORDS, WORDS};
 use std::io::{self, Read, Write};
 use std::process::ExitCode;
-
-/// The words of an answer: refusal, value, count, words moved. Room for more
-/// than the library's answers have does no harm: the records are fewer.
-const ANSWER: usize = 4;
 
 fn main() -> ExitCode {
     let mut file = Vec::new();

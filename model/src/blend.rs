@@ -60,21 +60,12 @@ fn turns(s: &mut Script, turn: &mut dyn FnMut(&mut Script)) {
     }
 }
 
-/// A round, often with a collection, and all locks freed.
+/// A round, often with a collection; all locks are free after it.
 fn end_stretch(s: &mut Script, between: &mut dyn FnMut(&mut Script)) {
     if s.rng.percent(40) || s.standing() > 90 {
         s.want();
     }
     s.round(between);
-    free_locks(s);
-}
-
-fn free_locks(s: &mut Script) {
-    for lock in 0..s.locks {
-        if let Some(card) = s.holder(lock) {
-            s.release(card, lock);
-        }
-    }
 }
 
 fn dealt_stretch(s: &mut Script) {

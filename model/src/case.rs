@@ -1,15 +1,18 @@
-//! A named step file with the lines it should print, written by hand.
+//! A named step file with the answers it should get, written by hand, and so the
+//! lines it should print.
 
 use crate::model::{Answer, Step, ACQUIRE, ARRIVE, READ, RELEASE, WANT, WRITE};
 use crate::model::{TALLY_ADD, TALLY_READ};
-use crate::stepfile::Line;
+use crate::moved::Moved;
+use crate::stepfile::Printed;
 
 pub struct Case {
     pub name: String,
     /// One line for the README.
     pub shows: String,
     pub file: Vec<u8>,
-    pub lines: Vec<Line>,
+    /// One for each line but the last.
+    pub answers: Vec<Answer>,
 }
 
 fn step(kind: u8, card: u8, object: u16, value: u32) -> Step {
@@ -73,26 +76,37 @@ impl Case {
             name: name.to_string(),
             shows: shows.to_string(),
             file: bytes.to_vec(),
-            lines: vec![Line::refused(0, refusal)],
+            answers: vec![Answer::refused(refusal)],
         }
     }
 
+    /// What the file should print.
+    pub fn printed(&self) -> Printed {
+        Printed::of(&self.answers)
+    }
+
     fn put(&mut self, step: Step, answer: Answer) {
-        let number = self.lines.len();
         self.file.extend(step.to_bytes());
-        self.lines.push(Line { number, answer });
+        self.answers.push(answer);
     }
 
     /// Steps accepted with value 0 and count 0.
     pub fn ok(&mut self, steps: &[Step]) {
         for step in steps {
-            self.put(*step, Answer::accepted(0, 0));
+            self.put(*step, Answer::done());
         }
     }
 
-    /// A step accepted with this value and count.
+    /// A step accepted with this value and count, where each record applied has
+    /// one word.
     pub fn gives(&mut self, step: Step, value: u32, count: u32) {
-        self.put(step, Answer::accepted(value, count));
+        self.moves(step, value, count, count);
+    }
+
+    /// A step accepted with this value and count, where the records applied have
+    /// so many words.
+    pub fn moves(&mut self, step: Step, value: u32, count: u32, words: u32) {
+        self.put(step, Answer::accepted(value, Moved { count, words }));
     }
 
     pub fn refused(&mut self, step: Step, refusal: u32) {
@@ -101,8 +115,7 @@ impl Case {
 
     /// Bytes that are no whole record, and the line 15 they give.
     pub fn cut(&mut self, bytes: &[u8]) {
-        let number = self.lines.len();
         self.file.extend(bytes);
-        self.lines.push(Line::refused(number, 15));
+        self.answers.push(Answer::refused(15));
     }
 }

@@ -1,15 +1,18 @@
 //! The files of tests/files; those of cards that wait are in `wait_cases.rs`,
 //! those of stores that alter nothing in `equal_cases.rs`, those of tallies in
-//! `tally_cases.rs`, those of skipped records in `skip_cases.rs`. Each expected
-//! line is written by hand from documents 01 and 02; `model make-files` refuses
-//! to write a file whose lines the model does not print.
+//! `tally_cases.rs`, those of skipped records in `skip_cases.rs`, those of words
+//! set in `words_cases.rs`, those of holders that arrive in `holder_cases.rs`. Each expected answer is written by hand from documents
+//! 01 and 02; `model make-files` refuses to write a file whose lines the model
+//! does not print.
 
 use crate::case::{acquire, any, arrive, read, release, want, write, Case};
 use crate::equal_cases::equal_cases;
+use crate::holder_cases::holder_cases;
 use crate::model::Step;
 use crate::skip_cases::skip_cases;
 use crate::tally_cases::tally_cases;
 use crate::wait_cases::wait_cases;
+use crate::words_cases::words_cases;
 
 pub fn all_cases() -> Vec<Case> {
     let mut cases = bench_cases();
@@ -22,6 +25,8 @@ pub fn all_cases() -> Vec<Case> {
     cases.extend(equal_cases());
     cases.extend(tally_cases());
     cases.extend(skip_cases());
+    cases.extend(words_cases());
+    cases.extend(holder_cases());
     cases
 }
 
@@ -50,7 +55,7 @@ fn bench_cases() -> Vec<Case> {
 }
 
 fn listing_a() -> Case {
-    let shows = "Document 01's Listing A and its thirteen lines: card 2 waits (line 4) and is the holder by line 6.";
+    let shows = "Document 01's Listing A and its thirteen lines: card 2 waits (line 4), is the holder by line 6 and may not arrive with the lock (line 12); then the words set, 1.";
     let mut c = Case::open("listing-a", [2, 1, 1], shows);
     c.ok(&[acquire(1, 0), write(1, 3, 700), read(2, 3)]);
     c.ok(&[acquire(2, 0), release(1, 0)]);
@@ -59,7 +64,8 @@ fn listing_a() -> Case {
     c.gives(read(2, 3), 700, 0);
     c.ok(&[arrive(1)]);
     c.refused(read(1, 3), 6);
-    c.ok(&[want(2), arrive(2)]);
+    c.ok(&[want(2)]);
+    c.refused(arrive(2), 18);
     c
 }
 
@@ -160,7 +166,7 @@ fn fill_pages(c: &mut Case, pages: u16, value: u32, close: Step) {
 }
 
 /// 127 records by card 1: 15 intervals on 8 pages, one on 7; lock 0 is free.
-fn make_127_records(c: &mut Case) {
+pub fn make_127_records(c: &mut Case) {
     for value in 1..=15 {
         let close = [acquire(1, 0), release(1, 0)];
         fill_pages(c, 8, value, close[(value as usize + 1) % 2]);
@@ -169,9 +175,21 @@ fn make_127_records(c: &mut Case) {
 }
 
 fn case_o() -> Case {
-    let shows = "Bench case O: 127 records and a write passes; at 128 it is 10; a dirty page still takes stores; a collecting round applies the last record of each page.";
+    let shows = "Bench case O: 127 records and a write passes; at 128 it is 10; a dirty page still takes stores; card 1 may not arrive with the lock, so nothing is collected.";
     let mut c = Case::open("case-o", [2, 8, 1], shows);
     make_127_records(&mut c);
+    fill_last_room(&mut c);
+    c.ok(&[want(2)]);
+    c.refused(arrive(1), 18);
+    c.ok(&[arrive(2)]);
+    c.refused(write(1, 32, 22), 10);
+    c.refused(read(2, 1), 6);
+    c
+}
+
+/// With 127 records: card 1 makes the last one, of words 0 and 1, and holds
+/// lock 0 then.
+pub fn fill_last_room(c: &mut Case) {
     c.ok(&[write(1, 0, 17)]);
     c.refused(write(1, 32, 17), 10);
     c.refused(write(2, 64, 18), 10);
@@ -179,11 +197,6 @@ fn case_o() -> Case {
     c.refused(write(1, 0, 21), 10);
     c.refused(write(2, 0, 21), 10);
     c.gives(read(1, 0), 20, 0);
-    c.ok(&[want(2), arrive(1)]);
-    c.gives(arrive(2), 0, 8);
-    c.ok(&[write(1, 32, 22)]);
-    c.gives(read(2, 1), 19, 0);
-    c
 }
 
 fn room_kept() -> Case {
@@ -302,19 +315,15 @@ fn refusal_5() -> Case {
 }
 
 fn refusal_6() -> Case {
-    let shows =
-        "Refusal 6: an arrived card is refused each kind of step until the round is complete.";
+    let shows = "Card 1's arrival with lock 0 in hand is 18, so its next steps are not 6 but pass; nor does it arrive with lock 1 in hand.";
     let mut c = Case::open("refusal-6", [2, 1, 2], shows);
-    c.ok(&[acquire(1, 0), arrive(1)]);
-    for step in [read(1, 0), write(1, 0, 1), acquire(1, 1)] {
-        c.refused(step, 6);
-    }
-    for step in [release(1, 0), arrive(1), want(1)] {
-        c.refused(step, 6);
-    }
-    c.ok(&[write(2, 0, 4), arrive(2)]);
-    c.gives(read(1, 0), 4, 1);
-    c.ok(&[release(1, 0)]);
+    c.ok(&[acquire(1, 0)]);
+    c.refused(arrive(1), 18);
+    c.ok(&[read(1, 0), write(1, 0, 1), acquire(1, 1), release(1, 0)]);
+    c.refused(arrive(1), 18);
+    c.ok(&[want(1), write(2, 0, 4), arrive(2)]);
+    c.gives(read(1, 0), 1, 0);
+    c.refused(release(1, 0), 8);
     c
 }
 
@@ -351,7 +360,7 @@ fn refusal_9() -> Case {
     c.refused(write(1, 0, 65), 9);
     c.refused(write(1, 0, 63), 9);
     c.ok(&[release(1, 0), acquire(2, 0)]);
-    c.gives(write(2, 0, 66), 0, 1);
+    c.moves(write(2, 0, 66), 0, 1, 2);
     c.gives(read(2, 1), 64, 0);
     c
 }
@@ -375,29 +384,49 @@ fn refusal_10() -> Case {
 }
 
 fn refusal_order() -> Case {
-    let shows =
-        "Several conditions at once: the first of the table is given (3 to 6; 9 before 10).";
+    let shows = "Several conditions at once: the first of the table is given (3 to 5 before 18, 6 before 9 and 10). Card 1's arrival is refused, so card 2, which has arrived, stays at the barrier.";
     let mut c = Case::open("refusal-order", [2, 8, 2], shows);
     c.refused(any(0, 0, 999, 1), 3);
     c.refused(any(1, 0, 999, 1), 4);
-    c.ok(&[acquire(1, 1), arrive(1)]);
+    c.ok(&[acquire(1, 1)]);
+    c.refused(arrive(1), 18);
     c.refused(any(7, 1, 0, 0), 3);
     c.refused(read(1, 256), 5);
     c.refused(acquire(1, 2), 5);
-    c.refused(acquire(1, 1), 6);
-    c.refused(release(1, 0), 6);
+    c.refused(acquire(1, 1), 7);
+    c.refused(release(1, 0), 8);
     c.ok(&[arrive(2), release(1, 1)]);
     make_intervals(&mut c, 62);
     fill_pages(&mut c, 8, 100, acquire(1, 0));
-    for value in 1..=7 {
-        let close = [acquire(2, 1), release(2, 1)];
-        write_as(&mut c, 2, 8, value, close[(value as usize + 1) % 2]);
+    for step in stores_of_card_2() {
+        c.refused(step, 6);
     }
-    c.ok(&[write(2, 1, 9), write(2, 33, 9), release(2, 1)]);
-    c.refused(write(2, 1, 1), 10);
+    c.refused(write(2, 1, 1), 6);
     c.refused(write(1, 0, 1), 9);
     c.refused(write(1, 256, 1), 5);
     c
+}
+
+/// Card 2 writes all pages and closes by lock 1, seven times, then two pages:
+/// 58 records, if it may.
+fn stores_of_card_2() -> Vec<Step> {
+    let mut steps = Vec::new();
+    for value in 1..=7 {
+        steps.extend((0..8).map(|page| write(2, 32 * page + 3, value)));
+        steps.push([acquire(2, 1), release(2, 1)][(value as usize + 1) % 2]);
+    }
+    steps.extend([write(2, 1, 9), write(2, 33, 9), release(2, 1)]);
+    steps
+}
+
+/// With 62 records of as many intervals of card 1: it makes eight records more,
+/// card 2 the other 58; then card 1 has no interval left and nobody a record.
+pub fn nine_before_ten(c: &mut Case) {
+    fill_pages(c, 8, 100, acquire(1, 0));
+    c.ok(&stores_of_card_2());
+    c.refused(write(2, 1, 1), 10);
+    c.refused(write(1, 0, 1), 9);
+    c.refused(write(1, 256, 1), 5);
 }
 
 /// As `fill_pages`, by any card, at word 3 of each page.
@@ -456,7 +485,7 @@ fn cut_cases() -> Vec<Case> {
     let alone = Case::open(
         "opening-alone",
         [1, 1, 1],
-        "An opening and no steps: one line.",
+        "An opening and no steps: one line, and no words.",
     );
     vec![step, bad, opening, wrong, empty, alone]
 }
@@ -483,7 +512,7 @@ fn fault_join() -> Case {
         release(1, 0),
     ]);
     c.ok(&[acquire(2, 0)]);
-    c.gives(write(2, 1, 22), 0, 1);
+    c.moves(write(2, 1, 22), 0, 1, 2);
     c.ok(&[release(2, 0), acquire(1, 0)]);
     c.gives(write(1, 0, 13), 0, 1);
     c.ok(&[release(1, 0), acquire(3, 0)]);
@@ -497,7 +526,7 @@ fn figure_2_16() -> Case {
     let mut c = Case::open("figure-2-16", [2, 1, 1], shows);
     c.ok(&[acquire(1, 0), write(1, 0, 1), write(1, 1, 1), release(1, 0)]);
     c.ok(&[acquire(2, 0)]);
-    c.gives(write(2, 1, 2), 0, 1);
+    c.moves(write(2, 1, 2), 0, 1, 2);
     c.ok(&[release(2, 0), acquire(1, 0)]);
     c.gives(write(1, 0, 2), 0, 1);
     c.ok(&[release(1, 0), acquire(2, 0)]);
@@ -627,13 +656,15 @@ fn collect_count() -> Case {
 }
 
 fn collect_with_lock_held() -> Case {
-    let shows = "A lock held over a collecting round stays held; its clock starts anew.";
+    let shows = "No lock is held over a collecting round: card 1's arrival with the lock is refused, and card 2 stays at the barrier.";
     let mut c = Case::open("collect-lock-held", [2, 1, 1], shows);
-    c.ok(&[acquire(1, 0), write(1, 0, 4), want(1), arrive(1)]);
-    c.gives(arrive(2), 0, 1);
+    c.ok(&[acquire(1, 0), write(1, 0, 4), want(1)]);
+    c.refused(arrive(1), 18);
+    c.ok(&[arrive(2)]);
     c.refused(acquire(1, 0), 7);
-    c.ok(&[acquire(2, 0), write(1, 0, 5), release(1, 0)]);
-    c.gives(read(2, 0), 5, 1);
+    c.refused(acquire(2, 0), 6);
+    c.ok(&[write(1, 0, 5), release(1, 0)]);
+    c.refused(read(2, 0), 6);
     c
 }
 

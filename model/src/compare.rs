@@ -5,7 +5,7 @@ use crate::agree::{agrees, agrees_with_stored, judged};
 use crate::options::Options;
 use crate::plan::{plan, Source};
 use crate::program::{run, Input, Limits, Ran};
-use crate::stepfile::{self, print_lines};
+use crate::stepfile;
 use std::fs;
 use std::io;
 use std::path::{Path, PathBuf};
@@ -148,7 +148,7 @@ impl<'a> Comparison<'a> {
     }
 
     fn try_file(&self, source: &Source, file: &[u8]) {
-        let due = print_lines(&stepfile::run(file, None)).into_bytes();
+        let due = stepfile::run(file, None).text().into_bytes();
         let ran = self.run(source, file, due.len() + SURPLUS);
         let mut checks = Checks::default();
         if let Source::Named(path) = source {

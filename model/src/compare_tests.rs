@@ -121,7 +121,7 @@ fn options_are_read() {
 fn a_comparison_counts_and_keeps() {
     let room = Room::new("comparison");
     let listing_a = crate::cases::all_cases().swap_remove(0);
-    let lines = stepfile::print_lines(&listing_a.lines);
+    let lines = listing_a.printed().text();
     fs::write(room.0.join("listing-a.steps"), &listing_a.file).expect("a file");
     fs::write(room.0.join("listing-a.lines"), &lines).expect("a file");
     let files: Vec<Source> = plan(&room.0, 0, 1)
@@ -166,14 +166,14 @@ fn the_ends_are_in_the_plan() {
         .collect();
     assert_eq!(last[0], "0 2 0 0");
     assert!(last[1..9].iter().all(|line| line == "0 15 0 0"));
-    assert_eq!(last[9], "0 0 0 0");
+    assert_eq!(last[9], "words 0");
     assert!(last[10..].iter().all(|line| line == "200 15 0 0"));
     assert_eq!(last[10..].len(), 7);
 }
 
 fn last_line(source: &Source) -> String {
-    let lines = stepfile::run(&source.bytes().expect("bytes"), None);
-    lines.last().expect("a line").text()
+    let lines = stepfile::run(&source.bytes().expect("bytes"), None).texts();
+    lines.last().expect("a line").clone()
 }
 
 /// Already a part of the generated files meets every refusal of a step and
@@ -188,7 +188,7 @@ fn the_generated_files_cover_the_rules() {
         seen.add_faults(&file, &lines);
         seen.add_skips(&file, &lines);
     }
-    for refusal in (2..=10).chain([15, 17]) {
+    for refusal in (2..=10).chain([15, 17, 18]) {
         assert!(seen.refusals[refusal] > 0, "refusal {refusal}");
     }
     assert!(seen.faults.iter().all(|files| *files > 0));

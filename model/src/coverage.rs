@@ -6,7 +6,7 @@ use crate::generate::PROFILES;
 use crate::model::{Step, ACQUIRE, ARRIVE, READ, RELEASE, TALLY_ADD, TALLY_READ, WRITE};
 use crate::options::Options;
 use crate::plan::{plan, Source};
-use crate::stepfile::{record_at, run, Line, REFUSALS};
+use crate::stepfile::{record_at, run, Line, Printed, REFUSALS};
 use std::collections::BTreeMap;
 use std::thread;
 
@@ -21,6 +21,11 @@ pub struct Seen {
     /// Files with both 9 and 10.
     full_twice: usize,
     lines: usize,
+    /// Files with a last line, those of them with more words than records
+    /// applied, and the words of all.
+    pub last_lines: usize,
+    pub many_words: usize,
+    words: usize,
     /// How often each refusal was printed.
     pub refusals: [usize; REFUSALS],
     reads: usize,
@@ -53,9 +58,11 @@ pub struct Seen {
 }
 
 impl Seen {
-    pub fn add_file(&mut self, file: &[u8], lines: &[Line]) {
+    pub fn add_file(&mut self, file: &[u8], printed: &Printed) {
+        let lines = &printed.lines;
         self.files += 1;
         self.add_opening(file, lines);
+        self.add_words(printed);
         let before = self.refusals;
         let mut in_turn = BTreeMap::new();
         for line in lines {
@@ -66,7 +73,7 @@ impl Seen {
     }
 
     fn add_opening(&mut self, file: &[u8], lines: &[Line]) {
-        let opened = lines.first().is_some_and(|line| line.answer.refusal == 0);
+        let opened = lines.first().is_some_and(|line| line.refusal == 0);
         let Some([_, cards, pages, locks, ..]) = record_at(file, 0).filter(|_| opened) else {
             return;
         };
@@ -78,23 +85,22 @@ impl Seen {
 
     /// `in_turn` counts for each lock its holder and those that wait for it.
     fn add_line(&mut self, file: &[u8], line: &Line, in_turn: &mut BTreeMap<u16, usize>) {
-        let answer = line.answer;
         self.lines += 1;
-        self.refusals[answer.refusal as usize] += 1;
-        if line.number == 0 || answer.refusal != 0 {
+        self.refusals[line.refusal as usize] += 1;
+        if line.number == 0 || line.refusal != 0 {
             return;
         }
         let Some(step) = record_at(file, line.number).map(Step::from_bytes) else {
             return;
         };
-        let counted = usize::from(answer.count > 0);
+        let counted = usize::from(line.count > 0);
         match step.kind {
             READ => {
                 self.reads += 1;
                 self.read_counts += counted;
-                self.read_counts_of_three += usize::from(answer.count >= 3);
-                self.read_values += usize::from(answer.value != 0);
-                self.read_large_values += usize::from(answer.value > 0xffff);
+                self.read_counts_of_three += usize::from(line.count >= 3);
+                self.read_values += usize::from(line.value != 0);
+                self.read_large_values += usize::from(line.value > 0xffff);
             }
             WRITE => self.write_counts += counted,
             ACQUIRE => self.add_acquire(in_turn.entry(step.object).or_default()),
@@ -103,9 +109,20 @@ impl Seen {
             TALLY_ADD => self.adds += 1,
             TALLY_READ => {
                 self.looks += 1;
-                self.look_values += usize::from(answer.value != 0);
+                self.look_values += usize::from(line.value != 0);
             }
             _ => {}
+        }
+    }
+
+    /// The last line, and whether some record applied has more than one word.
+    fn add_words(&mut self, printed: &Printed) {
+        let counts = printed.lines.iter().map(|line| u64::from(line.count));
+        let records: u64 = counts.sum();
+        if let Some(words) = printed.words {
+            self.last_lines += 1;
+            self.words += words as usize;
+            self.many_words += usize::from(words > records);
         }
     }
 
@@ -123,10 +140,10 @@ impl Seen {
 
     /// A model that counts all pending records has larger counts where some are
     /// skipped, and all else the same.
-    pub fn add_skips(&mut self, file: &[u8], lines: &[Line]) {
+    pub fn add_skips(&mut self, file: &[u8], printed: &Printed) {
         let pending = run(file, Some(Fault::CountPending));
-        for (line, pending) in lines.iter().zip(&pending) {
-            if line.answer.count == pending.answer.count {
+        for (line, pending) in printed.lines.iter().zip(&pending.lines) {
+            if line.count == pending.count {
                 continue;
             }
             let kind = record_at(file, line.number).map(|record| record[0]);
@@ -136,13 +153,13 @@ impl Seen {
                 _ => self.skipping_collections += 1,
             }
             let fetches = matches!(kind, Some(READ | WRITE));
-            self.all_skipped += usize::from(fetches && line.answer.count == 0);
+            self.all_skipped += usize::from(fetches && line.count == 0);
         }
     }
 
-    pub fn add_faults(&mut self, file: &[u8], right: &[Line]) {
+    pub fn add_faults(&mut self, file: &[u8], right: &Printed) {
         for (files, (_, fault)) in self.faults.iter_mut().zip(FAULTS) {
-            *files += usize::from(run(file, Some(fault)) != right);
+            *files += usize::from(run(file, Some(fault)) != *right);
         }
     }
 }
@@ -179,14 +196,14 @@ fn look_over<'a>(sources: impl Iterator<Item = &'a Source>) -> Result<[Seen; COL
     let mut seen = [Seen::default(); COLUMNS];
     for source in sources {
         let file = source.bytes()?;
-        let lines = run(&file, None);
+        let printed = run(&file, None);
         let column = &mut seen[column(source)];
-        column.add_file(&file, &lines);
+        column.add_file(&file, &printed);
         // The ends are long; the faults, and what is skipped, are asked of all
         // the others.
         if !matches!(source, Source::End(_)) {
-            column.add_faults(&file, &lines);
-            column.add_skips(&file, &lines);
+            column.add_faults(&file, &printed);
+            column.add_skips(&file, &printed);
         }
     }
     Ok(seen)
@@ -207,10 +224,12 @@ fn rows() -> Vec<Row> {
         row("  with 8 pages", |s| s.eight_pages),
         row("  with 16 locks", |s| s.sixteen_locks),
         row("  with both 9 and 10", |s| s.full_twice),
-        row("lines", |s| s.lines),
+        row("  with a last line", |s| s.last_lines),
+        row("    more words than records", |s| s.many_words),
+        row("lines of records", |s| s.lines),
         row("  refusal 0", |s| s.refusals[0]),
     ];
-    for refusal in (2..=10).chain([15, 16, 17]) {
+    for refusal in (2..=10).chain([15, 16, 17, 18]) {
         let name = format!("  refusal {refusal}");
         rows.push(row(&name, move |s| s.refusals[refusal]));
     }
@@ -222,6 +241,7 @@ fn rows() -> Vec<Row> {
         row("  value above 65535", |s| s.read_large_values),
         row("writes, count above 0", |s| s.write_counts),
         row("collections, count above 0", |s| s.collections),
+        row("words set", |s| s.words),
         row("reads that skip", |s| s.skipping_reads),
         row("writes that skip", |s| s.skipping_writes),
         row("collections that skip", |s| s.skipping_collections),

@@ -16,11 +16,18 @@ impl Diff {
         Diff(differing.map(|(at, (_, new))| (at, *new)).collect())
     }
 
-    /// Puts the diff's words into a copy and leaves the others alone.
-    pub fn apply(&self, copy: &mut [u32]) {
+    /// Puts the diff's words into a copy and leaves the others alone. L6 of
+    /// document 02: "Applying a change now also reports the number of words it
+    /// set"; "A word that is set to the value it had counts."
+    pub fn apply(&self, copy: &mut [u32]) -> u32 {
         for (at, word) in &self.0 {
             copy[*at] = *word;
         }
+        self.words_set()
+    }
+
+    pub fn words_set(&self) -> u32 {
+        self.0.len() as u32
     }
 
     pub fn is_empty(&self) -> bool {
@@ -33,7 +40,7 @@ impl Diff {
     }
 
     /// The runs of neighbouring words: (first offset, words).
-    fn runs(&self) -> Vec<(usize, Vec<u32>)> {
+    pub fn runs(&self) -> Vec<(usize, Vec<u32>)> {
         let mut runs: Vec<(usize, Vec<u32>)> = Vec::new();
         for (at, word) in &self.0 {
             match runs.last_mut() {
@@ -78,11 +85,11 @@ pub fn check(bytes: &[u8]) -> Result<(), u32> {
     read(bytes).map(|_| ())
 }
 
-/// Applies the bytes of a change to a page lent by the caller.
-pub fn apply(page: &mut [u32], bytes: &[u8]) -> Result<(), u32> {
+/// Applies the bytes of a change to a page lent by the caller; gives the number
+/// of words set or the refusal.
+pub fn apply(page: &mut [u32], bytes: &[u8]) -> Result<u32, u32> {
     page_lent(page)?;
-    read(bytes)?.apply(page);
-    Ok(())
+    Ok(read(bytes)?.apply(page))
 }
 
 /// Reads a change: "Change read" of the table, top to bottom.

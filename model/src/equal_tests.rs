@@ -6,7 +6,7 @@ use crate::fault::Fault;
 use crate::generate::{generate, PROFILES};
 use crate::judge::judge;
 use crate::model::{Model, Step, ARRIVE, WRITE};
-use crate::stepfile::{record_at, run, run_watched, Line};
+use crate::stepfile::{record_at, run, run_watched, Line, Printed};
 use crate::tests::{entries, state_after};
 
 /// Card, interval, page and the change as bytes of each record.
@@ -92,11 +92,9 @@ fn refusals_9_and_10_come_sooner() {
     ] {
         let file = crate::tests::case(name).file;
         let refusals = |fault| -> Vec<(usize, u32)> {
-            let lines = run(&file, fault).into_iter();
-            let refused = lines.filter(|line| line.answer.refusal != 0);
-            refused
-                .map(|line| (line.number, line.answer.refusal))
-                .collect()
+            let lines = run(&file, fault).lines.into_iter();
+            let refused = lines.filter(|line| line.refusal != 0);
+            refused.map(|line| (line.number, line.refusal)).collect()
         };
         assert_eq!(refusals(None), [(number, refusal)], "{name}");
         assert_eq!(refusals(Some(Fault::SkipEqual)), [], "{name}");
@@ -161,9 +159,9 @@ fn with_values(file: &[u8], value: fn(u32) -> u32) -> Vec<u8> {
 }
 
 /// Refusals and counts, without the values.
-fn without_values(lines: &[Line]) -> Vec<(u32, u32)> {
-    let plain = |line: &Line| (line.answer.refusal, line.answer.count);
-    lines.iter().map(plain).collect()
+fn without_values(printed: &Printed) -> Vec<(u32, u32)> {
+    let plain = |line: &Line| (line.refusal, line.count);
+    printed.lines.iter().map(plain).collect()
 }
 
 /// No refusal depends on a stored value, and no number of pending records: a
@@ -202,8 +200,9 @@ fn ordered_reads_keep_their_values() {
         assert!(verdict.broken.is_empty(), "{profile} {seed}");
         let skipped = judge(&file, &skipping).expect("fits");
         assert!(skipped.broken.is_empty(), "{profile} {seed}");
-        let refusals =
-            |lines: &[Line]| -> Vec<u32> { lines.iter().map(|line| line.answer.refusal).collect() };
+        let refusals = |printed: &Printed| -> Vec<u32> {
+            printed.lines.iter().map(|line| line.refusal).collect()
+        };
         if verdict.strong == verdict.reads && refusals(&right) == refusals(&skipping) {
             assert!(right == skipping, "{profile} {seed}");
             same_steps += 1;

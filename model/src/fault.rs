@@ -1,6 +1,7 @@
 //! The names of the switches of `model run --fault NAME`: document 01's
 //! "Faults that pass on a two-card bench", one against request L2 of document
-//! 02, five against request L4 and six against request L5.
+//! 02, five against request L4, six against request L5, seven against request L6
+//! and four against request L7.
 
 #[derive(Clone, Copy, PartialEq, Eq, Debug)]
 pub enum Fault {
@@ -45,9 +46,34 @@ pub enum Fault {
     KeepEmpty,
     /// Against L5, "the records applied": all pending ones are counted.
     CountPending,
+    /// Against L6: the words of skipped records count, too.
+    WordsSkipped,
+    /// Against L6: a run of words counts as one.
+    WordsByRun,
+    /// Against L6, "A word that is set to the value it had counts": it does not.
+    WordsAltered,
+    /// Against L6: a word that several records of a fetch set counts once.
+    WordsOnce,
+    /// Against L6: the number of records stands for that of words.
+    WordsByCount,
+    /// Against L6, "fetch, read, write and the collecting arrival hand on their
+    /// sums": only a read does.
+    WordsOfReads,
+    /// Against L6, "A run that did not stop at 2, 15 or 16": the last line stands
+    /// behind these, too.
+    WordsAlways,
+    /// Against L7: a card with a lock in hand arrives.
+    ArriveHolding,
+    /// Against L7: only lock 0 is looked at.
+    LockZeroAlone,
+    /// Against L7: only a lock for which others wait is looked at.
+    AwaitedAlone,
+    /// Against L7, "18, an arrival by a holder, after 17": it comes before 5, 6
+    /// and 17.
+    HolderFirst,
 }
 
-pub const FAULTS: [(&str, Fault); 18] = [
+pub const FAULTS: [(&str, Fault); 29] = [
     ("lock-own", Fault::LockOwn),
     ("by-card", Fault::ByCard),
     ("join", Fault::Join),
@@ -66,6 +92,17 @@ pub const FAULTS: [(&str, Fault); 18] = [
     ("touched", Fault::SkipTouched),
     ("keep-empty", Fault::KeepEmpty),
     ("all-counted", Fault::CountPending),
+    ("words-skip", Fault::WordsSkipped),
+    ("words-runs", Fault::WordsByRun),
+    ("words-new", Fault::WordsAltered),
+    ("words-once", Fault::WordsOnce),
+    ("words-count", Fault::WordsByCount),
+    ("words-reads", Fault::WordsOfReads),
+    ("words-ever", Fault::WordsAlways),
+    ("18-never", Fault::ArriveHolding),
+    ("18-lock-0", Fault::LockZeroAlone),
+    ("18-awaited", Fault::AwaitedAlone),
+    ("18-first", Fault::HolderFirst),
 ];
 
 pub fn by_name(name: &str) -> Option<Fault> {

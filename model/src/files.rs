@@ -4,7 +4,7 @@ use crate::case::Case;
 use crate::cases::all_cases;
 use crate::fault::{Fault, FAULTS};
 use crate::judge::judge;
-use crate::stepfile::{parse_lines, print_lines, run, Line};
+use crate::stepfile::{run, Printed};
 use std::fs;
 use std::path::{Path, PathBuf};
 
@@ -19,11 +19,12 @@ pub fn make_files(dir: &Path) -> Result<String, String> {
 }
 
 fn write_case(dir: &Path, case: &Case) -> Result<(), String> {
-    if let Some(wrong) = first_difference(&case.lines, &run(&case.file, None)) {
+    let due = case.printed();
+    if let Some(wrong) = first_difference(&due, &run(&case.file, None)) {
         return Err(format!("{}: {wrong}", case.name));
     }
     put(&dir.join(format!("{}.steps", case.name)), &case.file)?;
-    let lines = print_lines(&case.lines);
+    let lines = due.text();
     put(&dir.join(format!("{}.lines", case.name)), lines.as_bytes())
 }
 
@@ -43,10 +44,12 @@ fn readme(cases: &[Case]) -> String {
 const README_HEAD: &str = "# Step files and their lines
 
 NAME.steps is a step file, NAME.lines what the run program prints for it,
-NAME.txt the file in words (`tests/steps/store` writes it). The others are
-written by `model make-files`; each line was set down by hand from documents 01
-and 02 (model/src/cases.rs, wait_cases.rs, equal_cases.rs, tally_cases.rs,
-skip_cases.rs) and agrees with the second model.
+NAME.txt the file in words. The last line, `words` and a total, is there unless
+the run stopped at 2, 15 or 16. The texts are written by `tests/steps/store`, the
+others by `model make-files`; each line was set down by hand
+from documents 01 and 02 (model/src/cases.rs, wait_cases.rs, equal_cases.rs,
+tally_cases.rs, skip_cases.rs, words_cases.rs, holder_cases.rs) and agrees with
+the second model.
 
 ";
 
@@ -56,26 +59,24 @@ const README_TAIL: &str = "
 Refusal 16 needs more than a million step records. `model gen mixed 1 1000001`
 writes such a file: an opening, 1,000,000 step records and one whole record
 more. Its last two lines are those of records 1000000 (an answer) and
-1000001, `1000001 16 0 0`. With `model gen mixed 1 1000000` the last line is
-that of record 1000000. With one to seven bytes after that file it ends within
-a record and the last line is `1000001 15 0 0`. `model compare PROGRAM` runs
-such files, and those cut at each byte of the opening and of a record, beside
-the files here.
+1000001, `1000001 16 0 0`. With `model gen mixed 1 1000000` the last two lines
+are that of record 1000000 and the words set. With one to seven bytes after that
+file it ends within a record and the last line is `1000001 15 0 0`. `model
+compare PROGRAM` runs such files, and those cut at each byte of the opening and
+of a record, beside the files here.
 ";
 
 /// The first line in which two runs differ, in words.
-pub fn first_difference(due: &[Line], found: &[Line]) -> Option<String> {
-    let text = |lines: &[Line], n: usize| match lines.get(n) {
-        Some(line) => line.text(),
-        None => "no line".to_string(),
-    };
+pub fn first_difference(due: &Printed, found: &Printed) -> Option<String> {
+    let (due, found) = (due.texts(), found.texts());
     let longest = due.len().max(found.len());
     let at = (0..longest).find(|n| due.get(*n) != found.get(*n))?;
-    Some(format!("{} became {}", text(due, at), text(found, at)))
+    let text = |lines: &[String]| lines.get(at).cloned().unwrap_or("no line".to_string());
+    Some(format!("{} became {}", text(&due), text(&found)))
 }
 
 /// A step file: its name, its bytes and its stored lines.
-type Stored = (String, Vec<u8>, Vec<Line>);
+type Stored = (String, Vec<u8>, Printed);
 
 /// The step files of a directory by name.
 fn stored(dir: &Path) -> Result<Vec<Stored>, String> {
@@ -91,7 +92,7 @@ fn stored_one(steps: &Path) -> Result<Stored, String> {
     let file = fs::read(steps).map_err(|e| format!("{name}: {e}"))?;
     let lines = fs::read_to_string(steps.with_extension("lines"));
     let lines = lines.map_err(|e| format!("{name}: {e}"))?;
-    let lines = parse_lines(&lines).ok_or(format!("{name}: lines cannot be read"))?;
+    let lines = Printed::parse(&lines).ok_or(format!("{name}: lines cannot be read"))?;
     Ok((name.to_string(), file, lines))
 }
 
@@ -112,10 +113,10 @@ pub fn check_files(dir: &Path) -> Result<String, String> {
 
 /// What a fault does to a file: nothing, other lines, or lines that break
 /// demand 3, or what is due of tallies, as well.
-pub fn effect(file: &[u8], right: &[Line], fault: Fault) -> &'static str {
+pub fn effect(file: &[u8], right: &Printed, fault: Fault) -> &'static str {
     let faulty = run(file, Some(fault));
     let broken = judge(file, &faulty).is_ok_and(|verdict| !verdict.broken.is_empty());
-    match (faulty == right, broken) {
+    match (faulty == *right, broken) {
         (true, _) => ".",
         (false, false) => "lines",
         (false, true) => "judge",

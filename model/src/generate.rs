@@ -10,7 +10,7 @@ use crate::triggers::{tally_turn, triggers};
 
 /// The profiles; each is described at its function. Tallies are used in racy,
 /// damaged, blend and triggers. The others are those of the benchmark, whose
-/// files stay the same from one rule to the next.
+/// files change only where a rule of locks or barriers asks for it.
 pub const PROFILES: [&str; 10] = [
     "mixed", "locks", "rounds", "soak", "racy", "damaged", "chains", "blend", "quiet", "triggers",
 ];
@@ -88,14 +88,17 @@ fn some_arrive(s: &mut Script, card: u8) {
 }
 
 /// A step with fields that fit and that the state refuses: a card that has
-/// arrived or waits does something, a holder asks for its lock again, or a
-/// card frees what it does not hold.
+/// arrived or waits does something, a holder asks for its lock again or arrives,
+/// or a card frees what it does not hold.
 pub fn out_of_turn(s: &mut Script) {
     let card = s.rng.within(1, s.cards.into()) as u8;
     let lock = s.any_lock();
     let kind = s.rng.within(1, 6) as u8;
     if s.acts(card) && s.holder(lock) == Some(card) {
-        s.acquire(card, lock);
+        match s.rng.percent(30) {
+            true => s.put(ARRIVE, card, 0, 0),
+            false => s.acquire(card, lock),
+        };
     } else if s.acts(card) {
         s.release(card, lock);
     } else {

@@ -1,5 +1,5 @@
-//! "A state is in order when": document 01's list, and what requests L1 and L4
-//! of document 02 add of lines and tallies, asked of the model's state as a
+//! "A state is in order when": document 01's list, and what requests L1, L4 and
+//! L7 of document 02 add of lines, tallies and holders, asked of the model's state as a
 //! check on the model itself. What the model's types exclude (sizes, absent
 //! cards and pages) is not asked.
 
@@ -27,6 +27,7 @@ pub fn broken_clause(model: &Model) -> Option<&'static str> {
         (waiters_not_arrived(model), "no waiter that has arrived"),
         (waiters_not_holders(model), "no waiter that holds the lock"),
         (tallies_fit(model), "16 tallies, adds of present cards"),
+        (holders_not_arrived(model), "no arrived card holds a lock"),
     ];
     let broken = clauses.iter().find(|(holds, _)| !holds);
     broken.map(|(_, clause)| *clause)
@@ -116,6 +117,12 @@ fn dirty_have_room(model: &Model) -> bool {
 fn holders_present(model: &Model) -> bool {
     let mut holders = model.locks.values().filter_map(|lock| lock.holder);
     holders.all(|card| model.processors.contains_key(&card))
+}
+
+/// L7: "A state that has an arrived card holding a lock is no longer in order."
+fn holders_not_arrived(model: &Model) -> bool {
+    let mut holders = model.locks.values().filter_map(|lock| lock.holder);
+    !holders.any(|card| model.barrier.arrived.get(&card) == Some(&true))
 }
 
 fn round_open(model: &Model) -> bool {

@@ -7,14 +7,18 @@
 //! L1 adds the order of a release before what the waiter that it serves does
 //! next; which waiter that is, is counted off from the accepted steps too.
 //! Tallies are no words: they order nothing, and what a read of one must answer
-//! is in `tally_judge.rs`.
+//! is in `tally_judge.rs`. Of the last line the judge asks whether it is due, and
+//! whether the records applied can have set so many words. That nobody arrives
+//! with a lock in hand is asked in `arrival_judge.rs`.
 //!
 //! Two judges of the same claim: `by_relation` builds the order as the
 //! document defines it (bit sets, short lists only), `by_clocks` counts steps
 //! with vectors of its own (any length). Short lists go through both.
 
+use crate::arrival_judge::arrivals_fit;
+use crate::diff::PAGE_WORDS;
 use crate::model::{Step, ACQUIRE, ARRIVE, READ, RELEASE, TALLY_READ, WRITE};
-use crate::stepfile::{record_at, Line};
+use crate::stepfile::{record_at, stops, Line, Printed};
 use crate::tally_judge::{due_by_places, Totals};
 use std::collections::{BTreeMap, BTreeSet};
 
@@ -129,9 +133,11 @@ impl Verdict {
     }
 }
 
-/// Judges a file by its lines; an error if the lines do not fit the file.
-pub fn judge(file: &[u8], lines: &[Line]) -> Result<Verdict, String> {
-    let (cards, list) = accepted_steps(file, lines)?;
+/// Judges a file by what was printed; an error if that does not fit the file.
+pub fn judge(file: &[u8], printed: &Printed) -> Result<Verdict, String> {
+    let (cards, list) = accepted_steps(file, &printed.lines)?;
+    words_fit(printed)?;
+    arrivals_fit(file, &printed.lines)?;
     let verdict = by_clocks(cards, &list);
     if list.len() <= SHORT && by_relation(cards, &list) != verdict {
         return Err("the two judges differ".to_string());
@@ -144,7 +150,7 @@ fn accepted_steps(file: &[u8], lines: &[Line]) -> Result<(usize, Vec<Accepted>),
     let Some(opening) = lines.first() else {
         return Err("no lines".to_string());
     };
-    if opening.answer.refusal != 0 {
+    if opening.refusal != 0 {
         return one_line_only(lines);
     }
     let cards = record_at(file, 0).ok_or("a line for an opening that is not there")?[1];
@@ -154,10 +160,11 @@ fn accepted_steps(file: &[u8], lines: &[Line]) -> Result<(usize, Vec<Accepted>),
     let mut list = Vec::new();
     let mut stopped = false;
     for (number, line) in lines.iter().enumerate().skip(1) {
-        if line.number != number || stopped {
+        // 2 is the opening's alone.
+        if line.number != number || stopped || line.refusal == 2 {
             return Err(format!("line {number} does not fit: {}", line.text()));
         }
-        stopped = matches!(line.answer.refusal, 15 | 16);
+        stopped = stops(line.refusal);
         list.extend(accepted_step(file, line)?);
     }
     let whole = stopped || 8 * lines.len() == file.len();
@@ -173,8 +180,24 @@ fn one_line_only(lines: &[Line]) -> Result<(usize, Vec<Accepted>), String> {
     Err("lines follow a refused opening".to_string())
 }
 
+/// The last line is there exactly if the run did not stop at 2, 15 or 16. Each
+/// record applied has set between one word and a whole page, since one with no
+/// words is skipped; so the counts bound the total.
+fn words_fit(printed: &Printed) -> Result<(), String> {
+    let stopped = printed.lines.iter().any(|line| stops(line.refusal));
+    let counts = printed.lines.iter().map(|line| u64::from(line.count));
+    let applied: u64 = counts.sum();
+    match printed.words {
+        None if stopped => Ok(()),
+        None => Err("the last line, of words, is missing".to_string()),
+        Some(words) if stopped => Err(format!("words {words} behind a line that stops")),
+        Some(words) if (applied..=PAGE_WORDS as u64 * applied).contains(&words) => Ok(()),
+        Some(words) => Err(format!("words {words} by {applied} records")),
+    }
+}
+
 fn accepted_step(file: &[u8], line: &Line) -> Result<Option<Accepted>, String> {
-    if line.answer.refusal != 0 {
+    if line.refusal != 0 {
         return Ok(None);
     }
     let absent = || format!("line {} has no record", line.number);
@@ -182,7 +205,7 @@ fn accepted_step(file: &[u8], line: &Line) -> Result<Option<Accepted>, String> {
     Ok(Some(Accepted {
         number: line.number,
         step: Step::from_bytes(record),
-        answered: line.answer.value,
+        answered: line.value,
     }))
 }
 
@@ -255,8 +278,8 @@ fn served_cards(list: &[Accepted]) -> Vec<Option<u8>> {
 
 /// The releases that serve a waiter, by record number, with its card.
 #[cfg(test)]
-pub fn grants(file: &[u8], lines: &[Line]) -> Result<Vec<(usize, u8)>, String> {
-    let (_, list) = accepted_steps(file, lines)?;
+pub fn grants(file: &[u8], printed: &Printed) -> Result<Vec<(usize, u8)>, String> {
+    let (_, list) = accepted_steps(file, &printed.lines)?;
     let served = served_cards(&list);
     let grants = list.iter().zip(served);
     Ok(grants

@@ -3,6 +3,7 @@
 #![forbid(unsafe_code)]
 
 mod agree;
+mod arrival_judge;
 mod batons;
 mod blend;
 mod case;
@@ -19,9 +20,13 @@ mod equal_tests;
 mod fault;
 mod files;
 mod generate;
+mod holder_cases;
+#[cfg(test)]
+mod holder_tests;
 mod in_order;
 mod judge;
 mod model;
+mod moved;
 mod options;
 mod plan;
 mod program;
@@ -43,6 +48,9 @@ mod triggers;
 mod wait_cases;
 #[cfg(test)]
 mod wait_tests;
+mod words_cases;
+#[cfg(test)]
+mod words_tests;
 
 use options::{number, Options};
 use std::env;
@@ -52,7 +60,8 @@ use std::path::Path;
 use std::process::ExitCode;
 
 const USAGE: &str = "model run < FILE                      the lines of a step file
-model judge < FILE                    demand 3, and tallies, on the model's own lines
+model answers < FILE                  refusal, value, count and words of each record
+model judge < FILE                    demand 3, tallies and words, on the model's own lines
 model judge FILE LINES                the same on the lines given
 model gen PROFILE SEED STEPS > FILE   a step file
 model gen --list                      the profiles
@@ -67,7 +76,7 @@ model coverage [OPTIONS]              what happens in the files compared on
     tests/files, 2100 generated files, seeds from 1, 60 s for each run
 model change check HEX                0 or the refusal
 model change write TWIN COPY ROOM     two pages in hex; the change in hex
-model change apply PAGE HEX           a page in hex; the page after
+model change apply PAGE HEX           a page in hex; words set and the page after
 ";
 
 fn main() -> ExitCode {
@@ -112,8 +121,9 @@ fn print_out(output: &[u8]) -> ExitCode {
 
 fn command(args: &[&str]) -> Result<Vec<u8>, String> {
     let text = match args {
-        ["run"] => stepfile::print_lines(&stepfile::run(&input()?, None)),
+        ["run"] => stepfile::run(&input()?, None).text(),
         ["run", "--fault", name] => run_faulty(name)?,
+        ["answers"] => answers(&input()?),
         ["judge"] => judge_own(&input()?)?,
         ["judge", file, lines] => judge_given(file, lines)?,
         ["gen", "--list"] => profile_list(),
@@ -143,10 +153,15 @@ fn input() -> Result<Vec<u8>, String> {
 
 fn run_faulty(name: &str) -> Result<String, String> {
     let fault = fault::by_name(name).ok_or(format!("no fault {name}"))?;
-    Ok(stepfile::print_lines(&stepfile::run(
-        &input()?,
-        Some(fault),
-    )))
+    Ok(stepfile::run(&input()?, Some(fault)).text())
+}
+
+/// What a run through the library answers: four numbers for each line that a
+/// record of the file has. The refusals 15 and 16 are the run program's.
+fn answers(file: &[u8]) -> String {
+    let answers = stepfile::run_watched(file, None, &mut |_, _| {});
+    let of_records = answers.iter().filter(|a| !matches!(a.refusal, 15 | 16));
+    of_records.map(model::Answer::text).collect()
 }
 
 fn judge_own(file: &[u8]) -> Result<String, String> {
@@ -156,13 +171,13 @@ fn judge_own(file: &[u8]) -> Result<String, String> {
 fn judge_given(file: &str, lines: &str) -> Result<String, String> {
     let file = fs::read(file).map_err(|e| format!("{file}: {e}"))?;
     let text = fs::read_to_string(lines).map_err(|e| format!("{lines}: {e}"))?;
-    let lines = stepfile::parse_lines(&text).ok_or("the lines cannot be read")?;
-    report(&file, &lines)
+    let printed = stepfile::Printed::parse(&text).ok_or("the lines cannot be read")?;
+    report(&file, &printed)
 }
 
 /// Good news on standard output; broken reads as an error.
-fn report(file: &[u8], lines: &[stepfile::Line]) -> Result<String, String> {
-    let found = judge::judge(file, lines)?;
+fn report(file: &[u8], printed: &stepfile::Printed) -> Result<String, String> {
+    let found = judge::judge(file, printed)?;
     let mut text = format!(
         "{} accepted steps, {} reads, {} under the strong half ({} written before), {} of tallies, {} broken\n",
         found.accepted,
@@ -215,7 +230,8 @@ fn change_apply(page: &str, bytes: &str) -> Result<String, String> {
     let mut page = page_from_hex(page)?;
     let done = diff::apply(&mut page, &from_hex(bytes)?);
     let after: Vec<u8> = page.iter().flat_map(|word| word.to_le_bytes()).collect();
-    Ok(change_line(done, &to_hex(&after)))
+    let result = format!("{} {}", done.unwrap_or(0), to_hex(&after));
+    Ok(change_line(done.map(|_| ()), &result))
 }
 
 fn from_hex(text: &str) -> Result<Vec<u8>, String> {

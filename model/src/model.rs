@@ -1,15 +1,17 @@
-//! The rules of document 01 with requests L1, L2, L4 and L5 of document 02:
+//! The rules of document 01 with requests L1, L2 and L4 to L7 of document 02:
 //! opening, the eight kinds of step, their refusals, the lines of cards that
-//! wait for locks, a record for each dirty page at closing, tallies, and
-//! fetches that skip what later records replace (`skip.rs`).
+//! wait for locks, a record for each dirty page at closing, tallies, fetches
+//! that skip what later records replace (`skip.rs`), and the words that they
+//! set (`moved.rs`).
 //!
 //! Written from the documents alone, as plainly as they state them. Quoted
-//! text is theirs; "L1", "L2", "L4" or "L5" stands before that of document 02.
+//! text is theirs; "L1", "L2" or so stands before that of document 02.
 //! A card is a processor here; nothing is encoded.
 
 use crate::clock::{IntervalId, LockId, PageId, ProcId, TallyId, VectorClock};
 use crate::diff::{Diff, PAGE_WORDS};
 use crate::fault::Fault;
+use crate::moved::{handed_on_faulty, words_faulty, Moved};
 use crate::skip::{unreplaced, unreplaced_faulty};
 use std::collections::{BTreeMap, VecDeque};
 
@@ -42,30 +44,48 @@ pub struct Step {
     pub value: u32,
 }
 
-/// "refusal or 0, value, count"
+/// "refusal or 0, value, count", and L6's number of words set.
 #[derive(Clone, Copy, Debug, PartialEq, Eq)]
 pub struct Answer {
     pub refusal: u32,
     pub value: u32,
     pub count: u32,
+    pub words: u32,
 }
 
 impl Answer {
-    /// A refusal: "Value 0, count 0".
+    /// A refusal: "Value 0, count 0", and no words.
     pub fn refused(refusal: u32) -> Answer {
         Answer {
             refusal,
-            value: 0,
-            count: 0,
+            ..Answer::accepted(0, Moved::NOTHING)
         }
     }
 
-    pub fn accepted(value: u32, count: u32) -> Answer {
+    pub fn accepted(value: u32, moved: Moved) -> Answer {
+        let Moved { count, words } = moved;
         Answer {
             refusal: 0,
             value,
             count,
+            words,
         }
+    }
+
+    /// "Where no count is named it is 0."
+    pub fn done() -> Answer {
+        Answer::accepted(0, Moved::NOTHING)
+    }
+
+    /// The four numbers, as a line.
+    pub fn text(&self) -> String {
+        let Answer {
+            refusal,
+            value,
+            count,
+            words,
+        } = self;
+        format!("{refusal} {value} {count} {words}\n")
     }
 }
 
@@ -271,6 +291,11 @@ impl Model {
         self.barrier.arrived[&card]
     }
 
+    /// Whether the card is the holder of any lock, waited for or not.
+    fn holds_any(&self, card: ProcId) -> bool {
+        self.locks.values().any(|lock| lock.holder == Some(card))
+    }
+
     /// The lock in whose line the card stands.
     pub fn awaited_by(&self, card: ProcId) -> Option<LockId> {
         let mut locks = self.locks.iter();
@@ -292,6 +317,9 @@ impl Model {
         if !self.processors.contains_key(&card) {
             return Some(4);
         }
+        if self.fault == Some(Fault::HolderFirst) && step.kind == ARRIVE && self.holds_any(card) {
+            return Some(18);
+        }
         // "5: word or lock absent, or an unused field not 0"; L4: "an absent
         // tally is 5"
         if !self.fields_fit(step) {
@@ -305,7 +333,19 @@ impl Model {
         if self.awaited_by(card).is_some() {
             return Some(17);
         }
+        // L7: "18, an arrival by a holder, after 17"
+        if step.kind == ARRIVE && self.found_holding(card) {
+            return Some(18);
+        }
         self.refusal_by_kind(step, card)
+    }
+
+    /// Whether a card that arrives is found to be a holder.
+    fn found_holding(&self, card: ProcId) -> bool {
+        match self.fault {
+            None => self.holds_any(card),
+            Some(fault) => self.found_holding_faulty(fault, card),
+        }
     }
 
     /// "Object is the word (kinds 1, 2) or lock (3, 4), else 0; value is used
@@ -349,9 +389,13 @@ impl Model {
 impl Model {
     /// Takes or refuses one step. A refused step changes nothing.
     pub fn step(&mut self, step: &Step) -> Answer {
-        match self.refusal(step) {
-            Some(number) => Answer::refused(number),
-            None => self.take(step),
+        if let Some(number) = self.refusal(step) {
+            return Answer::refused(number);
+        }
+        let answer = self.take(step);
+        match self.fault {
+            None => answer,
+            Some(fault) => handed_on_faulty(fault, step.kind, answer),
         }
     }
 
@@ -371,20 +415,20 @@ impl Model {
 
     /// "Read: fetch, then answer the word."
     fn read(&mut self, card: ProcId, word: u16) -> Answer {
-        let count = self.fetch(card, place(word).0);
-        Answer::accepted(self.word(card, word), count)
+        let moved = self.fetch(card, place(word).0);
+        Answer::accepted(self.word(card, word), moved)
     }
 
     /// "Write: fetch; if the page is clean, take the twin; store."
     fn write(&mut self, card: ProcId, word: u16, value: u32) -> Answer {
         let (page, offset) = place(word);
-        let count = self.fetch(card, page);
+        let moved = self.fetch(card, page);
         let copy = self.page_mut(card, page);
         if copy.twin.is_none() {
             copy.twin = Some(copy.words.clone());
         }
         copy.words[offset] = value;
-        Answer::accepted(0, count)
+        Answer::accepted(0, moved)
     }
 
     /// "Acquire: close; the card becomes holder; its clock joins the lock's."
@@ -399,7 +443,7 @@ impl Model {
             None => self.hand_to(card, lock),
             Some(_) => self.lock_mut(lock).line.push_back(card),
         }
-        Answer::accepted(0, 0)
+        Answer::done()
     }
 
     /// "Release: close; holder becomes 0; the lock's clock becomes the
@@ -416,7 +460,7 @@ impl Model {
         if let Some(waiter) = self.lock_mut(lock).line.pop_front() {
             self.hand_to(waiter, lock);
         }
-        Answer::accepted(0, 0)
+        Answer::done()
     }
 
     /// "the card becomes holder; its clock joins the lock's"
@@ -436,14 +480,16 @@ impl Model {
         self.barrier.clock.join(&self.processors[&card].clock);
         self.barrier.arrived.insert(card, true);
         let complete = self.barrier.arrived.values().all(|mark| *mark);
-        let count = if complete { self.complete_round() } else { 0 };
-        Answer::accepted(0, count)
+        match complete {
+            true => Answer::accepted(0, self.complete_round()),
+            false => Answer::done(),
+        }
     }
 
     /// "When the last card arrives, each card's clock joins the barrier's,
     /// which returns to zeros, and marks clear." L4: totals are posted, whether
     /// collection is wanted or not; a collection leaves them alone.
-    fn complete_round(&mut self) -> u32 {
+    fn complete_round(&mut self) -> Moved {
         if self.barrier.wanted || self.fault != Some(Fault::PostWanted) {
             self.post_tallies();
         }
@@ -454,28 +500,27 @@ impl Model {
         for mark in self.barrier.arrived.values_mut() {
             *mark = false;
         }
-        if self.barrier.wanted {
-            self.collect()
-        } else {
-            0
+        match self.barrier.wanted {
+            true => self.collect(),
+            false => Moved::NOTHING,
         }
     }
 
     /// "If collection is wanted, each card upwards fetches each page upwards;
     /// then records go, all clocks (of cards, applied, of locks, of
     /// intervals) become zeros, and the wish clears. The count is the sum of
-    /// these fetches."
-    fn collect(&mut self) -> u32 {
-        let mut count = 0;
+    /// these fetches." L6: so are the words.
+    fn collect(&mut self) -> Moved {
+        let mut moved = Moved::NOTHING;
         for card in self.cards() {
             for page in self.pages() {
-                count += self.fetch(card, page);
+                moved.add(self.fetch(card, page));
             }
         }
         self.records.clear();
         self.zero_clocks();
         self.barrier.wanted = false;
-        count
+        moved
     }
 
     fn zero_clocks(&mut self) {
@@ -494,7 +539,7 @@ impl Model {
     /// "Want collection: set the wish; setting it again changes nothing."
     fn want_collection(&mut self) -> Answer {
         self.barrier.wanted = true;
-        Answer::accepted(0, 0)
+        Answer::done()
     }
 }
 
@@ -505,14 +550,14 @@ impl Model {
     fn add_to_tally(&mut self, card: ProcId, tally: TallyId, value: u32) -> Answer {
         let added = self.sum([self.tallies[&tally].since[&card], value]);
         self.tally_mut(tally).since.insert(card, added);
-        Answer::accepted(0, 0)
+        Answer::done()
     }
 
     /// "Kind 9 answers the posted total plus the card's own adds since,
     /// wrapped, as its value."
     fn read_tally(&self, card: ProcId, tally: TallyId) -> Answer {
         let Tally { posted, since } = &self.tallies[&tally];
-        Answer::accepted(self.sum([*posted, since[&card]]), 0)
+        Answer::accepted(self.sum([*posted, since[&card]]), Moved::NOTHING)
     }
 
     /// "The posted total is the sum of all accepted adds of finished rounds":
@@ -628,51 +673,88 @@ impl Model {
     /// copy alone, until no record is pending, each once; then the applied
     /// clock becomes p's clock." L5: a record that later ones replace, or one
     /// with no words, is skipped; "The count becomes the records applied". The
-    /// applied clock becomes p's clock where all are skipped, too.
-    fn fetch(&mut self, card: ProcId, page: PageId) -> u32 {
+    /// applied clock becomes p's clock where all are skipped, too. L6: the words
+    /// are those that the records applied set.
+    fn fetch(&mut self, card: ProcId, page: PageId) -> Moved {
         let mut pending = self.pending(card, page);
         pending.sort_by_key(|record| self.rank(record));
-        let taken = match self.fault {
-            None => unreplaced(&pending),
-            Some(fault) => unreplaced_faulty(fault, &pending),
+        let moved = match self.fault {
+            None => self.apply_all(card, page, &unreplaced(&pending)),
+            Some(fault) => self.apply_faulty(fault, card, page, pending),
         };
-        match self.fault {
-            None => self.apply_all(card, page, &taken),
-            Some(fault) => self.apply_faulty(fault, card, page, pending, &taken),
-        }
         let known = self.processors[&card].clock.clone();
         self.page_mut(card, page).applied = known;
-        taken.len() as u32
+        moved
     }
 
-    fn apply_all(&mut self, card: ProcId, page: PageId, records: &[Record]) {
+    fn apply_all(&mut self, card: ProcId, page: PageId, records: &[Record]) -> Moved {
         let copy = self.page_mut(card, page);
+        let mut moved = Moved::NOTHING;
         for record in records {
-            record.diff.apply(&mut copy.words);
+            let words = record.diff.apply(&mut copy.words);
+            moved.add(Moved { count: 1, words });
         }
+        moved
     }
 }
 
-// The faulty ways to apply, for `model run --fault NAME` alone.
+// The faulty ways to refuse and to apply, for `model run --fault NAME` alone.
 impl Model {
-    /// `taken` are the pending records that are not skipped.
+    fn found_holding_faulty(&self, fault: Fault, card: ProcId) -> bool {
+        let holds = |lock: &&Lock| lock.holder == Some(card);
+        let mut held = self.locks.values().filter(holds);
+        match fault {
+            Fault::ArriveHolding => false,
+            Fault::LockZeroAlone => self.locks[&LockId(0)].holder == Some(card),
+            Fault::AwaitedAlone => held.any(|lock| !lock.line.is_empty()),
+            // The others show elsewhere.
+            _ => self.holds_any(card),
+        }
+    }
+
+    /// What is told to be moved is what the records not skipped come to, unless
+    /// the fault is one of words.
     fn apply_faulty(
         &mut self,
         fault: Fault,
         card: ProcId,
         page: PageId,
-        mut pending: Vec<Record>,
-        taken: &[Record],
-    ) {
+        pending: Vec<Record>,
+    ) -> Moved {
+        let taken = unreplaced_faulty(fault, &pending);
+        let before = &self.page(card, page).words;
+        let moved = Moved {
+            count: taken.len() as u32,
+            words: words_faulty(fault, &pending, &taken, before),
+        };
         match fault {
-            Fault::ByCard => pending.sort_by_key(|record| (record.card, record.interval)),
-            Fault::Join => pending = Model::joined(&pending),
-            Fault::JoinAll => pending = self.joined_with_applied(card, &pending),
-            Fault::WholePage => return self.copy_whole_page(card, page, &pending),
-            // The others show elsewhere, or in what is skipped.
-            _ => return self.apply_all(card, page, taken),
+            Fault::WholePage => self.copy_whole_page(card, page, &pending),
+            _ => {
+                let records = self.records_faulty(fault, card, pending, taken);
+                self.apply_all(card, page, &records);
+            }
         }
-        self.apply_all(card, page, &pending);
+        moved
+    }
+
+    /// The records that are applied, in their order.
+    fn records_faulty(
+        &self,
+        fault: Fault,
+        card: ProcId,
+        mut pending: Vec<Record>,
+        taken: Vec<Record>,
+    ) -> Vec<Record> {
+        match fault {
+            Fault::ByCard => {
+                pending.sort_by_key(|record| (record.card, record.interval));
+                pending
+            }
+            Fault::Join => Model::joined(&pending),
+            Fault::JoinAll => self.joined_with_applied(card, &pending),
+            // The others show elsewhere, or in what is skipped.
+            _ => taken,
+        }
     }
 
     /// Puts all the changes of a card into the place of its last one. Later

@@ -157,8 +157,8 @@ fn refused_opening(seed: u64) -> Recipe {
         bytes: None,
     };
     let is_refused = |seed: &u64| {
-        let lines = run(&recipe(*seed, 1).bytes(), None);
-        lines.iter().any(|line| line.answer.refusal == 2)
+        let printed = run(&recipe(*seed, 1).bytes(), None);
+        printed.lines.iter().any(|line| line.refusal == 2)
     };
     let found = (seed..).find(is_refused).unwrap_or(seed);
     recipe(found, 50_000)

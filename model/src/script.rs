@@ -1,7 +1,7 @@
 //! A step file in the making. Each step is tried on the model as it is
 //! written, so that a profile can see what was refused and steer. Nobody
-//! hangs: no card waits for a card that has arrived or that waits for it, over
-//! any number of locks. So there is always a card that may act.
+//! hangs: no card waits for one that waits for it, over any number of locks, and
+//! no holder arrives. So there is always a card that may act.
 
 use crate::clock::{LockId, ProcId};
 use crate::model::{Answer, Model, Step, ACQUIRE, ARRIVE, READ, RELEASE, WANT, WRITE};
@@ -82,11 +82,14 @@ impl Script {
         self.put(RELEASE, card, lock, 0)
     }
 
-    /// The card arrives; before that it frees its locks, but now and then
-    /// keeps one for which nobody waits.
+    /// The card arrives; before that it frees its locks. Now and then it tries
+    /// with a lock in hand first, which is refused.
     pub fn arrive(&mut self, card: u8) -> Answer {
-        for lock in self.held_by(card) {
-            if self.acts(card) && (self.waiters(lock) > 0 || self.rng.percent(90)) {
+        if self.acts(card) {
+            for lock in self.held_by(card) {
+                if self.rng.percent(10) {
+                    self.put(ARRIVE, card, 0, 0);
+                }
                 self.release(card, lock);
             }
         }
@@ -192,7 +195,7 @@ impl Script {
     pub fn may_ask(&self, card: u8, lock: u16) -> bool {
         match self.keeper(lock) {
             None => true,
-            Some((keeper, _)) => self.waiting && keeper != card && self.acts(keeper),
+            Some((keeper, _)) => self.waiting && keeper != card,
         }
     }
 

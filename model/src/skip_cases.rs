@@ -30,13 +30,18 @@ pub fn skip_cases() -> Vec<Case> {
     ]
 }
 
-/// A card takes lock 0, stores (word, value), the first with this count, and
-/// frees the lock.
+/// A card takes lock 0, stores (word, value), the first with this count of
+/// records of one word each, and frees the lock.
 fn turn(c: &mut Case, card: u8, count: u32, stores: &[(u16, u32)]) {
+    turn_moving(c, card, (count, count), stores);
+}
+
+/// The same with records of so many words.
+pub fn turn_moving(c: &mut Case, card: u8, moved: (u32, u32), stores: &[(u16, u32)]) {
     c.ok(&[acquire(card, 0)]);
     for (nth, (word, value)) in stores.iter().enumerate() {
-        let count = if nth == 0 { count } else { 0 };
-        c.gives(write(card, *word, *value), 0, count);
+        let (count, words) = if nth == 0 { moved } else { (0, 0) };
+        c.moves(write(card, *word, *value), 0, count, words);
     }
     c.ok(&[release(card, 0)]);
 }
@@ -45,9 +50,9 @@ fn partly_replaced() -> Case {
     let shows = "Word 0 is set by the first record alone: both are applied.";
     let mut c = Case::open("partly-replaced", [3, 1, 1], shows);
     turn(&mut c, 1, 0, &[(0, 11), (1, 12)]);
-    turn(&mut c, 2, 1, &[(1, 22)]);
+    turn_moving(&mut c, 2, (1, 2), &[(1, 22)]);
     c.ok(&[acquire(3, 0)]);
-    c.gives(read(3, 0), 11, 2);
+    c.moves(read(3, 0), 11, 2, 3);
     c.gives(read(3, 1), 22, 0);
     c
 }
@@ -56,8 +61,8 @@ fn replaced_by_two_together() -> Case {
     let shows = "The first record is replaced by the next two together, by neither alone: card 3 applies two of two, card 4 two of three.";
     let mut c = Case::open("replaced-by-two-together", [4, 1, 1], shows);
     turn(&mut c, 1, 0, &[(0, 11), (1, 12)]);
-    turn(&mut c, 2, 1, &[(0, 21)]);
-    turn(&mut c, 3, 2, &[(1, 32)]);
+    turn_moving(&mut c, 2, (1, 2), &[(0, 21)]);
+    turn_moving(&mut c, 3, (2, 3), &[(1, 32)]);
     c.ok(&[acquire(4, 0)]);
     c.gives(read(4, 0), 21, 2);
     c.gives(read(4, 1), 32, 0);
@@ -68,12 +73,12 @@ fn replaced_by_three_together() -> Case {
     let shows = "The first record's three words are set again by three records; while one of them is missing it is applied.";
     let mut c = Case::open("replaced-by-three-together", [6, 1, 1], shows);
     turn(&mut c, 1, 0, &[(3, 13), (4, 14), (31, 15)]);
-    turn(&mut c, 2, 1, &[(31, 25)]);
-    turn(&mut c, 3, 2, &[(3, 33)]);
+    turn_moving(&mut c, 2, (1, 3), &[(31, 25)]);
+    turn_moving(&mut c, 3, (2, 4), &[(3, 33)]);
     c.ok(&[acquire(6, 0)]);
-    c.gives(read(6, 4), 14, 3);
+    c.moves(read(6, 4), 14, 3, 5);
     c.ok(&[release(6, 0)]);
-    turn(&mut c, 4, 3, &[(4, 44)]);
+    turn_moving(&mut c, 4, (3, 5), &[(4, 44)]);
     c.ok(&[acquire(5, 0)]);
     c.gives(read(5, 3), 33, 3);
     c.gives(read(5, 4), 44, 0);
@@ -88,8 +93,8 @@ fn replaced_along_a_chain() -> Case {
     let mut c = Case::open("replaced-along-a-chain", [5, 1, 1], shows);
     turn(&mut c, 1, 0, &[(3, 1)]);
     turn(&mut c, 2, 1, &[(3, 2), (4, 2)]);
-    turn(&mut c, 3, 1, &[(4, 3)]);
-    turn(&mut c, 4, 2, &[(3, 4)]);
+    turn_moving(&mut c, 3, (1, 2), &[(4, 3)]);
+    turn_moving(&mut c, 4, (2, 3), &[(3, 4)]);
     c.ok(&[acquire(5, 0)]);
     c.gives(read(5, 3), 4, 2);
     c.gives(read(5, 4), 3, 0);
@@ -101,8 +106,8 @@ fn replaced_in_a_race() -> Case {
     let mut c = Case::open("replaced-in-a-race", [3, 1, 1], shows);
     c.ok(&[write(1, 0, 5), write(2, 0, 6), write(2, 1, 7)]);
     c.ok(&[arrive(1), arrive(2), arrive(3)]);
-    c.gives(read(3, 0), 6, 1);
-    c.gives(read(1, 0), 6, 1);
+    c.moves(read(3, 0), 6, 1, 2);
+    c.moves(read(1, 0), 6, 1, 2);
     c.gives(read(2, 0), 5, 1);
     c
 }
@@ -141,9 +146,9 @@ fn replaced_before_a_write() -> Case {
     turn(&mut c, 1, 0, &[(0, 11)]);
     turn(&mut c, 2, 1, &[(0, 22)]);
     turn(&mut c, 3, 1, &[(1, 33), (2, 34)]);
-    turn(&mut c, 4, 2, &[(0, 44), (1, 45)]);
+    turn_moving(&mut c, 4, (2, 3), &[(0, 44), (1, 45)]);
     c.ok(&[acquire(1, 0)]);
-    c.gives(read(1, 2), 34, 2);
+    c.moves(read(1, 2), 34, 2, 4);
     c.gives(read(1, 0), 44, 0);
     c.gives(read(1, 1), 45, 0);
     c
@@ -154,9 +159,9 @@ fn replaced_by_later_ones_alone() -> Case {
     let mut c = Case::open("replaced-by-later-ones-alone", [4, 1, 1], shows);
     turn(&mut c, 1, 0, &[(0, 11)]);
     turn(&mut c, 2, 1, &[(0, 21), (1, 22)]);
-    turn(&mut c, 3, 1, &[(0, 31)]);
+    turn_moving(&mut c, 3, (1, 2), &[(0, 31)]);
     c.ok(&[acquire(4, 0)]);
-    c.gives(read(4, 0), 31, 2);
+    c.moves(read(4, 0), 31, 2, 3);
     c.gives(read(4, 1), 22, 0);
     c
 }
@@ -177,10 +182,10 @@ fn replaced_by_skipped_ones() -> Case {
     let shows = "The records that replace one may be skipped themselves: card 3's replaces card 2's and so card 1's too.";
     let mut c = Case::open("replaced-by-skipped-ones", [4, 1, 1], shows);
     turn(&mut c, 1, 0, &[(0, 11), (1, 12)]);
-    turn(&mut c, 2, 1, &[(0, 21), (1, 22), (2, 23)]);
-    turn(&mut c, 3, 1, &[(0, 31), (1, 32), (2, 33)]);
+    turn_moving(&mut c, 2, (1, 2), &[(0, 21), (1, 22), (2, 23)]);
+    turn_moving(&mut c, 3, (1, 3), &[(0, 31), (1, 32), (2, 33)]);
     c.ok(&[acquire(4, 0)]);
-    c.gives(read(4, 1), 32, 1);
+    c.moves(read(4, 1), 32, 1, 3);
     c.gives(read(4, 0), 31, 0);
     c.gives(read(4, 2), 33, 0);
     c
@@ -192,8 +197,8 @@ fn page_then_words(c: &mut Case, words: u16) {
     let page: Vec<(u16, u32)> = (0..32).map(|word| (word, 100 + u32::from(word))).collect();
     turn(c, 1, 0, &page);
     for word in 0..words {
-        let count = u32::from(word == 0);
-        turn(c, 2, count, &[(word, 200 + u32::from(word))]);
+        let moved = if word == 0 { (1, 32) } else { (0, 0) };
+        turn_moving(c, 2, moved, &[(word, 200 + u32::from(word))]);
     }
 }
 
@@ -212,7 +217,7 @@ fn all_words_but_one_replaced() -> Case {
     let mut c = Case::open("all-words-but-one-replaced", [3, 1, 1], shows);
     page_then_words(&mut c, 31);
     c.ok(&[acquire(3, 0)]);
-    c.gives(read(3, 31), 131, 32);
+    c.moves(read(3, 31), 131, 32, 63);
     c.gives(read(3, 30), 230, 0);
     c
 }
@@ -246,20 +251,31 @@ fn equal_store_between() -> Case {
 }
 
 fn same_offset_on_two_pages() -> Case {
-    let shows = "The same offset on another page replaces nothing: card 3 applies a record of each page by reads, cards 1, 2 and 4 four in a collecting round.";
+    let shows = "The same offset on another page replaces nothing: card 3 applies a record of each page. It may not arrive with the lock, so the others stay at the barrier.";
     let mut c = Case::open("same-offset-on-two-pages", [4, 2, 1], shows);
-    turn(&mut c, 1, 0, &[(5, 11)]);
-    turn(&mut c, 2, 0, &[(37, 22)]);
+    same_offset_read(&mut c);
+    c.ok(&[want(3), arrive(1), arrive(2)]);
+    c.refused(arrive(3), 18);
+    c.ok(&[arrive(4)]);
+    for card in [1, 2] {
+        c.refused(read(card, 5), 6);
+        c.refused(read(card, 37), 6);
+    }
+    c.gives(read(3, 5), 11, 0);
+    c.gives(read(3, 37), 22, 0);
+    c.refused(read(4, 5), 6);
+    c.refused(read(4, 37), 6);
+    c
+}
+
+/// Cards 1 and 2 store at one offset of two pages; card 3 takes the lock and
+/// reads both.
+pub fn same_offset_read(c: &mut Case) {
+    turn(c, 1, 0, &[(5, 11)]);
+    turn(c, 2, 0, &[(37, 22)]);
     c.ok(&[acquire(3, 0)]);
     c.gives(read(3, 5), 11, 1);
     c.gives(read(3, 37), 22, 1);
-    c.ok(&[want(3), arrive(1), arrive(2), arrive(3)]);
-    c.gives(arrive(4), 0, 4);
-    for card in 1..=4 {
-        c.gives(read(card, 5), 11, 0);
-        c.gives(read(card, 37), 22, 0);
-    }
-    c
 }
 
 fn replaced_in_the_next_fetch() -> Case {
@@ -302,7 +318,7 @@ fn set_back_to_what_it_was() -> Case {
 
 /// A card makes 63 intervals of one record each, interval n on word n % 32 of
 /// page 0, with the card's own lock free before and after the even ones.
-fn stores_all_over(c: &mut Case, card: u8) {
+pub fn stores_all_over(c: &mut Case, card: u8) {
     let lock = u16::from(card);
     for interval in 1..=63u16 {
         let value = 100 * u32::from(card) + u32::from(interval);
@@ -315,14 +331,16 @@ fn stores_all_over(c: &mut Case, card: u8) {
 }
 
 fn longest_fetch() -> Case {
-    let shows = "127 records of one page in one fetch, a race of equal sums: for each word the larger card's last record is applied, 32 in all.";
+    let shows = "Cards 1 and 2, with 63 records each, may not arrive with their locks, so card 4, which has arrived, fetches nothing.";
     let mut c = Case::open("longest-fetch", [4, 1, 4], shows);
     stores_all_over(&mut c, 1);
     stores_all_over(&mut c, 2);
     c.ok(&[write(3, 7, 301)]);
-    c.ok(&[arrive(1), arrive(2), arrive(3), arrive(4)]);
-    c.gives(read(4, 7), 239, 32);
-    c.gives(read(4, 0), 232, 0);
-    c.gives(read(4, 31), 263, 0);
+    c.refused(arrive(1), 18);
+    c.refused(arrive(2), 18);
+    c.ok(&[arrive(3), arrive(4)]);
+    for word in [7, 0, 31] {
+        c.refused(read(4, word), 6);
+    }
     c
 }

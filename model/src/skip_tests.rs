@@ -11,7 +11,7 @@ use crate::generate::{generate, PROFILES};
 use crate::model::{Model, Record, Step, ARRIVE, READ, WRITE};
 use crate::rng::Rng;
 use crate::skip::{is_replaced, unreplaced, unreplaced_faulty};
-use crate::stepfile::{record_at, run, run_watched, Line};
+use crate::stepfile::{record_at, run, run_watched};
 use crate::tests::{case, entries, state_after};
 
 const SKIP_FAULTS: [Fault; 6] = [
@@ -62,9 +62,9 @@ fn any_page(rng: &mut Rng) -> Vec<u32> {
 /// The page after the records.
 fn applied(records: &[Record], page: &[u32]) -> Vec<u32> {
     let mut page = page.to_vec();
-    records
-        .iter()
-        .for_each(|record| record.diff.apply(&mut page));
+    for record in records {
+        record.diff.apply(&mut page);
+    }
     page
 }
 
@@ -197,7 +197,7 @@ fn lines_set_down_before() {
         ),
     ];
     for (name, due) in lines {
-        let printed: Vec<String> = run(&case(name).file, None).iter().map(Line::text).collect();
+        let printed = run(&case(name).file, None).texts();
         for line in due {
             assert!(printed.iter().any(|found| found == line), "{name}: {line}");
         }
@@ -222,16 +222,16 @@ fn counts_of_all_pending_records() {
     for (name, number, pending, count) in [
         ("case-d", 8, 2, 1),
         ("case-n", 138, 63, 1),
-        ("case-o", 155, 128, 8),
+        ("case-o-collected", 156, 128, 8),
         ("replaced-by-three-together", 19, 4, 3),
         ("replaced-for-one-card-alone", 14, 4, 3),
         ("replaced-in-a-collection", 11, 5, 4),
         ("replaced-word-by-word", 132, 33, 32),
         ("all-words-but-one-replaced", 129, 32, 32),
-        ("longest-fetch", 258, 127, 32),
+        ("longest-fetch-freed", 260, 127, 32),
     ] {
         let file = case(name).file;
-        let found = |fault| run(&file, fault)[number].answer.count;
+        let found = |fault| run(&file, fault).lines[number].count;
         let counts = (found(Some(Fault::CountPending)), found(None));
         assert_eq!(counts, (pending, count), "{name}");
     }
@@ -263,15 +263,14 @@ fn runs_are_those_of_applying_all_but_for_counts() {
     let mut other_counts = 0;
     for (profile, seed, file) in some_files(4, 600) {
         let mut states = Vec::new();
-        let lines = run_watched(&file, None, &mut |model, _| states.push(contents(model)));
+        let right = run_watched(&file, None, &mut |model, _| states.push(contents(model)));
         let mut due = states.into_iter();
         let all = run_watched(&file, Some(Fault::CountPending), &mut |model, number| {
             let same = due.next() == Some(contents(model));
             assert!(same, "{profile} {seed}: record {number}");
         });
-        assert_eq!(lines.len(), all.len());
-        for (line, all) in lines.iter().zip(&all) {
-            let (found, due) = (line.answer, all.answer);
+        assert_eq!(right.len(), all.len());
+        for (found, due) in right.iter().zip(&all) {
             assert_eq!((found.refusal, found.value), (due.refusal, due.value));
             assert!(found.count <= due.count, "{profile} {seed}");
             other_counts += usize::from(found.count < due.count);
@@ -295,8 +294,8 @@ fn counts_are_those_of_the_state_before() {
             }
             before = Some(model.clone());
         });
-        for (line, due) in run(&file, None).iter().zip(due) {
-            let (count, accepted) = (line.answer.count, line.answer.refusal == 0);
+        for (line, due) in run(&file, None).lines.iter().zip(due) {
+            let (count, accepted) = (line.count, line.refusal == 0);
             let due = due.unwrap_or(count);
             assert!(!accepted || count == due, "{profile} {seed}");
         }
@@ -343,7 +342,7 @@ fn each_fault_of_skipping_shows() {
     ];
     for (name, fault, due) in named {
         let case = case(name);
-        let found = effect(&case.file, &case.lines, fault);
+        let found = effect(&case.file, &case.printed(), fault);
         assert_eq!(found, due, "{name} {fault:?}");
     }
     for fault in SKIP_FAULTS {
@@ -376,8 +375,7 @@ fn faults_of_skipping_show_on_two_cards() {
 fn the_generated_files_skip() {
     let mut seen = Seen::default();
     for (_, _, file) in some_files(3, 800) {
-        let lines = run(&file, None);
-        seen.add_skips(&file, &lines);
+        seen.add_skips(&file, &run(&file, None));
     }
     assert!(seen.skipping_reads > 100 && seen.skipping_writes > 100);
     assert!(seen.skipping_collections > 10 && seen.all_skipped > 10);

@@ -1,5 +1,5 @@
 //! "The step file and run program": records of eight bytes in, a line a
-//! record out.
+//! record out, and a last line of the words set.
 
 use crate::fault::Fault;
 use crate::model::{Answer, Model, Step};
@@ -7,43 +7,121 @@ use crate::model::{Answer, Model, Step};
 /// "the 1,000,000th step record"
 pub const MOST_STEPS: usize = 1_000_000;
 /// One more than the largest refusal that a line may have.
-pub const REFUSALS: usize = 18;
+pub const REFUSALS: usize = 19;
 
 /// A printed line: "record number (opening 0), refusal or 0, value, count".
 #[derive(Clone, Copy, Debug, PartialEq, Eq)]
 pub struct Line {
     pub number: usize,
-    pub answer: Answer,
+    pub refusal: u32,
+    pub value: u32,
+    pub count: u32,
 }
 
 impl Line {
-    pub fn refused(number: usize, refusal: u32) -> Line {
-        let answer = Answer::refused(refusal);
-        Line { number, answer }
+    pub fn of(number: usize, answer: &Answer) -> Line {
+        Line {
+            number,
+            refusal: answer.refusal,
+            value: answer.value,
+            count: answer.count,
+        }
     }
 
     pub fn text(&self) -> String {
-        let Answer {
+        let Line {
+            number,
             refusal,
             value,
             count,
-        } = self.answer;
-        format!("{} {} {} {}", self.number, refusal, value, count)
+        } = self;
+        format!("{number} {refusal} {value} {count}")
     }
 
-    /// Reads a line back; nothing if it has not exactly four numbers.
+    /// Reads a line back; nothing if it is not exactly four numbers in base ten.
     pub fn parse(text: &str) -> Option<Line> {
         let numbers: Result<Vec<u32>, _> = text.split(' ').map(str::parse).collect();
         let [number, refusal, value, count] = numbers.ok()?[..] else {
             return None;
         };
-        let answer = Answer {
+        let number = number as usize;
+        let line = Line {
+            number,
             refusal,
             value,
             count,
         };
-        let number = number as usize;
-        Some(Line { number, answer })
+        Some(line).filter(|line| line.text() == text)
+    }
+}
+
+/// What a run prints: a line a record and, if it is due, the last line.
+#[derive(Clone, Debug, PartialEq, Eq)]
+pub struct Printed {
+    pub lines: Vec<Line>,
+    /// The total of the last line.
+    pub words: Option<u64>,
+}
+
+/// "After 2, 15 or 16 it stops."
+pub fn stops(refusal: u32) -> bool {
+    matches!(refusal, 2 | 15 | 16)
+}
+
+fn words_text(total: u64) -> String {
+    format!("words {total}")
+}
+
+/// Reads the last line back; nothing if it is not exactly that word, a space and
+/// a number in base ten.
+fn parse_words(text: &str) -> Option<u64> {
+    let total = text.strip_prefix("words ")?.parse().ok()?;
+    Some(total).filter(|total| words_text(*total) == text)
+}
+
+/// The words set over the run.
+pub fn total_words(answers: &[Answer]) -> u64 {
+    answers.iter().map(|answer| u64::from(answer.words)).sum()
+}
+
+impl Printed {
+    /// L6 of document 02: "A run that did not stop at 2, 15 or 16 ends with one
+    /// extra line, "words", a space and the total".
+    pub fn of(answers: &[Answer]) -> Printed {
+        let numbered = answers.iter().enumerate();
+        let stopped = answers.iter().any(|answer| stops(answer.refusal));
+        Printed {
+            lines: numbered.map(|(n, answer)| Line::of(n, answer)).collect(),
+            words: (!stopped).then(|| total_words(answers)),
+        }
+    }
+
+    /// The lines without their ends.
+    pub fn texts(&self) -> Vec<String> {
+        let lines = self.lines.iter().map(Line::text);
+        lines.chain(self.words.map(words_text)).collect()
+    }
+
+    pub fn text(&self) -> String {
+        let mut text = String::new();
+        let mut put = |line: &str| {
+            text.push_str(line);
+            text.push('\n');
+        };
+        self.lines.iter().for_each(|line| put(&line.text()));
+        self.words.iter().for_each(|total| put(&words_text(*total)));
+        text
+    }
+
+    /// Reads what was printed back; nothing if a line cannot be read.
+    pub fn parse(text: &str) -> Option<Printed> {
+        let mut texts: Vec<&str> = text.lines().collect();
+        let words = texts.last().and_then(|last| parse_words(last));
+        if words.is_some() {
+            texts.pop();
+        }
+        let lines: Option<Vec<Line>> = texts.into_iter().map(Line::parse).collect();
+        lines.map(|lines| Printed { lines, words })
     }
 }
 
@@ -73,34 +151,34 @@ pub fn record_at(file: &[u8], number: usize) -> Option<[u8; 8]> {
     bytes.try_into().ok()
 }
 
-/// Runs a file. `seen` is shown the state after the opening and each step.
+/// Runs a file; an answer for each line. `seen` is shown the state after the
+/// opening and each step.
 pub fn run_watched(
     file: &[u8],
     fault: Option<Fault>,
     seen: &mut dyn FnMut(&Model, usize),
-) -> Vec<Line> {
+) -> Vec<Answer> {
     // "15: it ends within a record, or before the opening"
     let Some(opening) = record_at(file, 0) else {
-        return vec![Line::refused(0, 15)];
+        return vec![Answer::refused(15)];
     };
     let mut model = match Model::open(opening, fault) {
         Ok(model) => model,
-        Err(answer) => return vec![Line { number: 0, answer }],
+        Err(answer) => return vec![answer],
     };
-    let mut lines = vec![Line::refused(0, 0)];
+    let mut answers = vec![Answer::done()];
     seen(&model, 0);
     let mut number = 1;
     while 8 * number < file.len() {
         let answer = answer_record(&mut model, file, number);
-        lines.push(Line { number, answer });
-        // "After 2, 15 or 16 it stops."
-        if matches!(answer.refusal, 15 | 16) {
+        answers.push(answer);
+        if stops(answer.refusal) {
             break;
         }
         seen(&model, number);
         number += 1;
     }
-    lines
+    answers
 }
 
 /// The answer to step record `number`, of which at least one byte is there.
@@ -113,20 +191,11 @@ fn answer_record(model: &mut Model, file: &[u8], number: usize) -> Answer {
     }
 }
 
-pub fn run(file: &[u8], fault: Option<Fault>) -> Vec<Line> {
-    run_watched(file, fault, &mut |_, _| {})
-}
-
-/// The lines as printed.
-pub fn print_lines(lines: &[Line]) -> String {
-    let mut text = String::new();
-    for line in lines {
-        text.push_str(&line.text());
-        text.push('\n');
+pub fn run(file: &[u8], fault: Option<Fault>) -> Printed {
+    let answers = run_watched(file, fault, &mut |_, _| {});
+    let mut printed = Printed::of(&answers);
+    if fault == Some(Fault::WordsAlways) {
+        printed.words = Some(total_words(&answers));
     }
-    text
-}
-
-pub fn parse_lines(text: &str) -> Option<Vec<Line>> {
-    text.lines().map(Line::parse).collect()
+    printed
 }

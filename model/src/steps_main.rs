@@ -7,6 +7,8 @@
 // Of the second model: the fields of a step, and the judge with what it rests
 // on. The tools use a part of these.
 #[allow(dead_code)]
+mod arrival_judge;
+#[allow(dead_code)]
 mod clock;
 #[allow(dead_code)]
 mod diff;
@@ -16,6 +18,8 @@ mod fault;
 mod judge;
 #[allow(dead_code)]
 mod model;
+#[allow(dead_code)]
+mod moved;
 #[allow(dead_code)]
 mod skip;
 #[allow(dead_code)]

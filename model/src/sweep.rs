@@ -7,11 +7,13 @@ use crate::files::effect;
 use crate::generate::{generate, PROFILES};
 use crate::in_order::broken_clause;
 use crate::judge::{judge, Verdict};
-use crate::stepfile::{run, run_watched, Line, REFUSALS};
+use crate::stepfile::{run, run_watched, stops, Line, Printed, REFUSALS};
 
 /// What the files of one profile came to.
 struct Tally {
     lines: usize,
+    /// The totals of the last lines, of those files that have one.
+    words: u64,
     /// How often each refusal was printed.
     refusals: [usize; REFUSALS],
     /// The smallest share of accepted steps in a file, of 100.
@@ -36,6 +38,7 @@ pub fn sweep(seeds: u64, steps: usize) -> Result<String, String> {
 fn head() -> String {
     let columns = [
         "profile: lines",
+        "words set",
         "least share of accepted steps in a file",
         "accepted reads",
         "reads under the strong half (written before)",
@@ -48,8 +51,9 @@ fn head() -> String {
 fn row(profile: &str, tally: &Tally) -> String {
     let v = &tally.verdict;
     let found = format!(
-        "{profile}: {} lines, {:.1} % or more accepted, {} reads, {} strong ({} written), {} of tallies, {} broken",
+        "{profile}: {} lines, {} words, {:.1} % or more accepted, {} reads, {} strong ({} written), {} of tallies, {} broken",
         tally.lines,
+        tally.words,
         tally.least_accepted,
         v.reads,
         v.strong,
@@ -69,6 +73,7 @@ fn by_refusal(counts: &[usize; REFUSALS]) -> String {
 fn sweep_profile(profile: &str, seeds: u64, steps: usize) -> Result<Tally, String> {
     let mut tally = Tally {
         lines: 0,
+        words: 0,
         refusals: [0; REFUSALS],
         least_accepted: 100.0,
         verdict: Verdict::default(),
@@ -76,32 +81,32 @@ fn sweep_profile(profile: &str, seeds: u64, steps: usize) -> Result<Tally, Strin
     for seed in 0..seeds {
         let file = generate(profile, seed, steps).ok_or("no such profile")?;
         let name = |wrong: String| format!("{profile} {seed} {steps}: {wrong}");
-        let lines = run_in_order(&file).map_err(name)?;
-        let verdict = judge(&file, &lines).map_err(name)?;
-        tally.add(&lines, verdict);
+        let printed = run_in_order(&file).map_err(name)?;
+        let verdict = judge(&file, &printed).map_err(name)?;
+        tally.add(&printed, verdict);
     }
     Ok(tally)
 }
 
 /// Runs a file; an error if a state on the way is not in order.
-fn run_in_order(file: &[u8]) -> Result<Vec<Line>, String> {
+fn run_in_order(file: &[u8]) -> Result<Printed, String> {
     let mut wrong = None;
-    let lines = run_watched(file, None, &mut |model, number| {
+    let answers = run_watched(file, None, &mut |model, number| {
         if let (None, Some(clause)) = (&wrong, broken_clause(model)) {
             wrong = Some(format!("after record {number} not in order: {clause}"));
         }
     });
     match wrong {
         Some(wrong) => Err(wrong),
-        None => Ok(lines),
+        None => Ok(Printed::of(&answers)),
     }
 }
 
 /// How many of 100 steps that were run are accepted; all, if none was run.
 pub fn accepted_share(lines: &[Line]) -> f64 {
-    let is_step = |line: &&Line| line.number > 0 && !matches!(line.answer.refusal, 15 | 16);
+    let is_step = |line: &&Line| line.number > 0 && !stops(line.refusal);
     let steps: Vec<&Line> = lines.iter().filter(is_step).collect();
-    let accepted = steps.iter().filter(|line| line.answer.refusal == 0).count();
+    let accepted = steps.iter().filter(|line| line.refusal == 0).count();
     match steps.len() {
         0 => 100.0,
         run => 100.0 * accepted as f64 / run as f64,
@@ -109,10 +114,12 @@ pub fn accepted_share(lines: &[Line]) -> f64 {
 }
 
 impl Tally {
-    fn add(&mut self, lines: &[Line], verdict: Verdict) {
+    fn add(&mut self, printed: &Printed, verdict: Verdict) {
+        let lines = &printed.lines;
         self.lines += lines.len();
+        self.words += printed.words.unwrap_or(0);
         for line in lines {
-            self.refusals[line.answer.refusal as usize] += 1;
+            self.refusals[line.refusal as usize] += 1;
         }
         self.least_accepted = self.least_accepted.min(accepted_share(lines));
         self.verdict.reads += verdict.reads;

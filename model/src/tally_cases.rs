@@ -78,7 +78,7 @@ fn tally_collected() -> Case {
 }
 
 fn tally_orders_nothing() -> Case {
-    let shows = "A tally tells nothing of card 1's store; a waiting card's add is 17 and not counted; after the round both are there.";
+    let shows = "A tally tells nothing of card 1's store; a waiting card's add is 17 and not counted; card 2 may not arrive with the lock, so it reads its own adds alone.";
     let mut c = Case::open("tally-orders-nothing", [3, 1, 1], shows);
     c.ok(&[write(1, 0, 9), add(1, 0, 1)]);
     c.gives(look(2, 0), 0, 0);
@@ -86,9 +86,10 @@ fn tally_orders_nothing() -> Case {
     c.ok(&[acquire(3, 0), acquire(2, 0)]);
     c.refused(add(2, 0, 5), 17);
     c.ok(&[release(3, 0), add(2, 0, 5)]);
-    c.ok(&[arrive(1), arrive(3), arrive(2)]);
-    c.gives(look(2, 0), 6, 0);
-    c.gives(read(2, 0), 9, 1);
+    c.ok(&[arrive(1), arrive(3)]);
+    c.refused(arrive(2), 18);
+    c.gives(look(2, 0), 5, 0);
+    c.ok(&[read(2, 0)]);
     c
 }
 
@@ -167,7 +168,7 @@ fn refusal_6_tally() -> Case {
 }
 
 fn refusal_17_tally() -> Case {
-    let shows = "Refusal 17: a waiting card's adds and reads of tallies, after 3 to 5; what it added before it asked stays its own.";
+    let shows = "Refusal 17: a waiting card's adds and reads of tallies, after 3 to 5; what it added before it asked stays its own. It may not arrive with the lock, so the round does not end.";
     let mut c = Case::open("refusal-17-tally", [2, 1, 1], shows);
     c.ok(&[acquire(1, 0), add(2, 7, 3), acquire(2, 0)]);
     c.refused(add(2, 7, 100), 17);
@@ -180,8 +181,9 @@ fn refusal_17_tally() -> Case {
     c.ok(&[add(2, 7, 4)]);
     c.gives(look(2, 7), 7, 0);
     c.gives(look(1, 7), 10, 0);
-    c.ok(&[arrive(1), arrive(2)]);
-    c.gives(look(1, 7), 17, 0);
+    c.ok(&[arrive(1)]);
+    c.refused(arrive(2), 18);
+    c.refused(look(1, 7), 6);
     c
 }
 
@@ -386,7 +388,7 @@ fn tally_closes_nothing() -> Case {
     c.ok(&[acquire(1, 0), write(1, 0, 1), add(1, 0, 1)]);
     c.gives(look(1, 0), 1, 0);
     c.ok(&[write(1, 1, 2), release(1, 0), acquire(2, 0)]);
-    c.gives(read(2, 1), 2, 1);
+    c.moves(read(2, 1), 2, 1, 2);
     c.gives(read(2, 0), 1, 0);
     c
 }
@@ -424,7 +426,7 @@ fn tally_rounds_by_turns() -> Case {
 }
 
 fn tally_no_word() -> Case {
-    let shows = "Tally 3 is not word 3 and not lock 3: a store, an add and a lock of the same number leave each other alone.";
+    let shows = "Tally 3 is not word 3 and not lock 3: a store, an add and a lock of the same number leave each other alone; card 2 may not arrive with the lock.";
     let mut c = Case::open("tally-no-word", [2, 1, 4], shows);
     c.ok(&[write(1, 3, 70), add(1, 3, 8), acquire(1, 3)]);
     c.gives(read(1, 3), 70, 0);
@@ -432,9 +434,10 @@ fn tally_no_word() -> Case {
     c.ok(&[add(2, 3, 1), release(1, 3), acquire(2, 3)]);
     c.gives(look(2, 3), 1, 0);
     c.gives(read(2, 3), 70, 1);
-    c.ok(&[arrive(1), arrive(2)]);
-    c.gives(look(1, 3), 9, 0);
-    c.gives(read(1, 3), 70, 0);
+    c.ok(&[arrive(1)]);
+    c.refused(arrive(2), 18);
+    c.refused(look(1, 3), 6);
+    c.refused(read(1, 3), 6);
     c.gives(read(2, 3), 70, 0);
     c
 }

@@ -7,8 +7,8 @@ use crate::fault::Fault;
 use crate::generate::{generate, PROFILES};
 use crate::in_order::broken_clause;
 use crate::judge::{judge, Broken, Rule};
-use crate::model::{Model, Step, ARRIVE, TALLIES, TALLY_ADD, TALLY_READ, WRAP};
-use crate::stepfile::{record_at, run, run_watched, Line};
+use crate::model::{Answer, Model, Step, ARRIVE, TALLIES, TALLY_ADD, TALLY_READ, WRAP};
+use crate::stepfile::{record_at, run, run_watched, Line, REFUSALS};
 use crate::tests::{case, state_after, with_value};
 
 const TALLY_FAULTS: [Fault; 5] = [
@@ -130,16 +130,15 @@ fn tallies_leave_all_other_steps_alone() {
         let (opening, steps) = file.split_at(file.len().min(8));
         let others = steps.chunks(8).filter(|record| !is_tally(record));
         let without = [opening, &others.collect::<Vec<_>>().concat()].concat();
-        let answers = |file: &[u8], lines: Vec<Line>| -> Vec<crate::model::Answer> {
-            let others = lines.iter().filter(|line| {
-                let record = file.get(8 * line.number..).unwrap_or_default();
-                line.number == 0 || !record.first().is_some_and(|kind| matches!(*kind, 8 | 9))
+        let answers = |file: &[u8]| -> Vec<Answer> {
+            let all = run_watched(file, None, &mut |_, _| {});
+            let others = all.iter().enumerate().filter(|(number, _)| {
+                let record = file.get(8 * number..).unwrap_or_default();
+                *number == 0 || !record.first().is_some_and(|kind| matches!(*kind, 8 | 9))
             });
-            others.map(|line| line.answer).collect()
+            others.map(|(_, answer)| *answer).collect()
         };
-        let due = answers(&file, run(&file, None));
-        let found = answers(&without, run(&without, None));
-        assert!(due == found, "{profile} {seed}");
+        assert!(answers(&file) == answers(&without), "{profile} {seed}");
     }
 }
 
@@ -213,7 +212,7 @@ fn the_judge_sees_wrong_totals() {
         ("tally-wraps", 8, 1),
         ("tally-wraps", 11, 6),
         ("tally-collected", 10, 30),
-        ("tally-orders-nothing", 13, 6),
+        ("tally-told-by-the-round", 14, 6),
     ] {
         assert_eq!(with_value(name, number, due), Ok(0), "{name} {number}");
         for wrong in [due.wrapping_add(1), due.wrapping_sub(1)] {
@@ -221,9 +220,9 @@ fn the_judge_sees_wrong_totals() {
         }
     }
     let case = case("tally-wraps");
-    let mut lines = case.lines;
-    lines[9].answer.value = 3;
-    let verdict = judge(&case.file, &lines).expect("fits");
+    let mut printed = case.printed();
+    printed.lines[9].value = 3;
+    let verdict = judge(&case.file, &printed).expect("fits");
     let broken = Broken {
         number: 9,
         object: 0,
@@ -243,10 +242,10 @@ fn the_judge_sees_wrong_totals() {
 #[test]
 fn the_judge_counts_accepted_adds_alone() {
     let case = case("refusal-6-tally");
-    let mut lines = case.lines;
-    assert_eq!(lines[3].answer.refusal, 6);
-    lines[3].answer.refusal = 0;
-    let broken = judge(&case.file, &lines).expect("fits").broken;
+    let mut printed = case.printed();
+    assert_eq!(printed.lines[3].refusal, 6);
+    printed.lines[3].refusal = 0;
+    let broken = judge(&case.file, &printed).expect("fits").broken;
     let due: Vec<(usize, Rule)> = broken.into_iter().map(|b| (b.number, b.rule)).collect();
     let with_100 = [9, 10, 13].map(|number| (number, Rule::Tally(111)));
     assert_eq!(due, with_100);
@@ -257,16 +256,17 @@ fn the_judge_counts_accepted_adds_alone() {
 #[test]
 fn the_judge_sees_wrong_totals_in_generated_files() {
     let file = generate("triggers", 3, 6000).expect("profile");
-    let mut lines = run(&file, None);
-    let sound = judge(&file, &lines).expect("fits");
+    let mut printed = run(&file, None);
+    let sound = judge(&file, &printed).expect("fits");
     assert!(sound.broken.is_empty() && sound.tally_reads > 500);
     let is_look = |line: &&mut Line| {
-        line.answer.refusal == 0 && file[8 * line.number] == TALLY_READ && line.number > 0
+        line.refusal == 0 && file[8 * line.number] == TALLY_READ && line.number > 0
     };
-    let line = lines.iter_mut().rev().find(is_look).expect("a read");
-    line.answer.value ^= 1 << 31;
+    let lines = printed.lines.iter_mut().rev();
+    let line = lines.into_iter().find(is_look).expect("a read");
+    line.value ^= 1 << 31;
     let number = line.number;
-    let broken = judge(&file, &lines).expect("fits").broken;
+    let broken = judge(&file, &printed).expect("fits").broken;
     assert!(broken.len() == 1 && broken[0].number == number);
 }
 
@@ -308,14 +308,14 @@ fn broken_reads(file: &[u8], fault: Fault) -> usize {
 #[test]
 fn a_triggers_file_has_all_of_tallies() {
     let mut seen = Seen::default();
-    let mut refusals = [0; 18];
+    let mut refusals = [0; REFUSALS];
     let mut wrapped = 0;
     for seed in 0..10 {
         let file = generate("triggers", seed, 2000).expect("profile");
-        let lines = run(&file, None);
-        for line in &lines[1..] {
+        let printed = run(&file, None);
+        for line in &printed.lines[1..] {
             if matches!(file[8 * line.number], TALLY_ADD | TALLY_READ) {
-                refusals[line.answer.refusal as usize] += 1;
+                refusals[line.refusal as usize] += 1;
             }
         }
         run_watched(&file, None, &mut |model, _| {
@@ -325,7 +325,7 @@ fn a_triggers_file_has_all_of_tallies() {
             });
             wrapped += usize::from(own.any(|sum| sum >= WRAP));
         });
-        seen.add_file(&file, &lines);
+        seen.add_file(&file, &printed);
     }
     assert!(seen.adds > 5000 && seen.looks > 2000 && seen.look_values > 1000);
     assert!(wrapped > 0 && seen.waits > 0 && seen.collections > 0);
@@ -343,7 +343,7 @@ fn the_benchmark_profiles_use_no_tallies() {
         assert!(PROFILES.contains(&profile));
         for seed in 1..=4 {
             let file = generate(profile, seed, 3000).expect("profile");
-            for line in run(&file, None) {
+            for line in run(&file, None).lines {
                 let step = record_at(&file, line.number).map(Step::from_bytes);
                 let step = step.filter(|_| line.number > 0);
                 if let Some(Step {
@@ -354,8 +354,8 @@ fn the_benchmark_profiles_use_no_tallies() {
                 }) = step
                 {
                     let nothing = (object, value) == (0, 0);
-                    assert!(nothing || line.answer.refusal == 4, "{profile} {seed}");
-                    assert_eq!(line.answer.value, 0);
+                    assert!(nothing || line.refusal == 4, "{profile} {seed}");
+                    assert_eq!(line.value, 0);
                 }
             }
         }

@@ -1,14 +1,15 @@
 //! The starred bench cases asked of the model, and the judge's own tests. The
 //! tests of cards that wait are in `wait_tests.rs`, those of stores that alter
 //! nothing in `equal_tests.rs`, those of tallies in `tally_tests.rs`, those of
-//! skipped records in `skip_tests.rs`.
+//! skipped records in `skip_tests.rs`, those of words set in `words_tests.rs`,
+//! those of holders that arrive in `holder_tests.rs`.
 
 use crate::clock::{ProcId, VectorClock};
 use crate::diff;
 use crate::generate::{generate, PROFILES};
 use crate::judge::judge;
 use crate::model::{Model, Step};
-use crate::stepfile::{parse_lines, print_lines, run};
+use crate::stepfile::{run, run_watched, Printed};
 
 const LISTING_A: &str = "0 0 0 0
 1 0 0 0
@@ -22,7 +23,8 @@ const LISTING_A: &str = "0 0 0 0
 9 0 0 0
 10 6 0 0
 11 0 0 0
-12 0 0 0
+12 18 0 0
+words 1
 ";
 
 pub fn case(name: &str) -> crate::case::Case {
@@ -44,13 +46,15 @@ pub fn entries(clock: &VectorClock, cards: u8) -> Vec<u32> {
 
 #[test]
 fn listing_a_prints_its_lines() {
-    assert_eq!(print_lines(&run(&case("listing-a").file, None)), LISTING_A);
+    assert_eq!(run(&case("listing-a").file, None).text(), LISTING_A);
 }
 
 #[test]
-fn every_named_file_prints_the_lines_written_by_hand() {
+fn every_named_file_gets_the_answers_written_by_hand() {
     for case in crate::cases::all_cases() {
-        assert_eq!(run(&case.file, None), case.lines, "{}", case.name);
+        let answers = run_watched(&case.file, None, &mut |_, _| {});
+        assert_eq!(answers, case.answers, "{}", case.name);
+        assert_eq!(run(&case.file, None), case.printed(), "{}", case.name);
     }
 }
 
@@ -92,7 +96,7 @@ fn case_f_one_interval() {
 fn cases_n_and_o_counts() {
     assert_eq!(state_after("refusal-9").own_entry(ProcId(1)), 63);
     assert_eq!(state_after("case-n").own_entry(ProcId(1)), 1);
-    assert_eq!(state_after("refusal-order").records_and_dirty(), 128);
+    assert_eq!(state_after("refusal-order-freed").records_and_dirty(), 128);
     assert_eq!(state_after("case-o-equal").records.len(), 128);
 }
 
@@ -107,7 +111,7 @@ fn case_g() {
     assert_eq!(room[..5], [2, 0, 2, 31, 1]);
     assert_eq!(room[13..], [1, 2, 3, 4, 9, 9, 9]);
     let mut back = twin;
-    assert_eq!(diff::apply(&mut back, &room[..17]), Ok(()));
+    assert_eq!(diff::apply(&mut back, &room[..17]), Ok(3));
     assert_eq!(back, copy);
     assert_eq!(diff::write(&twin, &copy, &mut room[..16]), Err(13));
     assert_eq!(diff::write(&twin[..31], &copy, &mut []), Err(14));
@@ -174,9 +178,9 @@ fn clocks() {
 /// How many broken reads the judge finds with the value of one line changed.
 pub fn with_value(name: &str, number: usize, value: u32) -> Result<usize, String> {
     let case = case(name);
-    let mut lines = case.lines;
-    lines[number].answer.value = value;
-    judge(&case.file, &lines).map(|verdict| verdict.broken.len())
+    let mut printed = case.printed();
+    printed.lines[number].value = value;
+    judge(&case.file, &printed).map(|verdict| verdict.broken.len())
 }
 
 #[test]
@@ -197,26 +201,29 @@ fn the_judge_sees_wrong_values() {
 #[test]
 fn the_judge_sees_lines_that_do_not_fit() {
     let case = case("listing-a");
-    let judged = |text: &str| judge(&case.file, &parse_lines(text).expect("lines"));
+    let judged = |text: &str| judge(&case.file, &Printed::parse(text).expect("lines"));
     assert!(judged(LISTING_A).is_ok());
     assert!(judged("").is_err());
-    assert!(judged("0 0 0 0\n").is_err());
-    assert!(judged(&format!("{LISTING_A}13 0 0 0\n")).is_err());
+    assert!(judged("0 0 0 0\nwords 0\n").is_err());
+    let further = LISTING_A.replace("words 1", "13 0 0 0\nwords 1");
+    assert!(judged(&further).is_err());
     assert!(judged(&LISTING_A.replace("5 0 0 0", "6 0 0 0")).is_err());
+    assert!(judged(&LISTING_A.replace("6 7 0 0", "6 2 0 0")).is_err());
 }
 
 /// The value of a lost store or an invented one is seen in long runs too.
 #[test]
 fn the_judge_sees_wrong_values_in_generated_files() {
     let file = generate("locks", 3, 4000).expect("profile");
-    let mut lines = run(&file, None);
-    let sound = judge(&file, &lines).expect("fits");
+    let mut printed = run(&file, None);
+    let sound = judge(&file, &printed).expect("fits");
     assert!(sound.broken.is_empty() && sound.strong == sound.reads);
-    let written = |line: &&mut crate::stepfile::Line| line.answer.value != 0;
-    let line = lines.iter_mut().rev().find(written).expect("a read");
-    line.answer.value ^= 1 << 30;
+    let written = |line: &&mut crate::stepfile::Line| line.value != 0;
+    let line = printed.lines.iter_mut().rev().find(written);
+    let line = line.expect("a read");
+    line.value ^= 1 << 30;
     let number = line.number;
-    let broken = judge(&file, &lines).expect("fits").broken;
+    let broken = judge(&file, &printed).expect("fits").broken;
     assert!(broken.len() == 1 && broken[0].number == number);
 }
 
@@ -249,17 +256,22 @@ fn faults_pass_on_two_cards() {
     }
 }
 
+/// The last two lines of a file.
+pub fn last_two(file: &[u8]) -> Vec<String> {
+    let mut lines = run(file, None).texts();
+    lines.split_off(lines.len().saturating_sub(2))
+}
+
 /// Refusals 15 and 16 behind the 1,000,000th step record.
 #[test]
 fn the_end_of_a_long_file() {
     let mut file = vec![0, 1, 1, 1, 0, 0, 0, 0];
     file.resize(8 * 1_000_001, 0);
-    let last = |file: &[u8]| run(file, None).last().expect("lines").text();
-    assert_eq!(last(&file), "1000000 3 0 0");
+    assert_eq!(last_two(&file), ["1000000 3 0 0", "words 0"]);
     file.extend([0; 7]);
-    assert_eq!(last(&file), "1000001 15 0 0");
+    assert_eq!(last_two(&file), ["1000000 3 0 0", "1000001 15 0 0"]);
     file.extend([0; 1]);
-    assert_eq!(last(&file), "1000001 16 0 0");
+    assert_eq!(last_two(&file), ["1000000 3 0 0", "1000001 16 0 0"]);
     file.extend([0; 5]);
-    assert_eq!(last(&file), "1000001 16 0 0");
+    assert_eq!(last_two(&file), ["1000000 3 0 0", "1000001 16 0 0"]);
 }

@@ -108,13 +108,13 @@ fn hang_two_locks() -> Case {
 }
 
 fn hang_arrived_holder() -> Case {
-    let shows = "The holder arrives while card 2 waits: 6 and 17 for good.";
+    let shows = "The holder's arrival while card 2 waits is refused, so nobody hangs: card 1 frees the lock, and card 2 has it.";
     let mut c = Case::open("hang-arrived-holder", [2, 1, 1], shows);
-    c.ok(&[acquire(1, 0), acquire(2, 0), arrive(1)]);
-    c.refused(release(1, 0), 6);
-    c.refused(arrive(2), 17);
-    c.refused(read(2, 0), 17);
-    c.refused(read(1, 0), 6);
+    c.ok(&[acquire(1, 0), acquire(2, 0)]);
+    c.refused(arrive(1), 18);
+    c.ok(&[release(1, 0)]);
+    c.refused(arrive(2), 18);
+    c.ok(&[read(2, 0), read(1, 0)]);
     c
 }
 

@@ -9,7 +9,7 @@ use crate::in_order::broken_clause;
 use crate::judge::{grants, judge};
 use crate::model::{Model, Step, ACQUIRE, ARRIVE, READ, RELEASE, WRITE};
 use crate::rng::Rng;
-use crate::stepfile::{parse_lines, record_at, run, run_watched};
+use crate::stepfile::{record_at, run, run_watched, Printed};
 use crate::sweep::accepted_share;
 use crate::tests::{case, entries, state_after, with_value};
 
@@ -171,8 +171,8 @@ fn a_grant_orders_nothing_for_the_others() {
     }
     let first: String = (0..5).map(|number| format!("{number} 0 0 0\n")).collect();
     let judged = |third: u32, second: u32| {
-        let text = format!("{first}5 0 {third} 0\n6 0 {second} 1\n");
-        let verdict = judge(&file, &parse_lines(&text).expect("lines")).expect("fits");
+        let text = format!("{first}5 0 {third} 0\n6 0 {second} 1\nwords 1\n");
+        let verdict = judge(&file, &Printed::parse(&text).expect("lines")).expect("fits");
         (verdict.strong, verdict.broken.len())
     };
     assert_eq!(judged(0, 9), (1, 0));
@@ -186,7 +186,7 @@ fn a_grant_orders_nothing_for_the_others() {
 fn grants_are_counted_off() {
     let granted = |name: &str| {
         let case = case(name);
-        grants(&case.file, &case.lines).expect("fits")
+        grants(&case.file, &case.printed()).expect("fits")
     };
     assert_eq!(granted("case-d"), []);
     assert_eq!(granted("listing-a"), [(5, 2)]);
@@ -202,12 +202,13 @@ fn grants_counted_are_grants_made() {
     for (profile, seed) in PROFILES.iter().flat_map(|p| (0..4).map(move |s| (p, s))) {
         let file = generate(profile, seed, 1500).expect("profile");
         let (mut made, mut before) = (Vec::new(), Vec::new());
-        let lines = run_watched(&file, None, &mut |model, number| {
+        let answers = run_watched(&file, None, &mut |model, number| {
             let now = all_lines(model);
             made.extend(first_served(&before, &now).map(|card| (number, card)));
             before = now;
         });
-        assert_eq!(grants(&file, &lines), Ok(made), "{profile} {seed}");
+        let counted = grants(&file, &Printed::of(&answers));
+        assert_eq!(counted, Ok(made), "{profile} {seed}");
     }
 }
 
@@ -230,8 +231,8 @@ fn generated_files_do_not_hang() {
     for (profile, seed) in PROFILES.iter().flat_map(|p| (0..12).map(move |s| (p, s))) {
         let file = generate(profile, seed, 2500).expect("profile");
         let mut hangs = false;
-        let lines = run_watched(&file, None, &mut |model, _| hangs |= hang(model));
-        let share = accepted_share(&lines);
+        let answers = run_watched(&file, None, &mut |model, _| hangs |= hang(model));
+        let share = accepted_share(&Printed::of(&answers).lines);
         assert!(share >= 50.0, "{profile} {seed}: {share} % accepted");
         assert!(!hangs || *profile == "damaged", "{profile} {seed} hangs");
     }
@@ -265,9 +266,9 @@ fn nobody_waits_in_a_quiet_file() {
     let mut seen = Seen::default();
     for seed in 0..10 {
         let file = quiet(Rng::new(seed), 2000);
-        let lines = run(&file, None);
-        assert!(record_at(&file, 2000).is_some() && lines.len() == 2001);
-        seen.add_file(&file, &lines);
+        let printed = run(&file, None);
+        assert!(record_at(&file, 2000).is_some() && printed.lines.len() == 2001);
+        seen.add_file(&file, &printed);
     }
     assert_eq!((seen.waits, seen.grants, seen.refusals[17]), (0, 0, 0));
     assert!((3..=10).all(|refusal| seen.refusals[refusal] > 0));

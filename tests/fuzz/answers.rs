@@ -1,6 +1,6 @@
 //! What a step on a state in order must be answered and leave, read off the
 //! state before: the refusal, who holds and who waits. Written from document
-//! 01's table, and from requests L1 and L4 of document 02.
+//! 01's table, and from requests L1, L4 and L7 of document 02.
 
 use crate::areas::*;
 use crate::library::Step;
@@ -41,6 +41,7 @@ pub fn refusal(s: State, step: Step) -> u8 {
         return 17;
     }
     match step.kind {
+        ARRIVE if s.holds_any(p) => 18,
         ACQUIRE if s.holder(object) == p => 7,
         RELEASE if s.holder(object) != p => 8,
         WRITE if s.dirty(p, object / PAGE_WORDS) => 0,

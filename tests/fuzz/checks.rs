@@ -13,8 +13,8 @@ use crate::tallies;
 /// What the checks have met, for the report.
 #[derive(Default)]
 pub struct Met {
-    /// Steps by refusal, 0 to 17.
-    pub refusals: [u64; 18],
+    /// Steps by refusal, 0 to 18.
+    pub refusals: [u64; 19],
     /// States that broke this clause of "in order" and no other.
     pub alone: [u64; order::CLAUSES.len()],
     /// States whose order was asked: in order, not in order.
@@ -35,6 +35,8 @@ pub struct Met {
     pub collected: u64,
     pub applied: u64,
     pub skipped: u64,
+    /// Words that the records applied set.
+    pub words: u64,
     /// Accepted adds to tallies and reads of them; totals that rounds posted
     /// something to, and those of them that wrapped.
     pub adds: u64,
@@ -65,6 +67,7 @@ impl Met {
             self.collected += u64::from(step.kind == ARRIVE);
             self.applied += fetch.applied as u64;
             self.skipped += (fetch.pending - fetch.applied) as u64;
+            self.words += fetch.words as u64;
         }
     }
 
@@ -124,7 +127,7 @@ pub fn check_step(
         true => answers::refusal(State(before.shown()), step),
         false => 1,
     };
-    let mut answer = [random.word(), random.word(), random.word()];
+    let mut answer = [0; library::ANSWER].map(|_| random.word());
     let refusal = library::step(step, &mut answer, areas.lend());
     if refusal != due || answer[0] != due.into() {
         return Err(format!(
@@ -132,17 +135,17 @@ pub fn check_step(
         ));
     }
     met.refusals[usize::from(due)] += 1;
-    let [_, value, count] = answer;
+    let [_, value, count, words] = answer;
     if due == 0 {
         met.add_lock_use(State(before.shown()), step);
         met.add_closing(State(before.shown()), step);
         met.add_tally_use(State(before.shown()), step);
         let fetches = fetching::fetches(State(before.shown()), step);
         met.add_fetches(step, &fetches);
-        accepted(areas, before, step, &fetches, [value, count])
+        accepted(areas, before, step, &fetches, [value, count, words])
             .map_err(|e| format!("{step:?}: {e}"))
-    } else if [value, count] != [0, 0] {
-        Err(format!("{step:?}: refused {refusal} with {value} {count}"))
+    } else if [value, count, words] != [0; 3] {
+        Err(format!("{step:?}: refused with {answer:?}"))
     } else {
         same(
             areas,
@@ -161,14 +164,14 @@ fn same(areas: &Areas, before: &Areas, wrong: &str) -> Result<(), String> {
 
 /// An accepted step leaves a state in order and touches nothing outside; its
 /// value is the word that stands in the copy or the tally's total, its count the
-/// records applied; locks and their lines are as they must be, and so is what a
-/// closing and a fetch leave, and the tallies.
+/// records applied, its words those that they set; locks and their lines are as
+/// they must be, and so is what a closing and a fetch leave, and the tallies.
 fn accepted(
     areas: &Areas,
     before: &Areas,
     step: Step,
     fetches: &[Fetched],
-    [value, count]: [u32; 2],
+    answered: [u32; 3],
 ) -> Result<(), String> {
     if !areas.same_margins(before) {
         return Err("writes outside the areas".to_string());
@@ -204,11 +207,12 @@ fn accepted(
         TALLY_READ => tallies::value(was, step),
         _ => 0,
     };
-    let due = fetching::count(fetches);
-    if value != number || due != count as usize {
-        return Err(format!("answers {value} {count}, due {number} {due}"));
+    let [count, words] = fetching::moved(fetches);
+    let due = [number, count as u32, words as u32];
+    match answered == due {
+        true => Ok(()),
+        false => Err(format!("answers {answered:?}, due {due:?}")),
     }
-    Ok(())
 }
 
 /// After a release: the lock's clock is the releaser's, and a waiter that has
@@ -232,7 +236,7 @@ fn word_of(areas: &Areas, step: Step) -> u32 {
     areas.words.part()[at]
 }
 
-/// A step whose answer has not three words: 1, and nothing is written.
+/// A step whose answer has not four words: 1, and nothing is written.
 pub fn check_short_answer(
     random: &mut Random,
     areas: &mut Areas,
@@ -240,7 +244,7 @@ pub fn check_short_answer(
     step: Step,
 ) -> Result<(), String> {
     before.copy_from(areas);
-    let mut answer = vec![7; random.pick(&[0, 1, 2, 4, 5])];
+    let mut answer = vec![7; random.pick(&[0, 1, 2, 3, 5])];
     let refusal = library::step(step, &mut answer, areas.lend());
     if refusal != 1 || answer.iter().any(|word| *word != 7) {
         return Err(format!("answer of {} words: {refusal}", answer.len()));

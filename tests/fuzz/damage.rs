@@ -7,7 +7,7 @@ use crate::random::Random;
 use crate::state::State;
 
 pub fn damage(random: &mut Random, areas: &mut Areas) {
-    match random.below(34) {
+    match random.below(36) {
         0 => flip_byte(random, areas),
         1 => flip_word(random, areas),
         2 => change(random, areas, PROCESSORS_AT, &[0, 1, 8, 9, 255]),
@@ -46,6 +46,7 @@ pub fn damage(random: &mut Random, areas: &mut Areas) {
         27..=28 => one_more_waiter(random, areas),
         29 => change_tally(random, areas),
         30 => absent_add(random, areas),
+        31..=32 => arrived_holder(random, areas),
         _ => change_line(random, areas),
     }
 }
@@ -82,6 +83,19 @@ fn change(random: &mut Random, areas: &mut Areas, at: usize, list: &[u8]) {
 fn change_arrived(random: &mut Random, areas: &mut Areas) {
     let at = arrived_at(random.within(1, PROCESSORS));
     *areas.mark(at) = random.pick(&[0, 1, 2, 255]);
+}
+
+/// A processor has arrived and holds a lock; most often both are present.
+fn arrived_holder(random: &mut Random, areas: &mut Areas) {
+    let processors = usize::from(*areas.mark(PROCESSORS_AT)).clamp(1, PROCESSORS);
+    let locks = usize::from(*areas.mark(LOCKS_AT)).clamp(1, LOCKS);
+    let p = random.within(1, processors);
+    let lock = match random.percent(20) {
+        true => locks - 1,
+        false => random.below(locks),
+    };
+    *areas.mark(arrived_at(p)) = random.pick(&[1, 2, 255]);
+    *areas.mark(holder_at(lock)) = p as u8;
 }
 
 fn all_arrive(areas: &mut Areas) {

@@ -2,7 +2,7 @@
 //! 01's "Pending" and "Fetch" and request L5 of document 02: a record each of
 //! whose words is set again by later records of the fetch is skipped, one with
 //! no words always; the count is of those applied, and the copy is that of
-//! applying all.
+//! applying all. By request L6 the words are all those of the records applied.
 
 use crate::answers::{ARRIVE, READ, WRITE};
 use crate::areas::*;
@@ -11,12 +11,13 @@ use crate::library::{Shown, Step};
 use crate::state::{Record, State};
 
 /// One fetch: whose, of which page, how many records were pending, how many of
-/// them are applied, and the copy after it.
+/// them are applied, how many words these set, and the copy after it.
 pub struct Fetched {
     p: usize,
     page: usize,
     pub pending: usize,
     pub applied: usize,
+    pub words: usize,
     copy: Vec<u32>,
 }
 
@@ -69,16 +70,18 @@ fn collection(was: State, step: Step) -> Vec<Fetched> {
 fn fetch(s: State, p: usize, page: usize) -> Fetched {
     let pending = pending(s, p, page);
     let mut copy = s.copy(p, page).to_vec();
-    let changes: Vec<Vec<(usize, u32)>> = pending.iter().map(|record| words(record)).collect();
+    let changes: Vec<Change> = pending.iter().map(|record| words(record)).collect();
     changes
         .iter()
         .flatten()
         .for_each(|(at, word)| copy[*at] = *word);
+    let applied = applied(&changes);
     Fetched {
         p,
         page,
         pending: pending.len(),
-        applied: applied(&changes),
+        applied: applied.len(),
+        words: applied.iter().map(|change| change.len()).sum(),
         copy,
     }
 }
@@ -104,7 +107,7 @@ fn pending(s: State, p: usize, page: usize) -> Vec<Record> {
 }
 
 /// The words of a record's change, with their offsets.
-fn words(record: &Record) -> Vec<(usize, u32)> {
+fn words(record: &Record) -> Change {
     let runs = usize::from(record.place[0]);
     let (pairs, words) = record.place[1..record.length].split_at(2 * runs);
     let offsets = pairs.chunks_exact(2).flat_map(|pair| {
@@ -115,20 +118,25 @@ fn words(record: &Record) -> Vec<(usize, u32)> {
     offsets.zip(words.chunks_exact(4).map(word)).collect()
 }
 
-/// How many changes have a word that none of the later ones sets.
-fn applied(changes: &[Vec<(usize, u32)>]) -> usize {
+/// A change as its words, with their offsets.
+type Change = Vec<(usize, u32)>;
+
+/// The changes with a word that none of the later ones sets.
+fn applied(changes: &[Change]) -> Vec<&Change> {
     let is_applied = |nth: &usize| {
         let mut later = [false; PAGE_WORDS];
         let words = changes[nth + 1..].iter().flatten();
         words.for_each(|(at, _)| later[*at] = true);
         changes[*nth].iter().any(|(at, _)| !later[*at])
     };
-    (0..changes.len()).filter(is_applied).count()
+    let nths = (0..changes.len()).filter(is_applied);
+    nths.map(|nth| &changes[nth]).collect()
 }
 
-/// The count of an accepted step.
-pub fn count(fetches: &[Fetched]) -> usize {
-    fetches.iter().map(|fetch| fetch.applied).sum()
+/// The count and the words of an accepted step.
+pub fn moved(fetches: &[Fetched]) -> [usize; 2] {
+    let sum = |number: fn(&Fetched) -> usize| fetches.iter().map(number).sum();
+    [sum(|fetch| fetch.applied), sum(|fetch| fetch.words)]
 }
 
 /// What is wrong with copies, twins or applied clocks after an accepted step.

@@ -96,16 +96,24 @@ fn make_marks(random: &mut Random, areas: &mut Areas, counts: [usize; 3], own: &
     *areas.mark(PAGES_AT) = pages as u8;
     *areas.mark(LOCKS_AT) = locks as u8;
     *areas.mark(WISH_AT) = mark(random, 50);
-    for lock in 0..locks {
-        *areas.mark(holder_at(lock)) = random.within(0, processors) as u8;
-    }
     for p in 1..=processors {
         *areas.mark(arrived_at(p)) = mark(random, arrived);
         let may = if own[p - 1] <= 62 { dirty } else { 0 };
         (0..pages).for_each(|page| *areas.mark(dirty_at(p, page)) = mark(random, may));
     }
     *areas.mark(arrived_at(random.within(1, processors))) = 0;
+    make_holders(random, areas, processors, locks);
     make_lines(random, areas, processors, locks);
+}
+
+/// Each lock is free or held by one of those who have not arrived.
+fn make_holders(random: &mut Random, areas: &mut Areas, processors: usize, locks: usize) {
+    let mut holders: Vec<usize> = (1..=processors).collect();
+    holders.retain(|p| *areas.mark(arrived_at(*p)) == 0);
+    holders.push(0);
+    for lock in 0..locks {
+        *areas.mark(holder_at(lock)) = random.pick(&holders) as u8;
+    }
 }
 
 /// Some of those who have not arrived wait for locks that others hold, in any

@@ -89,7 +89,10 @@ fn report(met: &Met) {
         "fetches with records pending: {}, {} of them skip all; {} in collections",
         met.fetches, met.all_skipped, met.collected
     );
-    println!("records: {} applied, {} skipped", met.applied, met.skipped);
+    println!(
+        "records: {} applied, of {} words, {} skipped",
+        met.applied, met.words, met.skipped
+    );
     println!(
         "tallies: {} adds, {} reads, {} totals posted to, {} of them wrapped",
         met.adds, met.looks, met.posted, met.wrapped

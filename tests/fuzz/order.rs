@@ -1,6 +1,6 @@
-//! "A state is in order when: ..." of document 01 and, of lines and tallies,
-//! requests L1 and L4 of document 02, clause by clause, in plain Rust. It is
-//! written from the documents and the layout alone, and is what the library's
+//! "A state is in order when: ..." of document 01 and, of lines, tallies and
+//! holders, requests L1, L4 and L7 of document 02, clause by clause, in plain
+//! Rust. It is written from the documents and the layout alone, and is what the library's
 //! `in_order` is compared with.
 
 use crate::areas::*;
@@ -12,7 +12,7 @@ type Clause = (&'static str, fn(State) -> bool);
 /// The clauses after the first (the sizes), in the documents' order. That a
 /// card waits at most once in all holds by the layout: it has one place for
 /// the lock it waits for. Turns number the waiters of a lock from 0.
-pub const CLAUSES: [Clause; 28] = [
+pub const CLAUSES: [Clause; 29] = [
     ("counts in range", counts_in_range),
     ("absent entries are 0", absent_entries_zero),
     ("absent copies' words are 0", absent_copies_zero),
@@ -41,6 +41,7 @@ pub const CLAUSES: [Clause; 28] = [
     ("no two waiters have one turn", turns_unlike),
     ("turns count those before", turns_count),
     ("absent processors have added 0", absent_adds_zero),
+    ("no holder has arrived", holders_arrived_not),
 ];
 
 pub fn sizes_hold(areas: Shown) -> bool {
@@ -299,6 +300,11 @@ fn turns_count(s: State) -> bool {
         let before = s.waiters(lock).filter(|q| s.turn(*q) < s.turn(p));
         before.count() == s.turn(p)
     })
+}
+
+/// L7: "A state that has an arrived card holding a lock is no longer in order."
+fn holders_arrived_not(s: State) -> bool {
+    !all_processors().any(|p| s.arrived(p) && s.holds_any(p))
 }
 
 /// "words ... for absent cards": those of their adds. Posted totals are nobody's

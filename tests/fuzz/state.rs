@@ -61,6 +61,11 @@ impl<'a> State<'a> {
         self.0.marks[holder_at(lock)].into()
     }
 
+    /// Whether a processor holds any lock.
+    pub fn holds_any(self, p: usize) -> bool {
+        (0..LOCKS).any(|lock| self.holder(lock) == p)
+    }
+
     pub fn dirty(self, p: usize, page: usize) -> bool {
         self.0.marks[dirty_at(p, page)] != 0
     }

@@ -138,13 +138,12 @@ fn keeper(s: State, mut lock: usize) -> Option<(usize, usize)> {
     found
 }
 
-/// An arrival, mostly after the locks for which others wait are freed.
+/// An arrival, mostly after the processor's locks are freed.
 fn any_arrival(random: &mut Random, s: State) -> Step {
     let p = any_processor(random, s);
-    let mut locks = 0..LOCKS;
-    let awaited = locks.find(|lock| s.holder(*lock) == p && s.waiters(*lock).next().is_some());
-    match awaited {
-        Some(lock) if random.percent(95) => step(RELEASE, p, lock, 0),
+    let held = (0..LOCKS).find(|lock| s.holder(*lock) == p);
+    match held {
+        Some(lock) if random.percent(90) => step(RELEASE, p, lock, 0),
         _ => step(ARRIVE, p, 0, 0),
     }
 }

@@ -2,7 +2,7 @@
 //! records is as it must be, and where nothing is dirty there is neither.
 
 use crate::damage::{dirty, interval_row, slot};
-use crate::library::{in_order, open, step, Areas, Step, RECORDS};
+use crate::library::{in_order, open, step, Answer, Areas, Step, DONE, RECORDS, UNANSWERED};
 use crate::Tally;
 
 /// How a processor closes: the steps before its stores, and the step that closes.
@@ -31,8 +31,8 @@ fn stored(tally: &mut Tally, (name, before, _): Closing, stores: &[Step]) -> Are
     let mut areas = Areas::garbage(6);
     let mut fine = open(&[0, 2, 3, 1, 0, 0, 0, 0], &mut areas) == 0;
     for fields in before.iter().chain(stores) {
-        let mut answer = [77; 3];
-        fine &= step(*fields, &mut answer, &mut areas) == 0 && answer == [0; 3];
+        let mut answer = UNANSWERED;
+        fine &= step(*fields, &mut answer, &mut areas) == 0 && answer == DONE;
     }
     tally.check(&format!("closing by {name}: before"), fine);
     areas
@@ -46,12 +46,12 @@ fn closed(
     mut areas: Areas,
     records: &[&[u8]],
 ) {
-    let mut answer = [77; 3];
+    let mut answer = UNANSWERED;
     let refusal = step(last, &mut answer, &mut areas);
     let case = format!("{case}, closed by {name}");
     tally.check(
         &format!("{case}: accepted"),
-        refusal == 0 && answer == [0; 3] && in_order(&areas),
+        refusal == 0 && answer == DONE && in_order(&areas),
     );
     let own = u8::from(!records.is_empty());
     tally.check(&format!("{case}: own entry {own}"), areas.clocks[8] == own);
@@ -130,14 +130,14 @@ fn nothing_dirty(tally: &mut Tally, closing: Closing) {
 /// Another processor learns of the interval, and its fetch skips the record, which has no words: it counts 0, and its copy is as it was.
 fn fetched(tally: &mut Tally) {
     let mut areas = stored(tally, CLOSINGS[0], &[(2, 1, 0, 0)]);
-    let steps: [(Step, [u32; 3]); 4] = [
-        ((4, 1, 0, 0), [0, 0, 0]),
-        ((3, 2, 0, 0), [0, 0, 0]),
-        ((1, 2, 0, 0), [0, 0, 0]),
-        ((1, 2, 1, 0), [0, 0, 0]),
+    let steps: [(Step, Answer); 4] = [
+        ((4, 1, 0, 0), DONE),
+        ((3, 2, 0, 0), DONE),
+        ((1, 2, 0, 0), DONE),
+        ((1, 2, 1, 0), DONE),
     ];
     for (fields, expected) in steps {
-        let mut answer = [77; 3];
+        let mut answer = UNANSWERED;
         let refusal = step(fields, &mut answer, &mut areas);
         tally.check(
             &format!("0 over 0, then step {fields:?}"),
@@ -158,7 +158,7 @@ fn fetched(tally: &mut Tally) {
 fn rest_of_the_slot(tally: &mut Tally) {
     let mut areas = stored(tally, CLOSINGS[0], &[(2, 1, 0, 0)]);
     areas.records.fill(0x5a);
-    let refusal = step((4, 1, 0, 0), &mut [0; 3], &mut areas);
+    let refusal = step((4, 1, 0, 0), &mut { UNANSWERED }, &mut areas);
     let kept = areas.records[5..].iter().all(|&byte| byte == 0x5a);
     tally.check(
         "0 over 0: five bytes of the slot are written",

@@ -1,6 +1,6 @@
-//! The reached state, damaged: it is not in order, and a step of any kind answers 1, 0, 0 and leaves every byte.
+//! The reached state, damaged: it is not in order, and a step of any kind answers 1, 0, 0, 0 and leaves every byte.
 
-use crate::library::{in_order, step, Areas, CLOCKS, MARKS, RECORDS, WORDS};
+use crate::library::{in_order, step, Areas, CLOCKS, DONE, MARKS, RECORDS, UNANSWERED, WORDS};
 use crate::openings::of_wrong_sizes;
 use crate::steps::refused_as;
 use crate::tallies::{added, posted};
@@ -181,7 +181,7 @@ fn damages(reached: &Areas) -> Vec<(String, Areas)> {
         areas.records[place] = byte;
         all.push((name.to_string(), areas));
     }
-    let marks: [(&str, usize, u8); 32] = [
+    let marks: [(&str, usize, u8); 35] = [
         ("no processors", 0, 0),
         ("nine processors", 0, 9),
         ("fewer processors than are used", 0, 2),
@@ -196,6 +196,9 @@ fn damages(reached: &Areas) -> Vec<(String, Areas)> {
         ("an absent lock has a holder", holder(2), 1),
         ("a lock held by an absent processor", holder(0), 6),
         ("a lock held by processor 255", holder(1), 255),
+        ("a lock held by one that has arrived", holder(1), 3),
+        ("a lock taken by one that has arrived", holder(0), 3),
+        ("a holder that has arrived", arrived(2), 1),
         ("an absent page is dirty", dirty(1, 2), 1),
         ("a page of an absent processor is dirty", dirty(6, 0), 1),
         ("the last dirty mark", dirty(8, 7), 1),
@@ -251,7 +254,7 @@ fn damages(reached: &Areas) -> Vec<(String, Areas)> {
     all
 }
 
-/// Areas that are not in order: a step of any kind answers 1, 0, 0 and leaves every byte.
+/// Areas that are not in order: a step of any kind answers 1, 0, 0, 0 and leaves every byte.
 fn not_in_order(tally: &mut Tally, name: &str, damaged: &Areas) {
     tally.check(&format!("{name}: not in order"), !in_order(damaged));
     let steps = [
@@ -305,12 +308,12 @@ fn sweep(
         let mut areas = damaged.clone();
         let fine = in_order(&areas);
         untouched &= areas == damaged;
-        let mut answer = [77; 3];
+        let mut answer = UNANSWERED;
         let refused = step((2, 2, 33, 5), &mut answer, &mut areas) == 1;
         agree &= refused != fine;
         if refused {
             found += 1;
-            untouched &= areas == damaged && answer == [1, 0, 0];
+            untouched &= areas == damaged && answer == [1, 0, 0, 0];
         } else {
             agree &= in_order(&areas);
         }
@@ -360,11 +363,11 @@ fn harmless(tally: &mut Tally, reached: &Areas) {
         let mut areas = reached.clone();
         change(&mut areas);
         let fine = in_order(&areas);
-        let mut answer = [77; 3];
+        let mut answer = UNANSWERED;
         let refusal = step((6, 1, 0, 0), &mut answer, &mut areas);
         tally.check(
             &format!("{name}: in order"),
-            fine && refusal == 0 && answer == [0, 0, 0] && in_order(&areas),
+            fine && refusal == 0 && answer == DONE && in_order(&areas),
         );
     }
 }

@@ -1,5 +1,5 @@
-//! The functions of `target/staticlib/liblughtsavi.a` as `include/lughtsavi.h` declares them, and the lengths of the areas. Every
-//! program here that links the library has its declarations from this file.
+//! The functions of `target/staticlib/liblughtsavi.a` as `include/lughtsavi.h` declares them, and the lengths of the areas and of an answer.
+//! Every program here that links the library has its declarations from this file.
 
 // Not every program calls every function.
 #![allow(dead_code)]
@@ -9,6 +9,8 @@ pub const CLOCKS: usize = 4744;
 pub const WORDS: usize = 4240;
 pub const RECORDS: usize = 17280;
 pub const MARKS: usize = 110;
+/// How many words a record is answered by: refusal, value, count, words.
+pub const ANSWER: usize = 4;
 
 unsafe extern "C" {
     pub fn lughtsavi_open(
@@ -77,5 +79,5 @@ unsafe extern "C" {
         bytes_len: usize,
         page: *mut u32,
         page_len: usize,
-    ) -> u8;
+    ) -> u32;
 }

@@ -30,7 +30,8 @@ fn bytes_of(words: &[u32]) -> Vec<u8> {
     words.iter().flat_map(|w| w.to_le_bytes()).collect()
 }
 
-/// The writer's bytes, the bytes beyond them, and that reading them turns the old page into the new one.
+/// The writer's bytes, the bytes beyond them, and that reading them turns the old page into the new one; a word counts though it
+/// has its value already.
 fn written(tally: &mut Tally) {
     let old = page();
     let all: Vec<usize> = (0..32).collect();
@@ -74,14 +75,16 @@ fn written(tally: &mut Tally) {
         );
         let mut copy = old.clone();
         tally.check(&format!("{name}: read"), diff_check(&expected) == 0);
-        tally.check(
-            &format!("{name}: applied"),
-            diff_apply(&expected, &mut copy) == 0 && copy == new,
-        );
+        for again in ["applied", "applied to what it gave"] {
+            tally.check(
+                &format!("{name}: {again}, {} words", words.len()),
+                diff_apply(&expected, &mut copy) == words.len() as u32 && copy == new,
+            );
+        }
     }
 }
 
-/// J and L: accepted, and what they set.
+/// J and L: accepted, what they set, and how many words that are.
 fn read(tally: &mut Tally) {
     let cases: [(&str, Vec<u8>, Vec<usize>); 2] = [
         ("J: (0,2), (3,1)", vec![2, 0, 2, 3, 1], vec![0, 1, 3]),
@@ -98,7 +101,7 @@ fn read(tally: &mut Tally) {
         tally.check(&format!("{name}: fine"), diff_check(&bytes) == 0);
         tally.check(
             &format!("{name}: applied"),
-            diff_apply(&bytes, &mut page) == 0 && page == after,
+            diff_apply(&bytes, &mut page) == words.len() as u32 && page == after,
         );
     }
 }
@@ -137,7 +140,7 @@ fn refused(tally: &mut Tally) {
         tally.check(&format!("{name}: {refusal}"), diff_check(&bytes) == refusal);
         tally.check(
             &format!("{name}: {refusal} on applying, page untouched"),
-            diff_apply(&bytes, &mut after) == refusal && after == page(),
+            diff_apply(&bytes, &mut after) == 256 + u32::from(refusal) && after == page(),
         );
     }
 }
@@ -182,7 +185,7 @@ fn no_page(tally: &mut Tally) {
             let mut after = other.clone();
             tally.check(
                 &format!("applying {bytes:?} to {size} words: 14, untouched"),
-                diff_apply(&bytes, &mut after) == 14 && after == other,
+                diff_apply(&bytes, &mut after) == 256 + 14 && after == other,
             );
         }
     }

@@ -1,23 +1,27 @@
-//! The step files of tests/files through the library: Listing A line by line, every other file as one check.
+//! The step files of tests/files through the library: Listing A line by line, every other file as two checks, by its stored lines and by the
+//! second model's answers, which have the words of each record too.
 //! After the opening and after each step the areas are in order, and a refused record leaves every byte as it was.
 
-use crate::library::{in_order, open, step, Areas};
+use crate::library::{fields_of, in_order, open, step, Answer, Areas, UNANSWERED};
 use crate::Tally;
-use std::fs;
-use std::path::Path;
+use std::fs::{self, File};
+use std::path::{Path, PathBuf};
+use std::process::{Command, Stdio};
 
 const FOLDER: &str = "tests/files";
+/// The second model, which model/build makes.
+const MODEL: &str = "model/bin/model";
 
 pub fn check(tally: &mut Tally) {
     listing_a(tally);
     let names = names();
     tally.check("the step files are there", names.len() > 1);
     for name in names {
-        let same = match (run(&name), lines(&name)) {
-            (Some(run), Some(lines)) => run.kept && run.lines == lines,
-            _ => false,
-        };
+        let run = run(&name).unwrap_or_default();
+        let same = stored(&name).is_some_and(|stored| run.kept && run.prints(&stored));
         tally.check(&format!("{name}: its lines"), same);
+        let same = model_answers(&name).is_some_and(|due| run.answers == due);
+        tally.check(&format!("{name}: the model's answers"), same);
     }
 }
 
@@ -35,37 +39,64 @@ pub fn names() -> Vec<String> {
     names
 }
 
+fn place(name: &str, ending: &str) -> PathBuf {
+    Path::new(FOLDER).join(format!("{name}.{ending}"))
+}
+
 /// The bytes of a step file.
 pub fn read_file(name: &str) -> Option<Vec<u8>> {
-    fs::read(Path::new(FOLDER).join(format!("{name}.steps"))).ok()
+    fs::read(place(name, "steps")).ok()
 }
 
 fn listing_a(tally: &mut Tally) {
-    let run = run("listing-a").unwrap_or(Run {
-        lines: Vec::new(),
-        kept: false,
-    });
-    let lines = lines("listing-a").unwrap_or_default();
+    let run = run("listing-a").unwrap_or_default();
+    let stored = stored("listing-a").unwrap_or_default();
+    let lines = run.lines();
     tally.check(
         "Listing A has thirteen lines",
-        lines.len() == 13 && run.lines.len() == 13,
+        stored.lines.len() == 13 && lines.len() == 13,
     );
-    for (i, line) in lines.iter().enumerate() {
-        tally.check(
-            &format!("Listing A: {line}"),
-            run.lines.get(i) == Some(line),
-        );
+    for (i, line) in stored.lines.iter().enumerate() {
+        tally.check(&format!("Listing A: {line}"), lines.get(i) == Some(line));
     }
+    tally.check(
+        "Listing A: words 1",
+        run.words() == 1 && stored.words == Some(1),
+    );
     tally.check(
         "Listing A: in order after each record, refused ones untouched",
         run.kept,
     );
 }
 
-/// What a file gives: a line for each whole record up to a refused opening, and whether the areas were kept as they must.
+/// What a file gives: an answer for each whole record up to a refused opening, and whether the areas were kept as they must.
+#[derive(Default)]
 struct Run {
-    lines: Vec<String>,
+    answers: Vec<Answer>,
     kept: bool,
+}
+
+impl Run {
+    /// A line for each record.
+    fn lines(&self) -> Vec<String> {
+        let numbered = self.answers.iter().enumerate();
+        numbered
+            .map(|(i, [refusal, value, count, _])| format!("{i} {refusal} {value} {count}"))
+            .collect()
+    }
+
+    /// The words set over the run.
+    fn words(&self) -> u64 {
+        self.answers
+            .iter()
+            .map(|&[.., words]| u64::from(words))
+            .sum()
+    }
+
+    /// Whether these are the run's lines, and the last line its words if there is one.
+    fn prints(&self, stored: &Stored) -> bool {
+        self.lines() == stored.lines && stored.words.is_none_or(|words| words == self.words())
+    }
 }
 
 fn run(name: &str) -> Option<Run> {
@@ -73,7 +104,7 @@ fn run(name: &str) -> Option<Run> {
     let mut records = bytes.chunks_exact(8);
     let mut areas = Areas::garbage(1);
     let mut run = Run {
-        lines: Vec::new(),
+        answers: Vec::new(),
         kept: true,
     };
     let Some(opening) = records.next() else {
@@ -81,29 +112,17 @@ fn run(name: &str) -> Option<Run> {
     };
     let before = areas.clone();
     let refusal = open(opening, &mut areas);
-    run.lines.push(format!("0 {refusal} 0 0"));
+    run.answers.push([u32::from(refusal), 0, 0, 0]);
     if refusal != 0 {
         run.kept = areas == before;
         return Some(run);
     }
     run.kept = in_order(&areas);
-    for (i, r) in records.enumerate() {
+    for record in records {
         let before = areas.clone();
-        let mut answer = [77; 3];
-        let fields = (
-            u32::from(r[0]),
-            u32::from(r[1]),
-            u32::from(u16::from_le_bytes([r[2], r[3]])),
-            u32::from_le_bytes([r[4], r[5], r[6], r[7]]),
-        );
-        let refusal = step(fields, &mut answer, &mut areas);
-        run.lines.push(format!(
-            "{} {} {} {}",
-            i + 1,
-            answer[0],
-            answer[1],
-            answer[2]
-        ));
+        let mut answer = UNANSWERED;
+        let refusal = step(fields_of(record), &mut answer, &mut areas);
+        run.answers.push(answer);
         run.kept &= u32::from(refusal) == answer[0];
         run.kept &= in_order(&areas);
         run.kept &= refusal == 0 || areas == before;
@@ -111,13 +130,37 @@ fn run(name: &str) -> Option<Run> {
     Some(run)
 }
 
-/// The lines of a file but for those of the refusals 15 and 16, which the run program gives.
-fn lines(name: &str) -> Option<Vec<String>> {
-    let text = fs::read_to_string(Path::new(FOLDER).join(format!("{name}.lines"))).ok()?;
-    Some(
-        text.lines()
-            .filter(|line| !matches!(line.split(' ').nth(1), Some("15" | "16")))
-            .map(str::to_string)
-            .collect(),
-    )
+/// The lines of a file but for those of the refusals 15 and 16, which the run program gives, and the total of the last line if there is one.
+#[derive(Default)]
+struct Stored {
+    lines: Vec<String>,
+    words: Option<u64>,
+}
+
+fn stored(name: &str) -> Option<Stored> {
+    let text = fs::read_to_string(place(name, "lines")).ok()?;
+    let mut stored = Stored::default();
+    for line in text.lines() {
+        match line.split_once(' ')? {
+            ("words", total) => stored.words = Some(total.parse().ok()?),
+            (_, rest) if rest.starts_with("15 ") || rest.starts_with("16 ") => {}
+            _ => stored.lines.push(line.to_string()),
+        }
+    }
+    Some(stored)
+}
+
+/// What the second model answers each record of a file.
+fn model_answers(name: &str) -> Option<Vec<Answer>> {
+    let mut model = Command::new(MODEL);
+    model
+        .arg("answers")
+        .stdin(File::open(place(name, "steps")).ok()?);
+    let told = model.stderr(Stdio::inherit()).output().ok()?;
+    let text = String::from_utf8(told.stdout).ok()?;
+    let answer = |line: &str| {
+        let numbers: Result<Vec<u32>, _> = line.split(' ').map(str::parse).collect();
+        numbers.ok()?.try_into().ok()
+    };
+    text.lines().map(answer).collect()
 }

@@ -1,6 +1,6 @@
 //! The numbers of include/lughtsavi.h are those that this test uses.
 
-use crate::library::{CLOCKS, MARKS, RECORDS, WORDS};
+use crate::library::{ANSWER, CLOCKS, MARKS, RECORDS, WORDS};
 use crate::Tally;
 
 const HEADER: &str = include_str!("../../include/lughtsavi.h");
@@ -12,7 +12,7 @@ pub fn check(tally: &mut Tally) {
         ("LUGHTSAVI_RECORDS", RECORDS),
         ("LUGHTSAVI_MARKS", MARKS),
         ("LUGHTSAVI_OPENING", 8),
-        ("LUGHTSAVI_ANSWER", 3),
+        ("LUGHTSAVI_ANSWER", ANSWER),
         ("LUGHTSAVI_PAGE", 32),
         ("LUGHTSAVI_DIFF", 131),
         ("LUGHTSAVI_REFUSED", 256),
@@ -22,7 +22,7 @@ pub fn check(tally: &mut Tally) {
     }
     let kinds: Vec<usize> = (1..=6).chain([8, 9]).collect();
     tally.check("header: the kinds", numbers_of("lughtsavi_kind") == kinds);
-    let refusals: Vec<usize> = (0..=14).chain([17]).collect();
+    let refusals: Vec<usize> = (0..=14).chain([17, 18]).collect();
     tally.check(
         "header: the refusals",
         numbers_of("lughtsavi_refusal") == refusals,

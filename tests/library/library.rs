@@ -4,7 +4,7 @@
 mod declarations;
 
 use declarations::*;
-pub use declarations::{CLOCKS, MARKS, RECORDS, WORDS};
+pub use declarations::{ANSWER, CLOCKS, MARKS, RECORDS, WORDS};
 
 /// The four areas.
 #[derive(Clone, PartialEq)]
@@ -34,6 +34,25 @@ impl Areas {
 
 /// A step's four fields: kind, processor, object, value.
 pub type Step = (u32, u32, u32, u32);
+
+/// Refusal, value, count, words.
+pub type Answer = [u32; ANSWER];
+
+/// What lies in an answer before a step.
+pub const UNANSWERED: Answer = [77; ANSWER];
+
+/// The answer of a step that is done and has no value and no count.
+pub const DONE: Answer = [0; ANSWER];
+
+/// The fields of a record of a step file.
+pub fn fields_of(record: &[u8]) -> Step {
+    (
+        u32::from(record[0]),
+        u32::from(record[1]),
+        u32::from(u16::from_le_bytes([record[2], record[3]])),
+        u32::from_le_bytes([record[4], record[5], record[6], record[7]]),
+    )
+}
 
 pub fn open(opening: &[u8], a: &mut Areas) -> u8 {
     unsafe {
@@ -124,6 +143,6 @@ pub fn diff_check(bytes: &[u8]) -> u8 {
     unsafe { lughtsavi_diff_check(bytes.as_ptr(), bytes.len()) }
 }
 
-pub fn diff_apply(bytes: &[u8], page: &mut [u32]) -> u8 {
+pub fn diff_apply(bytes: &[u8], page: &mut [u32]) -> u32 {
     unsafe { lughtsavi_diff_apply(bytes.as_ptr(), bytes.len(), page.as_mut_ptr(), page.len()) }
 }

@@ -1,13 +1,16 @@
 //! Every step file of tests/files in one call: the same answers and areas as step by step, whatever the sizes of the bytes and the answers.
 
 use crate::files::{names, read_file};
-use crate::library::{open, run, step, Areas};
+use crate::library::{fields_of, open, run, step, Areas, ANSWER, UNANSWERED};
 use crate::Tally;
 
 pub fn check(tally: &mut Tally) {
     for name in names() {
         let bytes = read_file(&name).unwrap_or_default();
-        tally.check(&format!("{name}: in one call"), same(&bytes, bytes.len() / 8));
+        tally.check(
+            &format!("{name}: in one call"),
+            same(&bytes, bytes.len() / 8),
+        );
         tally.check(
             &format!("{name}: room for fewer answers"),
             same(&bytes, bytes.len() / 16),
@@ -16,13 +19,13 @@ pub fn check(tally: &mut Tally) {
     sizes(tally);
 }
 
-/// Whether a run with room for so many answers, and two words more, gives what single calls give, and leaves the rest of the answers.
+/// Whether a run with room for so many answers, and three words more, gives what single calls give, and leaves the rest of the answers.
 fn same(bytes: &[u8], room: usize) -> bool {
     let (expected, after) = one_by_one(bytes, room);
     let mut areas = Areas::garbage(1);
-    let mut answers = vec![77; 3 * room + 2];
+    let mut answers = vec![77; ANSWER * room + 3];
     let done = run(bytes, &mut answers, &mut areas);
-    done == expected.len() / 3
+    done == expected.len() / ANSWER
         && areas == after
         && answers[..expected.len()] == expected[..]
         && answers[expected.len()..].iter().all(|&word| word == 77)
@@ -35,20 +38,14 @@ fn one_by_one(bytes: &[u8], room: usize) -> (Vec<u32>, Areas) {
     for (i, r) in bytes.chunks_exact(8).take(room).enumerate() {
         if i == 0 {
             let refusal = open(r, &mut areas);
-            answers.extend([u32::from(refusal), 0, 0]);
+            answers.extend([u32::from(refusal), 0, 0, 0]);
             if refusal != 0 {
                 break;
             }
             continue;
         }
-        let mut answer = [0; 3];
-        let object = u32::from(u16::from_le_bytes([r[2], r[3]]));
-        let value = u32::from_le_bytes([r[4], r[5], r[6], r[7]]);
-        step(
-            (u32::from(r[0]), u32::from(r[1]), object, value),
-            &mut answer,
-            &mut areas,
-        );
+        let mut answer = UNANSWERED;
+        step(fields_of(r), &mut answer, &mut areas);
         answers.extend(answer);
     }
     (answers, areas)
@@ -60,7 +57,7 @@ fn sizes(tally: &mut Tally) {
     for (name, bytes, room) in [
         ("no bytes", &opening[..0], 9),
         ("seven bytes", &opening[..7], 9),
-        ("room for two words", &opening[..], 2),
+        ("room for three words", &opening[..], 3),
     ] {
         let mut areas = Areas::garbage(2);
         let before = areas.clone();
@@ -74,10 +71,10 @@ fn sizes(tally: &mut Tally) {
     let mut areas = Areas::garbage(3);
     areas.marks.pop();
     let before = areas.clone();
-    let mut answers = vec![77; 3];
+    let mut answers = UNANSWERED;
     let done = run(&opening, &mut answers, &mut areas);
     tally.check(
         "run: areas of a wrong size: 1",
-        done == 1 && areas == before && answers == [1, 0, 0],
+        done == 1 && areas == before && answers == [1, 0, 0, 0],
     );
 }

@@ -1,6 +1,6 @@
 //! A state reached by steps, and steps that are refused in it: every byte is left as it was.
 
-use crate::library::{in_order, open, step, Areas, Step};
+use crate::library::{in_order, open, step, Answer, Areas, Step, DONE, UNANSWERED};
 use crate::Tally;
 
 pub fn check(tally: &mut Tally, reached: &Areas) {
@@ -14,20 +14,20 @@ pub fn reached(tally: &mut Tally) -> Areas {
     let mut areas = Areas::garbage(5);
     let opened = open(&[0, 5, 2, 2, 0, 0, 0, 0], &mut areas);
     tally.check("reached state: opened", opened == 0);
-    let steps: [(Step, [u32; 3]); 10] = [
-        ((3, 1, 0, 0), [0, 0, 0]),
-        ((2, 1, 0, 7), [0, 0, 0]),
-        ((2, 1, 40, 0xffff_fffe), [0, 0, 0]),
-        ((4, 1, 0, 0), [0, 0, 0]),
-        ((3, 2, 0, 0), [0, 0, 0]),
-        ((1, 2, 40, 0), [0, 0xffff_fffe, 1]),
-        ((2, 2, 1, 9), [0, 0, 1]),
-        ((5, 3, 0, 0), [0, 0, 0]),
-        ((3, 4, 0, 0), [0, 0, 0]),
-        ((3, 5, 0, 0), [0, 0, 0]),
+    let steps: [(Step, Answer); 10] = [
+        ((3, 1, 0, 0), DONE),
+        ((2, 1, 0, 7), DONE),
+        ((2, 1, 40, 0xffff_fffe), DONE),
+        ((4, 1, 0, 0), DONE),
+        ((3, 2, 0, 0), DONE),
+        ((1, 2, 40, 0), [0, 0xffff_fffe, 1, 1]),
+        ((2, 2, 1, 9), [0, 0, 1, 1]),
+        ((5, 3, 0, 0), DONE),
+        ((3, 4, 0, 0), DONE),
+        ((3, 5, 0, 0), DONE),
     ];
     for (fields, expected) in steps {
-        let mut answer = [77; 3];
+        let mut answer = UNANSWERED;
         let refusal = step(fields, &mut answer, &mut areas);
         tally.check(
             &format!("reached state: step {fields:?}"),
@@ -37,12 +37,12 @@ pub fn reached(tally: &mut Tally) -> Areas {
     areas
 }
 
-/// An answer that has not three words: 1, and it too is left as it was, on areas in order or not.
+/// An answer that has not four words: 1, and it too is left as it was, on areas in order or not.
 fn answers_of_wrong_lengths(tally: &mut Tally, reached: &Areas) {
     let mut damaged = reached.clone();
     damaged.marks[0] = 9;
     for before in [reached, &damaged] {
-        for length in [0, 1, 2, 4, 5] {
+        for length in [0, 1, 2, 3, 5] {
             let mut areas = before.clone();
             let mut answer = vec![77; length];
             let refusal = step((2, 1, 0, 5), &mut answer, &mut areas);
@@ -54,9 +54,9 @@ fn answers_of_wrong_lengths(tally: &mut Tally, reached: &Areas) {
     }
 }
 
-/// The refusals 3 to 8 and 17, each in its place of the table: every byte is left as it was.
+/// The refusals 3 to 8, 17 and 18, each in its place of the table: every byte is left as it was.
 fn refused_steps(tally: &mut Tally, reached: &Areas) {
-    let steps: [(u8, Step); 66] = [
+    let steps: [(u8, Step); 69] = [
         (3, (0, 1, 0, 0)),
         (3, (7, 1, 0, 0)),
         (3, (257, 1, 0, 0)),
@@ -96,6 +96,9 @@ fn refused_steps(tally: &mut Tally, reached: &Areas) {
         (17, (4, 5, 1, 0)),
         (17, (5, 4, 0, 0)),
         (17, (6, 5, 0, 0)),
+        (18, (5, 2, 0, 0)),
+        (5, (5, 2, 1, 0)),
+        (5, (5, 2, 0, 1)),
         (7, (3, 2, 0, 0)),
         (8, (4, 1, 0, 0)),
         (8, (4, 2, 1, 0)),
@@ -133,9 +136,9 @@ fn refused_steps(tally: &mut Tally, reached: &Areas) {
     }
 }
 
-/// Whether a step returns the refusal and answers refusal, 0, 0.
+/// Whether a step returns the refusal and answers refusal, 0, 0, 0.
 pub fn refused_as(refusal: u8, fields: Step, areas: &mut Areas) -> bool {
-    let mut answer = [77; 3];
+    let mut answer = UNANSWERED;
     let returned = step(fields, &mut answer, areas);
-    returned == refusal && answer == [u32::from(refusal), 0, 0]
+    returned == refusal && answer == [u32::from(refusal), 0, 0, 0]
 }

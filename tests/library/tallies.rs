@@ -1,7 +1,7 @@
 //! Tallies through the library: the exact words of the tally part after adds, rounds and collections, that no other byte is written, and what
 //! an opening and damage make of that part.
 
-use crate::library::{in_order, open, step, Areas, Step, WORDS};
+use crate::library::{in_order, open, step, Answer, Areas, Step, DONE, UNANSWERED, WORDS};
 use crate::Tally;
 
 /// Behind the twins: 16 posted totals, then 16 adds of each of the eight processors.
@@ -21,7 +21,7 @@ pub fn added(p: usize, t: usize) -> usize {
 type Word = (usize, u32);
 
 /// A step, its answer, and the words of the tally part that are not 0 after it.
-type Row = (Step, [u32; 3], Vec<Word>);
+type Row = (Step, Answer, Vec<Word>);
 
 pub fn check(tally: &mut Tally, reached: &Areas) {
     tally.check("tallies: the last word", added(8, 15) == WORDS - 1);
@@ -58,7 +58,7 @@ fn tally_part(words: &[Word]) -> Vec<u32> {
 fn rows(tally: &mut Tally, name: &str, areas: &mut Areas, rows: Vec<Row>) {
     for (n, (fields, expected, words)) in rows.into_iter().enumerate() {
         let before = areas.clone();
-        let mut answer = [77; 3];
+        let mut answer = UNANSWERED;
         let refusal = step(fields, &mut answer, areas);
         tally.check(
             &format!("tallies: {name}, {n}: step {fields:?}"),
@@ -94,30 +94,42 @@ fn one_round(tally: &mut Tally) {
         "one round",
         &mut areas,
         vec![
-            ((8, 1, 0, most), [0; 3], vec![(first, most)]),
-            ((8, 2, 0, 2), [0; 3], vec![(first, most), (second, 2)]),
-            ((9, 1, 0, 0), [0, most, 0], vec![(first, most), (second, 2)]),
-            ((9, 2, 0, 0), [0, 2, 0], vec![(first, most), (second, 2)]),
-            ((8, 1, 16, 1), [5, 0, 0], vec![(first, most), (second, 2)]),
-            ((5, 1, 0, 0), [0; 3], vec![(first, most), (second, 2)]),
-            ((8, 1, 0, 1), [6, 0, 0], vec![(first, most), (second, 2)]),
-            ((5, 2, 0, 0), [0; 3], vec![(posted(0), 1)]),
-            ((9, 1, 0, 0), [0, 1, 0], vec![(posted(0), 1)]),
-            ((9, 2, 0, 0), [0, 1, 0], vec![(posted(0), 1)]),
-            ((8, 2, 0, 5), [0; 3], vec![(posted(0), 1), (second, 5)]),
-            ((9, 2, 0, 0), [0, 6, 0], vec![(posted(0), 1), (second, 5)]),
-            ((9, 1, 0, 0), [0, 1, 0], vec![(posted(0), 1), (second, 5)]),
-            // The adds wrap in their own place.
-            ((8, 2, 0, most - 4), [0; 3], vec![(posted(0), 1)]),
+            ((8, 1, 0, most), DONE, vec![(first, most)]),
+            ((8, 2, 0, 2), DONE, vec![(first, most), (second, 2)]),
             (
-                (8, 2, 0, most),
-                [0; 3],
-                vec![(posted(0), 1), (second, most)],
+                (9, 1, 0, 0),
+                [0, most, 0, 0],
+                vec![(first, most), (second, 2)],
             ),
-            ((9, 2, 0, 0), [0; 3], vec![(posted(0), 1), (second, most)]),
-            ((5, 2, 0, 0), [0; 3], vec![(posted(0), 1), (second, most)]),
+            ((9, 2, 0, 0), [0, 2, 0, 0], vec![(first, most), (second, 2)]),
+            (
+                (8, 1, 16, 1),
+                [5, 0, 0, 0],
+                vec![(first, most), (second, 2)],
+            ),
+            ((5, 1, 0, 0), DONE, vec![(first, most), (second, 2)]),
+            ((8, 1, 0, 1), [6, 0, 0, 0], vec![(first, most), (second, 2)]),
+            ((5, 2, 0, 0), DONE, vec![(posted(0), 1)]),
+            ((9, 1, 0, 0), [0, 1, 0, 0], vec![(posted(0), 1)]),
+            ((9, 2, 0, 0), [0, 1, 0, 0], vec![(posted(0), 1)]),
+            ((8, 2, 0, 5), DONE, vec![(posted(0), 1), (second, 5)]),
+            (
+                (9, 2, 0, 0),
+                [0, 6, 0, 0],
+                vec![(posted(0), 1), (second, 5)],
+            ),
+            (
+                (9, 1, 0, 0),
+                [0, 1, 0, 0],
+                vec![(posted(0), 1), (second, 5)],
+            ),
+            // The adds wrap in their own place.
+            ((8, 2, 0, most - 4), DONE, vec![(posted(0), 1)]),
+            ((8, 2, 0, most), DONE, vec![(posted(0), 1), (second, most)]),
+            ((9, 2, 0, 0), DONE, vec![(posted(0), 1), (second, most)]),
+            ((5, 2, 0, 0), DONE, vec![(posted(0), 1), (second, most)]),
             // 1 and 4,294,967,295: the total is 0.
-            ((5, 1, 0, 0), [0; 3], vec![]),
+            ((5, 1, 0, 0), DONE, vec![]),
         ],
     );
 }
@@ -133,24 +145,28 @@ fn collecting(tally: &mut Tally) {
         "collecting",
         &mut areas,
         vec![
-            ((8, 1, 3, 10), [0; 3], vec![adds[0]]),
-            ((2, 1, 0, 6), [0; 3], vec![adds[0]]),
-            ((8, 2, 15, 4), [0; 3], adds.clone()),
-            ((6, 2, 0, 0), [0; 3], adds.clone()),
-            ((5, 2, 0, 0), [0; 3], adds),
-            ((5, 1, 0, 0), [0, 0, 1], totals.clone()),
-            ((1, 2, 0, 0), [0, 6, 0], totals.clone()),
-            ((8, 2, 3, 7), [0; 3], more.clone()),
-            ((6, 1, 0, 0), [0; 3], more.clone()),
-            ((5, 1, 0, 0), [0; 3], more),
-            ((5, 2, 0, 0), [0; 3], vec![(posted(3), 17), totals[1]]),
+            ((8, 1, 3, 10), DONE, vec![adds[0]]),
+            ((2, 1, 0, 6), DONE, vec![adds[0]]),
+            ((8, 2, 15, 4), DONE, adds.clone()),
+            ((6, 2, 0, 0), DONE, adds.clone()),
+            ((5, 2, 0, 0), DONE, adds),
+            ((5, 1, 0, 0), [0, 0, 1, 1], totals.clone()),
+            ((1, 2, 0, 0), [0, 6, 0, 0], totals.clone()),
+            ((8, 2, 3, 7), DONE, more.clone()),
+            ((6, 1, 0, 0), DONE, more.clone()),
+            ((5, 1, 0, 0), DONE, more),
+            ((5, 2, 0, 0), DONE, vec![(posted(3), 17), totals[1]]),
             // A round without adds, and one that collects, leave the totals.
-            ((5, 1, 0, 0), [0; 3], vec![(posted(3), 17), totals[1]]),
-            ((5, 2, 0, 0), [0; 3], vec![(posted(3), 17), totals[1]]),
-            ((6, 1, 0, 0), [0; 3], vec![(posted(3), 17), totals[1]]),
-            ((5, 1, 0, 0), [0; 3], vec![(posted(3), 17), totals[1]]),
-            ((5, 2, 0, 0), [0; 3], vec![(posted(3), 17), totals[1]]),
-            ((9, 1, 3, 0), [0, 17, 0], vec![(posted(3), 17), totals[1]]),
+            ((5, 1, 0, 0), DONE, vec![(posted(3), 17), totals[1]]),
+            ((5, 2, 0, 0), DONE, vec![(posted(3), 17), totals[1]]),
+            ((6, 1, 0, 0), DONE, vec![(posted(3), 17), totals[1]]),
+            ((5, 1, 0, 0), DONE, vec![(posted(3), 17), totals[1]]),
+            ((5, 2, 0, 0), DONE, vec![(posted(3), 17), totals[1]]),
+            (
+                (9, 1, 3, 0),
+                [0, 17, 0, 0],
+                vec![(posted(3), 17), totals[1]],
+            ),
         ],
     );
 }
@@ -163,25 +179,21 @@ fn one_processor(tally: &mut Tally) {
         "one processor",
         &mut areas,
         vec![
-            ((8, 1, 15, 3), [0; 3], vec![(added(1, 15), 3)]),
-            ((5, 1, 0, 0), [0; 3], vec![(posted(15), 3)]),
+            ((8, 1, 15, 3), DONE, vec![(added(1, 15), 3)]),
+            ((5, 1, 0, 0), DONE, vec![(posted(15), 3)]),
             (
                 (8, 1, 15, 4),
-                [0; 3],
+                DONE,
                 vec![(posted(15), 3), (added(1, 15), 4)],
             ),
             (
                 (9, 1, 15, 0),
-                [0, 7, 0],
+                [0, 7, 0, 0],
                 vec![(posted(15), 3), (added(1, 15), 4)],
             ),
-            (
-                (6, 1, 0, 0),
-                [0; 3],
-                vec![(posted(15), 3), (added(1, 15), 4)],
-            ),
-            ((5, 1, 0, 0), [0; 3], vec![(posted(15), 7)]),
-            ((8, 2, 15, 1), [4, 0, 0], vec![(posted(15), 7)]),
+            ((6, 1, 0, 0), DONE, vec![(posted(15), 3), (added(1, 15), 4)]),
+            ((5, 1, 0, 0), DONE, vec![(posted(15), 7)]),
+            ((8, 2, 15, 1), [4, 0, 0, 0], vec![(posted(15), 7)]),
         ],
     );
 }
@@ -194,9 +206,9 @@ fn eight_processors(tally: &mut Tally) {
     let mut fine = true;
     for p in 1..=8 {
         for t in 0..16 {
-            let mut answer = [77; 3];
+            let mut answer = UNANSWERED;
             let fields = (8, p as u32, t as u32, number(p, t));
-            fine &= step(fields, &mut answer, &mut areas) == 0 && answer == [0; 3];
+            fine &= step(fields, &mut answer, &mut areas) == 0 && answer == DONE;
             words.push((added(p, t), number(p, t)));
         }
     }
@@ -206,7 +218,7 @@ fn eight_processors(tally: &mut Tally) {
         areas.words[TALLIES..] == tally_part(&words),
     );
     for p in (1..=8).rev() {
-        fine &= step((5, p, 0, 0), &mut [0; 3], &mut areas) == 0;
+        fine &= step((5, p, 0, 0), &mut { UNANSWERED }, &mut areas) == 0;
     }
     let totals: Vec<Word> = (0..16)
         .map(|t| {
@@ -229,16 +241,16 @@ fn on_the_reached_state(tally: &mut Tally, reached: &Areas) {
         "the reached state",
         &mut areas,
         vec![
-            ((8, 1, 2, 8), [0; 3], vec![adds[0]]),
-            ((8, 2, 2, 9), [0; 3], adds.clone()),
-            ((9, 1, 2, 0), [0, 8, 0], adds.clone()),
-            ((9, 2, 2, 0), [0, 9, 0], adds.clone()),
-            ((8, 3, 2, 1), [6, 0, 0], adds.clone()),
-            ((9, 4, 2, 0), [17, 0, 0], adds.clone()),
+            ((8, 1, 2, 8), DONE, vec![adds[0]]),
+            ((8, 2, 2, 9), DONE, adds.clone()),
+            ((9, 1, 2, 0), [0, 8, 0, 0], adds.clone()),
+            ((9, 2, 2, 0), [0, 9, 0, 0], adds.clone()),
+            ((8, 3, 2, 1), [6, 0, 0, 0], adds.clone()),
+            ((9, 4, 2, 0), [17, 0, 0, 0], adds.clone()),
             // Neither the release nor the grant carries adds.
-            ((4, 2, 0, 0), [0; 3], adds.clone()),
-            ((9, 4, 2, 0), [0; 3], adds.clone()),
-            ((1, 4, 1, 0), [0, 9, 2], adds),
+            ((4, 2, 0, 0), DONE, adds.clone()),
+            ((9, 4, 2, 0), DONE, adds.clone()),
+            ((1, 4, 1, 0), [0, 9, 2, 2], adds),
         ],
     );
 }

@@ -3,7 +3,7 @@
 
 use super::corpus::{self, Tried};
 use crate::judge::{directly_before, judge, Ties};
-use crate::stepfile::Line;
+use crate::stepfile::{Line, Printed};
 use crate::steps::explain::explain;
 use crate::steps::input::Range;
 use crate::steps::order::Order;
@@ -17,13 +17,16 @@ fn walk(tried: &Tried) -> Walk<'_> {
     Walk::new(&tried.file, &tried.run, &mut Progress::new())
 }
 
-fn lines(tried: &Tried) -> Vec<Line> {
+fn printed(tried: &Tried) -> Printed {
     let replies = tried.run.replies.iter().enumerate();
     let line = |(number, reply): (usize, &Reply)| {
         let text = format!("{number} {} {} {}", reply.refusal, reply.value, reply.count);
         Line::parse(&text).expect("a line")
     };
-    replies.map(line).collect()
+    Printed {
+        lines: replies.map(line).collect(),
+        words: tried.run.words,
+    }
 }
 
 /// Reads and their findings, by record number and place.
@@ -35,7 +38,7 @@ fn findings(tried: &Tried) -> Vec<(usize, usize, Finding)> {
 #[test]
 fn reads_are_as_the_judge_finds_them() {
     corpus::each(corpus::all(), |tried| {
-        let verdict = judge(&tried.file, &lines(tried)).expect("a verdict");
+        let verdict = judge(&tried.file, &printed(tried)).expect("a verdict");
         let found = findings(tried);
         let is_ordered = |finding: &Finding| !matches!(finding, Finding::NotOrdered(_));
         let ordered = found.iter().filter(|(.., finding)| is_ordered(finding));
