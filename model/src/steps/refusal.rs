@@ -28,6 +28,12 @@ pub fn of_opening(bytes: &[u8]) -> String {
     if rest != [0; 4] {
         wrong.push("its last four bytes are not all 0".to_string());
     }
+    if bytes
+        .iter()
+        .all(|byte| matches!(byte, b'\t' | b'\n' | b'\r' | b' '..=b'~'))
+    {
+        wrong.push("is this a text? ./steps pack makes a step file of it".to_string());
+    }
     format!("{}; the run stops", wrong.join("; "))
 }
 
@@ -142,20 +148,22 @@ fn waits(step: &Step, ledger: &Ledger) -> String {
     let Some((lock, turn)) = ledger.awaited_by(step.card) else {
         return "it waits for a lock".to_string();
     };
+    let waited = format!("it has waited for lock {lock} since {}", turn.since);
+    let Some(holder) = ledger.locks[lock].holder else {
+        return waited;
+    };
     let line = ledger.locks[lock].line.iter().map(|turn| turn.card);
     let before: Vec<u8> = line.take_while(|card| *card != step.card).collect();
-    let mut why = format!("it has waited for lock {lock} since {}", turn.since);
-    if !before.is_empty() {
-        why.push_str(&format!(", behind {}", cards_listed(&before)));
-    }
-    let Some(holder) = ledger.locks[lock].holder else {
-        return why;
+    let then = match before.len() {
+        0 => String::new(),
+        _ => format!(
+            " and then {}, which waited before it,",
+            cards_listed(&before)
+        ),
     };
-    let first = format!(
-        "card {}, holder since {}, would have to release it",
-        holder.card, holder.since
-    );
-    format!("{why}; {first}{}", stuck(holder.card, ledger))
+    let first = format!("card {}, holder since {},", holder.card, holder.since);
+    let stuck = stuck(holder.card, ledger);
+    format!("{waited}; {first}{then} would have to release it{stuck}")
 }
 
 /// Why a holder cannot release its lock: it has arrived, or waits itself for
@@ -187,7 +195,10 @@ fn stuck(holder: u8, ledger: &Ledger) -> String {
 
 fn arrives_holding(step: &Step, ledger: &Ledger) -> String {
     let held = ledger.held_by(step.card);
-    let name = |(lock, since): &(usize, usize)| format!("lock {lock}, since {since}");
+    let name = |(lock, since): &(usize, usize)| {
+        let waiting = waiting(*lock, ledger);
+        format!("lock {lock}, since {since}{waiting}")
+    };
     let names: Vec<String> = held.iter().map(name).collect();
     let it = if held.len() == 1 { "it" } else { "them" };
     let holds = format!("it holds {}", names.join("; "));
@@ -195,26 +206,37 @@ fn arrives_holding(step: &Step, ledger: &Ledger) -> String {
 }
 
 fn holds_already(step: &Step, ledger: &Ledger) -> String {
-    let lock = ledger.locks.get(usize::from(step.object));
-    match lock.and_then(|lock| lock.holder) {
-        Some(holder) => format!(
-            "it holds lock {} already, since {}; it would have to release it first",
-            step.object, holder.since
-        ),
-        None => "it holds the lock already".to_string(),
-    }
+    let lock = usize::from(step.object);
+    let holder = ledger.locks.get(lock).and_then(|lock| lock.holder);
+    let since = holder.map_or(String::new(), |turn| format!(", since {}", turn.since));
+    let waiting = waiting(lock, ledger);
+    format!("it holds lock {lock} already{since}{waiting}; it would have to release it first")
 }
 
 fn not_holder(step: &Step, ledger: &Ledger) -> String {
-    let lock = ledger.locks.get(usize::from(step.object));
-    let who = match lock.and_then(|lock| lock.holder) {
-        Some(holder) => format!("card {} holds it, since {}", holder.card, holder.since),
+    let lock = usize::from(step.object);
+    let who = match ledger.locks.get(lock).and_then(|lock| lock.holder) {
+        Some(holder) => {
+            let waiting = waiting(lock, ledger);
+            format!(
+                "card {} holds it, since {}{waiting}",
+                holder.card, holder.since
+            )
+        }
         None => "nobody holds it".to_string(),
     };
-    format!(
-        "card {} does not hold lock {}: {who}",
-        step.card, step.object
-    )
+    format!("card {} does not hold lock {lock}: {who}", step.card)
+}
+
+/// Who waits for a lock, if anybody does.
+fn waiting(lock: usize, ledger: &Ledger) -> String {
+    let line = ledger.locks.get(lock).map(|lock| &lock.line);
+    let cards: Vec<u8> = line.into_iter().flatten().map(|turn| turn.card).collect();
+    match cards.len() {
+        0 => String::new(),
+        1 => format!(", and {} waits for it", cards_listed(&cards)),
+        _ => format!(", and {} wait for it", cards_listed(&cards)),
+    }
 }
 
 fn no_interval(step: &Step, ledger: &Ledger) -> String {

@@ -55,6 +55,18 @@ fn locks() {
 }
 
 #[test]
+fn a_line() {
+    let line = "open 4 cards, 1 page, 1 lock\ncard 1 acquires lock 0\ncard 2 acquires lock 0\ncard 3 acquires lock 0\n";
+    let due = "it has waited for lock 0 since 3; card 1, holder since 1, and then card 2, which waited before it, would have to release it";
+    assert_eq!(said(17, &format!("{line}card 3 arrives")), due);
+    let due =
+        "card 4 does not hold lock 0: card 1 holds it, since 1, and cards 2 and 3 wait for it";
+    assert_eq!(said(8, &format!("{line}card 4 releases lock 0")), due);
+    let due = "it holds lock 0, since 1, and cards 2 and 3 wait for it; it would have to release it first";
+    assert_eq!(said(18, &format!("{line}card 1 arrives")), due);
+}
+
+#[test]
 fn a_hang() {
     let taken = format!("{TWO}card 1 acquires lock 0\ncard 2 acquires lock 1\n");
     let text = format!("{taken}card 1 acquires lock 1\ncard 2 acquires lock 0\ncard 1 arrives");
@@ -101,6 +113,11 @@ fn openings() {
         of_opening(&[0, 1]),
         "the file ends within record 0, 2 bytes of eight; the run stops"
     );
+}
+
+#[test]
+fn a_text_in_the_place_of_a_step_file() {
+    assert!(of_opening(b"open 2 c").contains("is this a text?"));
 }
 
 /// Each number that a line may have is known.
