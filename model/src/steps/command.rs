@@ -9,6 +9,7 @@ use super::proved::{self, Home};
 use super::scene::Scene;
 use super::walk::Walk;
 use super::{explain, help, picture, sentence, state, text};
+use crate::stepfile::MOST_STEPS;
 use std::env;
 use std::ffi::OsString;
 use std::io::{self, BufWriter, IsTerminal, Write};
@@ -153,6 +154,10 @@ fn state_after(name: &str, number: &str, out: &mut dyn Write) -> Result<(), Fail
         return Err(Failure::Said(format!(
             "N is {number}, and the last whole record of {name} is {last}"
         )));
+    }
+    if number > MOST_STEPS {
+        let said = format!("the run stops behind record {MOST_STEPS}");
+        return Err(Failure::Said(said));
     }
     let records = &file[..8 * number + 8];
     let areas = Areas::from_bytes(&proved::areas(&Home::found()?, records)?)?;
