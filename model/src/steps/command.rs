@@ -9,7 +9,9 @@ use super::proved::{self, Home};
 use super::scene::Scene;
 use super::walk::Walk;
 use super::{explain, help, picture, sentence, state, text};
+use crate::stepfile::MOST_STEPS;
 use std::env;
+use std::ffi::OsString;
 use std::io::{self, BufWriter, IsTerminal, Write};
 use std::process::ExitCode;
 
@@ -34,10 +36,16 @@ impl From<io::Error> for Failure {
 }
 
 pub fn main() -> ExitCode {
-    let words: Vec<String> = env::args().skip(1).collect();
-    let words: Vec<&str> = words.iter().map(String::as_str).collect();
+    let words: Vec<OsString> = env::args_os().skip(1).collect();
+    let words: Option<Vec<&str>> = words.iter().map(|word| word.to_str()).collect();
     let mut out = BufWriter::with_capacity(1 << 16, io::stdout().lock());
-    let done = command(&words, &mut out).and_then(|()| Ok(out.flush()?));
+    let done = match words {
+        Some(words) => command(&words, &mut out),
+        None => Err(Failure::Said(
+            "a word of the command is not UTF-8".to_string(),
+        )),
+    };
+    let done = done.and_then(|()| Ok(out.flush()?));
     match done {
         Ok(()) => ExitCode::SUCCESS,
         // A reader that has gone, as in `| head`, has had what it wanted.
@@ -146,6 +154,10 @@ fn state_after(name: &str, number: &str, out: &mut dyn Write) -> Result<(), Fail
         return Err(Failure::Said(format!(
             "N is {number}, and the last whole record of {name} is {last}"
         )));
+    }
+    if number > MOST_STEPS {
+        let said = format!("the run stops behind record {MOST_STEPS}");
+        return Err(Failure::Said(said));
     }
     let records = &file[..8 * number + 8];
     let areas = Areas::from_bytes(&proved::areas(&Home::found()?, records)?)?;

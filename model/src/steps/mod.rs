@@ -4,6 +4,7 @@ mod areas;
 pub mod command;
 mod explain;
 mod help;
+mod hindrance;
 mod input;
 mod layout;
 mod ledger;

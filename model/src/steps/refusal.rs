@@ -1,7 +1,8 @@
 //! A refusal in words, with what would have to be different.
 
+use super::hindrance;
 use super::ledger::Ledger;
-use super::sentence::{cards_listed, counted, listed};
+use super::sentence::{counted, listed};
 use crate::model::{
     Step, ACQUIRE, ARRIVE, MOST_INTERVALS, MOST_RECORDS, READ, RELEASE, TALLIES, TALLY_ADD,
     TALLY_READ, WANT, WRITE,
@@ -27,6 +28,12 @@ pub fn of_opening(bytes: &[u8]) -> String {
     }
     if rest != [0; 4] {
         wrong.push("its last four bytes are not all 0".to_string());
+    }
+    if bytes
+        .iter()
+        .all(|byte| matches!(byte, b'\t' | b'\n' | b'\r' | b' '..=b'~'))
+    {
+        wrong.push("is this a text? ./steps pack makes a step file of it".to_string());
     }
     format!("{}; the run stops", wrong.join("; "))
 }
@@ -55,11 +62,11 @@ pub fn of_step(refusal: u32, number: usize, bytes: &[u8], ledger: &Ledger) -> St
         3 => format!("{} is no kind of step: they are 1 to 6, 8 and 9", step.kind),
         4 => no_card(&step, ledger),
         5 => wrong_field(&step, ledger),
-        6 => has_arrived(&step, ledger),
-        17 => waits(&step, ledger),
-        18 => arrives_holding(&step, ledger),
-        7 => holds_already(&step, ledger),
-        8 => not_holder(&step, ledger),
+        6 => hindrance::has_arrived(&step, ledger),
+        17 => hindrance::waits(&step, ledger),
+        18 => hindrance::arrives_holding(&step, ledger),
+        7 => hindrance::holds_already(&step, ledger),
+        8 => hindrance::not_holder(&step, ledger),
         9 => no_interval(&step, ledger),
         10 => no_space(ledger),
         _ => "for a reason that these tools do not know".to_string(),
@@ -107,114 +114,6 @@ fn wrong_field(step: &Step, ledger: &Ledger) -> String {
         ));
     }
     wrong.join("; ")
-}
-
-fn has_arrived(step: &Step, ledger: &Ledger) -> String {
-    let since = ledger.arrived[usize::from(step.card)];
-    let arrived = since.map_or("it has arrived".to_string(), |at| {
-        format!("it has arrived, at {at}")
-    });
-    let missing = ledger.missing();
-    let hindered: Vec<String> = missing
-        .iter()
-        .filter_map(|card| hindrance(*card, ledger))
-        .collect();
-    let mut why = format!(
-        "{arrived}; {} would have to arrive first",
-        cards_listed(&missing)
-    );
-    if !hindered.is_empty() {
-        why.push_str(&format!(" ({})", hindered.join("; ")));
-    }
-    why
-}
-
-/// What keeps a card that has not arrived from doing so.
-fn hindrance(card: u8, ledger: &Ledger) -> Option<String> {
-    let (lock, _) = ledger.awaited_by(card)?;
-    let holder = ledger.locks[lock].holder?.card;
-    Some(format!(
-        "card {card} waits for lock {lock}, which card {holder} holds"
-    ))
-}
-
-fn waits(step: &Step, ledger: &Ledger) -> String {
-    let Some((lock, turn)) = ledger.awaited_by(step.card) else {
-        return "it waits for a lock".to_string();
-    };
-    let line = ledger.locks[lock].line.iter().map(|turn| turn.card);
-    let before: Vec<u8> = line.take_while(|card| *card != step.card).collect();
-    let mut why = format!("it has waited for lock {lock} since {}", turn.since);
-    if !before.is_empty() {
-        why.push_str(&format!(", behind {}", cards_listed(&before)));
-    }
-    let Some(holder) = ledger.locks[lock].holder else {
-        return why;
-    };
-    let first = format!(
-        "card {}, holder since {}, would have to release it",
-        holder.card, holder.since
-    );
-    format!("{why}; {first}{}", stuck(holder.card, ledger))
-}
-
-/// Why a holder cannot release its lock: it has arrived, or waits itself for
-/// one that waits.
-fn stuck(holder: u8, ledger: &Ledger) -> String {
-    let mut met = Vec::new();
-    let mut why = String::new();
-    let mut card = holder;
-    while !met.contains(&card) {
-        met.push(card);
-        if let Some(at) = ledger.arrived[usize::from(card)] {
-            why.push_str(&format!("; card {card} has arrived, at {at}"));
-            return why;
-        }
-        let Some((lock, _)) = ledger.awaited_by(card) else {
-            return why;
-        };
-        let Some(next) = ledger.locks[lock].holder else {
-            return why;
-        };
-        why.push_str(&format!(
-            "; card {card} waits for lock {lock} of card {}",
-            next.card
-        ));
-        card = next.card;
-    }
-    format!("{why}: they wait for each other for good")
-}
-
-fn arrives_holding(step: &Step, ledger: &Ledger) -> String {
-    let held = ledger.held_by(step.card);
-    let name = |(lock, since): &(usize, usize)| format!("lock {lock}, since {since}");
-    let names: Vec<String> = held.iter().map(name).collect();
-    let it = if held.len() == 1 { "it" } else { "them" };
-    let holds = format!("it holds {}", names.join("; "));
-    format!("{holds}; it would have to release {it} first")
-}
-
-fn holds_already(step: &Step, ledger: &Ledger) -> String {
-    let lock = ledger.locks.get(usize::from(step.object));
-    match lock.and_then(|lock| lock.holder) {
-        Some(holder) => format!(
-            "it holds lock {} already, since {}; it would have to release it first",
-            step.object, holder.since
-        ),
-        None => "it holds the lock already".to_string(),
-    }
-}
-
-fn not_holder(step: &Step, ledger: &Ledger) -> String {
-    let lock = ledger.locks.get(usize::from(step.object));
-    let who = match lock.and_then(|lock| lock.holder) {
-        Some(holder) => format!("card {} holds it, since {}", holder.card, holder.since),
-        None => "nobody holds it".to_string(),
-    };
-    format!(
-        "card {} does not hold lock {}: {who}",
-        step.card, step.object
-    )
 }
 
 fn no_interval(step: &Step, ledger: &Ledger) -> String {

@@ -1,9 +1,15 @@
-//! Refusals in words, on mainframes made by accepted steps.
+//! Refusals in words, on mainframes made by accepted steps, and that what is
+//! said of the proved program's refusals is so.
 
+use super::corpus;
 use crate::model::Step;
 use crate::steps::ledger::Ledger;
 use crate::steps::pack::pack;
+use crate::steps::progress::Progress;
 use crate::steps::refusal::{in_short, of_opening, of_step};
+use crate::steps::walk::Walk;
+use std::collections::BTreeSet;
+use std::sync::Mutex;
 
 /// The records of a text, all but the last of them taken as accepted; what the
 /// refusal of the last one says.
@@ -55,6 +61,18 @@ fn locks() {
 }
 
 #[test]
+fn a_line() {
+    let line = "open 4 cards, 1 page, 1 lock\ncard 1 acquires lock 0\ncard 2 acquires lock 0\ncard 3 acquires lock 0\n";
+    let due = "it has waited for lock 0 since 3; card 1, holder since 1, and then card 2, which waited before it, would have to release it";
+    assert_eq!(said(17, &format!("{line}card 3 arrives")), due);
+    let due =
+        "card 4 does not hold lock 0: card 1 holds it, since 1, and cards 2 and 3 wait for it";
+    assert_eq!(said(8, &format!("{line}card 4 releases lock 0")), due);
+    let due = "it holds lock 0, since 1, and cards 2 and 3 wait for it; it would have to release it first";
+    assert_eq!(said(18, &format!("{line}card 1 arrives")), due);
+}
+
+#[test]
 fn a_hang() {
     let taken = format!("{TWO}card 1 acquires lock 0\ncard 2 acquires lock 1\n");
     let text = format!("{taken}card 1 acquires lock 1\ncard 2 acquires lock 0\ncard 1 arrives");
@@ -103,10 +121,60 @@ fn openings() {
     );
 }
 
+#[test]
+fn a_text_in_the_place_of_a_step_file() {
+    assert!(of_opening(b"open 2 c").contains("is this a text?"));
+}
+
 /// Each number that a line may have is known.
 #[test]
 fn every_refusal_has_its_words() {
     for refusal in [2, 3, 4, 5, 6, 7, 8, 9, 10, 15, 16, 17, 18] {
         assert_ne!(in_short(refusal), "unknown");
+    }
+}
+
+/// Each refusal of the proved program is one that the accepted steps before it
+/// lead to.
+#[test]
+fn refusals_are_as_the_ledger_has_it() {
+    let met = Mutex::new(BTreeSet::new());
+    corpus::each(corpus::all(), |tried| {
+        let mut walk = Walk::new(&tried.file, &tried.run, &mut Progress::new());
+        while let Some(told) = walk.next() {
+            let (Some(ledger), Some(step)) = (&walk.ledger, &told.step) else {
+                continue;
+            };
+            let refusal = told.reply.refusal;
+            let (name, number) = (&tried.name, told.number);
+            assert!(
+                holds(refusal, step, ledger),
+                "{name}: {number} by {refusal}"
+            );
+            met.lock().expect("no panic").insert(refusal);
+        }
+    });
+    let met = met.into_inner().expect("no panic");
+    let due = BTreeSet::from([0, 3, 4, 5, 6, 7, 8, 9, 10, 16, 17]);
+    assert!(met.is_superset(&due), "{met:?}");
+}
+
+/// Whether the condition of a refusal holds.
+fn holds(refusal: u32, step: &Step, ledger: &Ledger) -> bool {
+    let card = usize::from(step.card);
+    let holder = || {
+        ledger.locks[usize::from(step.object)]
+            .holder
+            .map(|turn| turn.card)
+    };
+    match refusal {
+        6 => ledger.arrived[card].is_some(),
+        7 => holder() == Some(step.card),
+        8 => holder() != Some(step.card),
+        9 => ledger.intervals[card] == 63,
+        10 => ledger.standing() + ledger.dirty.len() == 128,
+        17 => ledger.awaited_by(step.card).is_some(),
+        18 => !ledger.held_by(step.card).is_empty(),
+        _ => true,
     }
 }
