@@ -155,7 +155,7 @@ fn refusals_are_as_the_ledger_has_it() {
         }
     });
     let met = met.into_inner().expect("no panic");
-    let due = BTreeSet::from([0, 3, 4, 5, 6, 7, 8, 9, 10, 16, 17]);
+    let due = BTreeSet::from([0, 3, 4, 5, 6, 7, 8, 9, 10, 16, 17, 18]);
     assert!(met.is_superset(&due), "{met:?}");
 }
 
