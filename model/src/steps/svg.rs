@@ -67,7 +67,8 @@ fn escaped(text: &str) -> String {
     text.chars().filter(|letter| !letter.is_control()).collect()
 }
 
-const LIGHT: &str = "text { font-family: Verdana, 'DejaVu Sans', Arial, sans-serif; font-size: 12px; fill: #1d2126; }
+const LIGHT: &str = "svg { background: #ffffff; }
+text { font-family: Verdana, 'DejaVu Sans', Arial, sans-serif; font-size: 12px; fill: #1d2126; }
 .label { paint-order: stroke; stroke: #ffffff; stroke-width: 3px; stroke-linejoin: round; }
 .title { font-size: 15px; font-weight: bold; }
 .card { font-weight: bold; }
@@ -94,7 +95,8 @@ const LIGHT: &str = "text { font-family: Verdana, 'DejaVu Sans', Arial, sans-ser
 .refused { stroke: #6a727b; stroke-width: 2; fill: none; }
 ";
 
-const DARK: &str = "text { fill: #e8eaed; }
+const DARK: &str = "svg { background: #17191c; }
+text { fill: #e8eaed; }
 .label { stroke: #17191c; }
 .number, .grey { fill: #a5adb6; }
 .bad { fill: #ff8a80; }
