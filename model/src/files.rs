@@ -43,11 +43,13 @@ fn readme(cases: &[Case]) -> String {
 
 const README_HEAD: &str = "# Step files and their lines
 
-NAME.steps is a step file, NAME.lines what the run program prints for it.
-The last line, `words` and a total, is there unless the run stopped at 2, 15 or
-16. Written by `model make-files`; each line was set down by hand from documents
-01 and 02 (model/src/cases.rs, wait_cases.rs, equal_cases.rs, tally_cases.rs,
-skip_cases.rs, words_cases.rs, holder_cases.rs) and agrees with the second model.
+NAME.steps is a step file, NAME.lines what the run program prints for it,
+NAME.txt the file in words. The last line, `words` and a total, is there unless
+the run stopped at 2, 15 or 16. The texts are written by `tests/steps/store`, the
+others by `model make-files`; each line was set down by hand
+from documents 01 and 02 (model/src/cases.rs, wait_cases.rs, equal_cases.rs,
+tally_cases.rs, skip_cases.rs, words_cases.rs, holder_cases.rs) and agrees with
+the second model.
 
 ";
 

@@ -42,6 +42,8 @@ pub struct Verdict {
     pub reads: usize,
     /// Reads of which the strong half names the value.
     pub strong: usize,
+    /// Their record numbers.
+    pub strong_numbers: Vec<usize>,
     /// Of those, the reads with at least one earlier write.
     pub strong_written: usize,
     /// Reads of tallies; each has one value that is due.
@@ -103,6 +105,8 @@ impl Verdict {
         let due = finding.last.unwrap_or(0);
         self.reads += 1;
         self.strong += usize::from(finding.premise);
+        self.strong_numbers
+            .extend(finding.premise.then_some(read.number));
         self.strong_written += usize::from(finding.premise && finding.last.is_some());
         let strong_broken = finding.premise && due != read.answered;
         if strong_broken {
@@ -284,13 +288,13 @@ pub fn grants(file: &[u8], printed: &Printed) -> Result<Vec<(usize, u8)>, String
 }
 
 /// What makes one step directly before another, beside the steps themselves.
-struct Ties {
-    ends: Vec<Option<usize>>,
-    served: Vec<Option<u8>>,
+pub struct Ties {
+    pub ends: Vec<Option<usize>>,
+    pub served: Vec<Option<u8>>,
 }
 
 impl Ties {
-    fn of(cards: usize, list: &[Accepted]) -> Ties {
+    pub fn of(cards: usize, list: &[Accepted]) -> Ties {
         Ties {
             ends: round_ends(cards, list),
             served: served_cards(list),
@@ -303,7 +307,7 @@ impl Ties {
 /// that lock; every arrival of a completed round before every step any card
 /// takes after that round's last arrival"; and L1's "the release precedes the
 /// waiter's next step".
-fn directly_before(list: &[Accepted], ties: &Ties, s: usize, t: usize) -> bool {
+pub fn directly_before(list: &[Accepted], ties: &Ties, s: usize, t: usize) -> bool {
     let (first, second) = (list[s].step, list[t].step);
     let same_card = first.card == second.card;
     let by_lock = first.kind == RELEASE && second.kind == ACQUIRE && first.object == second.object;
@@ -377,7 +381,7 @@ fn all_ordered(list: &[Accepted], before: &[Set], writes: &[usize]) -> bool {
 // The same with vectors that count steps.
 
 /// For each card how many of its accepted steps are known.
-type Known = BTreeMap<u8, usize>;
+pub type Known = BTreeMap<u8, usize>;
 
 fn learn(mine: &mut Known, news: &Known) {
     for (card, steps) in news {
@@ -442,7 +446,7 @@ impl LockHistory {
 
 /// The judge's own vectors: of each card, of each lock, of each round.
 #[derive(Default)]
-struct Clocks {
+pub struct Clocks {
     card: BTreeMap<u8, Known>,
     lock: BTreeMap<u16, LockHistory>,
     round: Known,
@@ -453,7 +457,7 @@ struct Clocks {
 
 impl Clocks {
     /// Counts the step in and gives what is before it, itself included.
-    fn enter(&mut self, step: &Step) -> Known {
+    pub fn enter(&mut self, step: &Step) -> Known {
         let known = self.card.entry(step.card).or_default();
         learn(known, &self.completed);
         if step.kind == ACQUIRE {
@@ -466,7 +470,7 @@ impl Clocks {
     }
 
     /// What the step hands on.
-    fn leave(&mut self, step: &Step, known: &Known, cards: usize) {
+    pub fn leave(&mut self, step: &Step, known: &Known, cards: usize) {
         if step.kind == RELEASE {
             let lock = self.lock.entry(step.object).or_default();
             learn(&mut lock.released, known);
