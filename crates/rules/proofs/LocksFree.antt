@@ -19,6 +19,7 @@ use Rattle.rules.specs.Close.{closed}
 use Rattle.rules.specs.Steps.{atBarrier, allArrived}
 use Rattle.rules.specs.Refusals.{Step, Arrive, actionOf, holdsAny, refusalInOrder, effect, nextInOrder, refusal, next}
 use Rattle.rules.specs.Runs.{stateAfter}
+use Rattle.rules.specs.Waiting.{lineIn}
 use Rattle.rules.proofs.inorder.Facts.{InOrder}
 use Rattle.rules.proofs.inorder.InOrderSays.{in-order-says}
 use Rattle.rules.proofs.inorder.InOrderWhen.{in-order-when}
@@ -27,7 +28,7 @@ use Rattle.rules.proofs.inorder.Outside.{not-held-outside}
 use Rattle.rules.proofs.inorder.Accepted.{Accepted, accepted-says, present-says, late-arrive}
 use Rattle.rules.proofs.InOrderRuns.{step-keeps-order, refusal-is-not-one}
 use Rattle.rules.proofs.order.MarksAfter.{arrived-at-barrier, holder-after, linesAfter}
-use Rattle.rules.proofs.WaitsItsTurn.{lineIn, lines-next, holder-next, round-meets-no-line}
+use Rattle.rules.proofs.WaitsItsTurn.{lines-next, holder-next, round-meets-no-line}
 
 -- no lock is held, and no line stands
 pub record LocksFree (s : State) : Type 0 where

@@ -9,4 +9,5 @@ pub mod Steps
 pub mod Refusals
 pub mod Runs
 pub mod Order
+pub mod Waiting
 pub mod Demand
