@@ -1,8 +1,10 @@
 -- what a reader opens: the theorems, and the runs that show them
 pub mod Space
+pub mod RowsExactly
 pub mod InOrderRuns
 pub mod StrictOrder
 pub mod WaitsItsTurn
+pub mod WaitingSteps
 pub mod WaitingCases
 pub mod LocksFree
 pub mod StoresNoted

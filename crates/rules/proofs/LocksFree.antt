@@ -19,7 +19,7 @@ use Rattle.rules.specs.Close.{closed}
 use Rattle.rules.specs.Steps.{atBarrier, allArrived}
 use Rattle.rules.specs.Refusals.{Step, Arrive, actionOf, holdsAny, refusalInOrder, effect, nextInOrder, refusal, next}
 use Rattle.rules.specs.Runs.{stateAfter}
-use Rattle.rules.specs.Waiting.{lineIn}
+use Rattle.rules.specs.LocksFree.{LocksFree, FindsLocksFree}
 use Rattle.rules.proofs.inorder.Facts.{InOrder}
 use Rattle.rules.proofs.inorder.InOrderSays.{in-order-says}
 use Rattle.rules.proofs.inorder.InOrderWhen.{in-order-when}
@@ -29,11 +29,6 @@ use Rattle.rules.proofs.inorder.Accepted.{Accepted, accepted-says, pres
 use Rattle.rules.proofs.InOrderRuns.{step-keeps-order, refusal-is-not-one}
 use Rattle.rules.proofs.order.MarksAfter.{arrived-at-barrier, holder-after, linesAfter}
 use Rattle.rules.proofs.WaitsItsTurn.{lines-next, holder-next, round-meets-no-line}
-
--- no lock is held, and no line stands
-pub record LocksFree (s : State) : Type 0 where
-  pub unheld : (l : ℕ) → holder s l ≡ 0
-  pub no-line : (l : ℕ) → lineIn s l ≡ []
 
 -- ---- one step, from any state in order
 
@@ -96,11 +91,6 @@ run-in-order : (lim : Limits) (s : State) (ts : List Step) → inOrder lim s ≡
 unfolding stateAfter
 run-in-order lim s [] e = e
 run-in-order lim s (t ∷ ts) e = run-in-order lim (next lim s t) ts (step-keeps-order lim s t e)
-
--- an arrival that completes a round finds every lock free, and leaves it so
-pub record FindsLocksFree (lim : Limits) (s : State) (t : Step) : Type 0 where
-  pub before : LocksFree s
-  pub after : LocksFree (next lim s t)
 
 pub round-finds-locks-free : (lim : Limits) (o : Opening) → openingRefusal lim o ≡ 0 → (ts : List Step) (t : Step)
     → refusal lim (stateAfter lim (opened lim (o .counts)) ts) t ≡ 0 → actionOf t ≡ Arrive

@@ -93,7 +93,7 @@ module _ (lim : Limits) (s : State) (t : Step) (ordered : inOrder lim s ≡ true
   o = in-order-says lim s ordered
 
   -- an accepted step has its effect
-  accepted-next : refusal lim s t ≡ 0 → next lim s t ≡ effect lim s (t .processor) (actionOf t) .after
+  pub accepted-next : refusal lim s t ≡ 0 → next lim s t ≡ effect lim s (t .processor) (actionOf t) .after
   unfolding next nextInOrder refusal
   accepted-next e = rw ordered (ap (λ (b : Bool). cond b (effect lim s (t .processor) (actionOf t) .after) s) (eq-eqb (refusalInOrder lim s t) 0 (rw ordered at e)))
 

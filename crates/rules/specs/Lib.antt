@@ -7,7 +7,13 @@ pub mod Close
 pub mod Fetch
 pub mod Steps
 pub mod Refusals
+pub mod Rows
 pub mod Runs
 pub mod Order
-pub mod Waiting
 pub mod Demand
+pub mod Noted
+pub mod Waiting
+pub mod TallyTotals
+pub mod Moved
+pub mod LocksFree
+pub mod Bench

@@ -2,18 +2,49 @@
 -- Assumes nothing.
 use Prim.Native.Nat.{ℕ, suc, _-_, _≤_, _<_}
 use mathlib.Core.Path.{_≡_}
+use mathlib.Core.Bool.{true, false}
 use mathlib.Core.Logic.{_⊎_}
-use mathlib.Core.List.{List}
+use mathlib.Core.List.{List, [], _∷_, _++_}
 use lib.ListN.{getD, take}
-use Rattle.rules.specs.State.{Limits, State, holder}
+use Rattle.clock.specs.Clocks.{joined}
+use Rattle.rules.specs.State.{Limits, Lock, clockOf, State, withMarks, clock, holder, hasArrived}
+use Rattle.rules.specs.InOrder.{present}
 use Rattle.rules.specs.Lines.{lineOf}
-use Rattle.rules.specs.Refusals.{Step, Acquire, Release, Answer, refusedAs}
+use Rattle.rules.specs.Close.{closed}
+use Rattle.rules.specs.Refusals.{Step, Acquire, Release, Answer, refusedAs, refusal, next}
 use Rattle.rules.specs.Runs.{answers, stateAfter}
 use Rattle.rules.specs.Order.{Event, events, eventAt, Took, counted, isAcquireOf, isReleaseOf, Serves}
 
 -- the line of lock l in a state, the longest waiter first
 abbrev pub lineIn : State → ℕ → List ℕ
 lineIn s l = lineOf (s .counts .processors) (s .marks) l
+
+-- ---- what asking and releasing do to it
+
+-- "An acquire of a lock held by another card is now accepted: the asker's interval closes and the card waits"
+pub record WaitsInLine (lim : Limits) (s : State) (t : Step) (l : ℕ) : Type 0 where
+  pub accepted : refusal lim s t ≡ 0
+  -- all but the marks is as closing leaves it: nothing is learned yet
+  pub closes : next lim s t ≡ withMarks (closed s (t .processor)) (next lim s t .marks)
+  -- it stands last
+  pub waits : lineIn (next lim s t) l ≡ lineIn s l ++ t .processor ∷ []
+
+-- "At a release the lock goes to the longest waiter, which becomes holder and learns the lock's clock in that same step"
+pub record GoesTo (lim : Limits) (s : State) (t : Step) (l q : ℕ) (rest : List ℕ) : Type 0 where
+  pub holds : holder (next lim s t) l ≡ q
+  pub line : lineIn (next lim s t) l ≡ rest
+  -- "the lock's clock becomes the card's"
+  pub told : clockOf (next lim s t .clocks) (Lock l) ≡ clock (closed s (t .processor)) (t .processor)
+  pub learns : clock (next lim s t) q ≡ joined (clock s q) (clockOf (next lim s t .clocks) (Lock l))
+
+-- "A state in order has only present cards in lines, each card at most once in all, no line at a free lock, and no waiter that has arrived or holds
+-- the lock it waits for"
+pub record LinesAsClaimed (s : State) : Type 0 where
+  pub only-present : (l k q : ℕ) → 1 ≤ q → getD (lineIn s l) k 0 ≡ q → present s q ≡ true
+  pub at-most-once : (l k l′ k′ q : ℕ) → 1 ≤ q → getD (lineIn s l) k 0 ≡ q → getD (lineIn s l′) k′ 0 ≡ q → (l ≡ l′) × (k ≡ k′)
+  pub none-at-free : (l : ℕ) → holder s l ≡ 0 → lineIn s l ≡ []
+  pub none-arrived : (l k q : ℕ) → 1 ≤ q → getD (lineIn s l) k 0 ≡ q → hasArrived s q ≡ false
+  pub none-holds-it : (l k q : ℕ) → 1 ≤ q → getD (lineIn s l) k 0 ≡ q → holder s l ≡ q → ⊥
 
 -- ---- "A card with k waiters before it becomes holder at that lock's release numbered k + 1 from then, and no steps of others change that"
 

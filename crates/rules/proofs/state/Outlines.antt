@@ -13,18 +13,8 @@ use Rattle.rules.specs.Lines.{firstInLine, lockAsked, lockHanded}
 use Rattle.rules.specs.Close.{anyDirty, ticked, newRecord, recorded, cleaned, closed}
 use Rattle.rules.specs.Fetch.{withCopy, fetched}
 use Rattle.rules.specs.Steps.{pageOfWord, read, newTwin, twinTaken, stored, write, learned, acquire, lockTold, waiterTold, release, atBarrier, allArrived, roundDone, pagesFetched, allFetched, noneFetched, emptied, collected, wantsCollection, arrive, want}
+use Rattle.rules.specs.Noted.{Outline, outline, withoutStored}
 use Rattle.rules.specs.Refusals.{Step, Action, Read, Write, Acquire, Release, Arrive, Want, TallyAdd, TallyRead, Unknown, actionOf, objectBound, usesValue, fits, holdsAny, lateRefusal, refusalBy, refusalInOrder, effect, nextInOrder}
-
--- a state without what words, twins and diffs hold: of the pages which are dirty, of the records how many stand
-pub record Outline : Type 0 where
-  pub counts : Counts
-  pub clocks : Clocks
-  pub dirty : List (List ℕ)
-  pub standing : ℕ
-  pub marks : Marks
-
-unfoldable pub outline : State → Outline
-outline s = record { counts = s .counts; clocks = s .clocks; dirty = s .pages .dirty; standing = s .records .standing; marks = s .marks }
 
 -- a state with an outline, and nothing in its pages and slots
 unfoldable blank : Outline → State
@@ -216,10 +206,6 @@ next-alike lim s s′ t e = rw (refused-alike lim s s′ t e) (go (eqb (refusalI
     go false = e
 
 -- ---- the value of a store
-
--- a step without the value that it stores
-unfoldable pub withoutStored : Step → Step
-withoutStored t = record { kind = t .kind; processor = t .processor; object = t .object; value = cond (eqb (t .kind) 2) 0 (t .value) }
 
 module _ (lim : Limits) (s : State) where
   -- a write of v and one of 0
