@@ -1,1 +1,3 @@
+pub mod Lifted
 pub mod Demanded
+pub mod Requested

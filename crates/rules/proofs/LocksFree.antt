@@ -85,6 +85,19 @@ module _ (lim : Limits) (s : State) (t : Step) (ordered : inOrder lim s ≡ true
         no-line = λ l. lines-next lim s t ordered Arrive e is l ∙ round-meets-free-locks .no-line l;
       }
 
+-- ---- "A state that has an arrived card holding a lock is no longer in order"
+
+pub arrived-holder-out : (lim : Limits) (s : State) (l q : ℕ) → 1 ≤ q → holder s l ≡ q → hasArrived s q ≡ true → inOrder lim s ≡ false
+arrived-holder-out lim s l q from holds arrived = go (inOrder lim s) refl
+  where
+    apart : (holder s l ≡ 0) ⊎ (hasArrived s (holder s l) ≡ false) → ⊥
+    apart (inl z) = omega (arith, z, holds, from)
+    apart (inr a) = false≢true (sym a ∙ ap (hasArrived s) holds ∙ arrived)
+
+    go : (b : Bool) → inOrder lim s ≡ b → inOrder lim s ≡ false
+    go true e = absurd (apart (in-order-says lim s e .holder-away l))
+    go false e = e
+
 -- ---- every run
 
 run-in-order : (lim : Limits) (s : State) (ts : List Step) → inOrder lim s ≡ true → inOrder lim (stateAfter lim s ts) ≡ true

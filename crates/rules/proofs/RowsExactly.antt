@@ -1,18 +1,18 @@
 -- Document 01, "the first that applies is given, and only then": a step is accepted exactly when no row of the table of refusals applies to it, and
--- when 7, 17 and 18 are given. For 9 and 10 see Space. Rests on Accepted and Outside. Assumes nothing.
-use Prim.Native.Nat.{ℕ, _+_}
+-- when 3, 7, 17 and 18 are given, and 5 for a tally. For 9 and 10 see Space. Rests on Accepted and Outside. Assumes nothing.
+use Prim.Native.Nat.{ℕ, _+_, _≤_}
 use native.Mathlib.Omega.{arith}
 use mathlib.Core.Path.{_≡_, refl, sym, ap, _∙_}
-use mathlib.Core.Bool.{Bool, true, false, cond, false≢true}
-use mathlib.Core.Logic.{_↔_}
+use mathlib.Core.Bool.{Bool, true, false, cond, not, false≢true}
+use mathlib.Core.Logic.{_↔_, _⊎_, inl, inr}
 use lib.Dec.{ltb, eqb}
-use borrow.Author.Tests.{eqb-true, eqb-false, eq-eqb, ne-eqb, ltb-true, ltb-false}
+use borrow.Author.Tests.{eqb-true, eqb-false, eq-eqb, ne-eqb, ltb-true, ltb-false, le-ltb}
 use Rattle.lists.proofs.Tables.{any-at, any-holds}
-use Rattle.rules.specs.State.{Limits, dirtyAt, State, own, holder}
-use Rattle.rules.specs.InOrder.{present, dirtyPages}
+use Rattle.rules.specs.State.{Limits, dirtyAt, State, own, holder, hasArrived}
+use Rattle.rules.specs.InOrder.{present, dirtyPages, inOrder}
 use Rattle.rules.specs.Lines.{waits}
 use Rattle.rules.specs.Steps.{pageOfWord}
-use Rattle.rules.specs.Refusals.{Step, Action, Read, Write, Acquire, Release, Arrive, Want, TallyAdd, TallyRead, Unknown, actionOf, holdsAny, lateRefusal, refusalBy, refusalInOrder}
+use Rattle.rules.specs.Refusals.{Step, Action, Read, Write, Acquire, Release, Arrive, Want, TallyAdd, TallyRead, Unknown, actionOf, knownKind, objectBound, fits, holdsAny, lateRefusal, refusalBy, refusalInOrder, refusal}
 use Rattle.rules.specs.Rows.{Addressed, Comes, HoldsOne, NoRowApplies}
 use Rattle.rules.proofs.inorder.Facts.{InOrder}
 use Rattle.rules.proofs.inorder.Outside.{not-held-outside}
@@ -31,36 +31,56 @@ module _ (lim : Limits) (s : State) (t : Step) where
   coming-refusal : Comes lim s t → refusalInOrder lim s t ≡ lateRefusal lim s (own s (t .processor)) (t .processor) (actionOf t)
   coming-refusal h = addressed-refusal (h .addressed) ∙ rw (h .not-waiting)
 
-  -- no row by kind gives 17
-  late-not-17 : (e p : ℕ) (a : Action) → lateRefusal lim s e p a ≡ 17 → ⊥
+  -- the rows by kind give neither 17 nor a row above 7
+  record ByKind (n : ℕ) : Type 0 where
+    not-17 : n ≡ 17 → ⊥
+    from-7 : 1 ≤ n → 7 ≤ n
+
+  late-by-kind : (e p : ℕ) (a : Action) → ByKind (lateRefusal lim s e p a)
   unfolding lateRefusal
-  late-not-17 e p (Read w) z = omega (arith, z)
-  late-not-17 e p (Write w v) z = go (dirtyAt (s .pages) p (pageOfWord lim w)) (eqb e (lim .intervals)) (eqb (s .records .standing + dirtyPages s) (lim .records)) z
+  late-by-kind e p (Read w) = record { not-17 = λ z. omega (arith, z); from-7 = λ z. omega (arith, z) }
+  late-by-kind e p (Write w v) = go (dirtyAt (s .pages) p (pageOfWord lim w)) (eqb e (lim .intervals)) (eqb (s .records .standing + dirtyPages s) (lim .records))
     where
-      go : (a b c : Bool) → _≡_ {A = ℕ} (cond a 0 (cond b 9 (cond c 10 0))) 17 → ⊥
-      go true b c z = omega (arith, z)
-      go false true c z = omega (arith, z)
-      go false false true z = omega (arith, z)
-      go false false false z = omega (arith, z)
-  late-not-17 e p (Acquire l) z = go (eqb (holder s l) p) z
+      go : (a b c : Bool) → ByKind (cond a 0 (cond b 9 (cond c 10 0)))
+      go true b c = record { not-17 = λ z. omega (arith, z); from-7 = λ z. omega (arith, z) }
+      go false true c = record { not-17 = λ z. omega (arith, z); from-7 = λ z. omega (arith, z) }
+      go false false true = record { not-17 = λ z. omega (arith, z); from-7 = λ z. omega (arith, z) }
+      go false false false = record { not-17 = λ z. omega (arith, z); from-7 = λ z. omega (arith, z) }
+  late-by-kind e p (Acquire l) = go (eqb (holder s l) p)
     where
-      go : (b : Bool) → _≡_ {A = ℕ} (cond b 7 0) 17 → ⊥
-      go true z = omega (arith, z)
-      go false z = omega (arith, z)
-  late-not-17 e p (Release l) z = go (eqb (holder s l) p) z
+      go : (b : Bool) → ByKind (cond b 7 0)
+      go true = record { not-17 = λ z. omega (arith, z); from-7 = λ z. omega (arith, z) }
+      go false = record { not-17 = λ z. omega (arith, z); from-7 = λ z. omega (arith, z) }
+  late-by-kind e p (Release l) = go (eqb (holder s l) p)
     where
-      go : (b : Bool) → _≡_ {A = ℕ} (cond b 0 8) 17 → ⊥
-      go true z = omega (arith, z)
-      go false z = omega (arith, z)
-  late-not-17 e p Arrive z = go (holdsAny lim s p) z
+      go : (b : Bool) → ByKind (cond b 0 8)
+      go true = record { not-17 = λ z. omega (arith, z); from-7 = λ z. omega (arith, z) }
+      go false = record { not-17 = λ z. omega (arith, z); from-7 = λ z. omega (arith, z) }
+  late-by-kind e p Arrive = go (holdsAny lim s p)
     where
-      go : (b : Bool) → _≡_ {A = ℕ} (cond b 18 0) 17 → ⊥
-      go true z = omega (arith, z)
-      go false z = omega (arith, z)
-  late-not-17 e p Want z = omega (arith, z)
-  late-not-17 e p (TallyAdd j v) z = omega (arith, z)
-  late-not-17 e p (TallyRead j) z = omega (arith, z)
-  late-not-17 e p Unknown z = omega (arith, z)
+      go : (b : Bool) → ByKind (cond b 18 0)
+      go true = record { not-17 = λ z. omega (arith, z); from-7 = λ z. omega (arith, z) }
+      go false = record { not-17 = λ z. omega (arith, z); from-7 = λ z. omega (arith, z) }
+  late-by-kind e p Want = record { not-17 = λ z. omega (arith, z); from-7 = λ z. omega (arith, z) }
+  late-by-kind e p (TallyAdd j v) = record { not-17 = λ z. omega (arith, z); from-7 = λ z. omega (arith, z) }
+  late-by-kind e p (TallyRead j) = record { not-17 = λ z. omega (arith, z); from-7 = λ z. omega (arith, z) }
+  late-by-kind e p Unknown = record { not-17 = λ z. omega (arith, z); from-7 = λ z. omega (arith, z) }
+
+  -- 3 is given exactly where the kind is not known
+  pub three-exactly-when : refusalInOrder lim s t ≡ 3 ↔ knownKind (t .kind) ≡ false
+  unfolding refusalInOrder refusalBy
+  three-exactly-when = go (knownKind (t .kind)) (present s (t .processor)) (fits lim s t) (hasArrived s (t .processor)) (waits (s .marks) (t .processor))
+    where
+      go : (a b c d w : Bool)
+          → _≡_ {A = ℕ} (cond (not a) 3 (cond (not b) 4 (cond (not c) 5 (cond d 6 (cond w 17 (lateRefusal lim s (own s (t .processor)) (t .processor) (actionOf t))))))) 3
+          ↔ (a ≡ false)
+      go false b c d w = (λ e. refl, λ e. refl)
+      go true false c d w = (λ e. absurd (omega (arith, e)), λ e. absurd (false≢true (sym e)))
+      go true true false d w = (λ e. absurd (omega (arith, e)), λ e. absurd (false≢true (sym e)))
+      go true true true true w = (λ e. absurd (omega (arith, e)), λ e. absurd (false≢true (sym e)))
+      go true true true false true = (λ e. absurd (omega (arith, e)), λ e. absurd (false≢true (sym e)))
+      go true true true false false =
+          (λ e. absurd (omega (arith, e, late-by-kind (own s (t .processor)) (t .processor) (actionOf t) .from-7 (omega (arith, e)))), λ e. absurd (false≢true (sym e)))
 
   -- 17 is given exactly where the processor waits
   pub seventeen-exactly-when : Addressed lim s t → refusalInOrder lim s t ≡ 17 ↔ waits (s .marks) (t .processor) ≡ true
@@ -68,7 +88,7 @@ module _ (lim : Limits) (s : State) (t : Step) where
     where
       go : (b : Bool) → (_≡_ {A = ℕ} (cond b 17 (lateRefusal lim s (own s (t .processor)) (t .processor) (actionOf t))) 17) ↔ (b ≡ true)
       go true = (λ e. refl, λ e. refl)
-      go false = (λ e. absurd (late-not-17 (own s (t .processor)) (t .processor) (actionOf t) e), λ e. absurd (false≢true e))
+      go false = (λ e. absurd (late-by-kind (own s (t .processor)) (t .processor) (actionOf t) .not-17 e), λ e. absurd (false≢true e))
 
   -- 7 exactly where the processor that acquires holds the lock
   pub seven-exactly-when : (l : ℕ) → Comes lim s t → actionOf t ≡ Acquire l → refusalInOrder lim s t ≡ 7 ↔ holder s l ≡ t .processor
@@ -78,6 +98,34 @@ module _ (lim : Limits) (s : State) (t : Step) where
       go : (b : Bool) → eqb (holder s l) (t .processor) ≡ b → (_≡_ {A = ℕ} (cond b 7 0) 7) ↔ (holder s l ≡ t .processor)
       go true d = (λ e. eqb-true (holder s l) (t .processor) d, λ e. refl)
       go false d = (λ e. absurd (omega (arith, e)), λ e. absurd (eqb-false (holder s l) (t .processor) d e))
+
+-- ---- tallies: "an absent tally is 5, and kinds 8 and 9 leave the reach of 3"
+
+-- the kinds of the tallies are known
+tallies-known : (k : ℕ) → (k ≡ 8) ⊎ (k ≡ 9) → knownKind k ≡ true
+unfolding knownKind
+tallies-known k (inl e) = rw e
+tallies-known k (inr e) = rw e
+
+-- their object is below the number of tallies
+tally-bound : (lim : Limits) (s : State) (t : Step) → (t .kind ≡ 8) ⊎ (t .kind ≡ 9) → objectBound lim s (actionOf t) ≡ lim .tallies
+unfolding actionOf objectBound
+tally-bound lim s t (inl e) = rw e
+tally-bound lim s t (inr e) = rw e
+
+module _ (lim : Limits) (s : State) (t : Step) (tally : (t .kind ≡ 8) ⊎ (t .kind ≡ 9)) where
+  pub absent-tally-is-5 : inOrder lim s ≡ true → present s (t .processor) ≡ true → lim .tallies ≤ t .object → refusal lim s t ≡ 5
+  unfolding refusal refusalInOrder refusalBy fits
+  absent-tally-is-5 ordered here absent =
+      rw (ordered, tallies-known (t .kind) tally, here, tally-bound lim s t tally, le-ltb (t .object) (lim .tallies) absent)
+
+  pub tally-never-3 : refusal lim s t ≡ 3 → ⊥
+  unfolding refusal
+  tally-never-3 = go (inOrder lim s)
+    where
+      go : (o : Bool) → _≡_ {A = ℕ} (cond o (refusalInOrder lim s t) 1) 3 → ⊥
+      go true e = false≢true (sym (three-exactly-when lim s t .0 e) ∙ tallies-known (t .kind) tally)
+      go false e = omega (arith, e)
 
 -- ---- who holds a lock
 

@@ -17,6 +17,8 @@ use Rattle.rules.specs.Steps.{pageOfWord, write}
 use Rattle.rules.specs.Refusals.{Step, Read, Write, Answer, effect, nextInOrder}
 use Rattle.rules.specs.Runs.{answers, answersInOrder}
 use Rattle.rules.specs.Order.{events, Took}
+use Rattle.rules.specs.Waiting.{refusalAt}
+use Rattle.rules.specs.Bench.{equalStores}
 use Rattle.rules.specs.Noted.{ClosingNotes, outline, withoutStored, refusalsOf}
 use Rattle.rules.specs.Demand.{lastWritten, Synchronized, valueAt, ReadsJudged}
 use Rattle.rules.proofs.state.Outlines.{refused-alike, next-alike, stored-refused, stored-alike}
@@ -127,3 +129,12 @@ pub storing-cases : StoringCases
 unfolding countsInRange inRange mainframe
 storing-cases =
     record { equal = answers-from-start 2 1 1 refl stepsEqual ∙ computed-equal; confirmed = answers-from-start 3 1 1 refl stepsConfirmed ∙ computed-confirmed }
+
+-- "so 9 and 10 can come sooner"
+computed-sooner : refusalAt (answersInOrder mainframe (start 1 1 1) equalStores) 190 ≡ 9
+unfolding start equalStores refusalAt
+computed-sooner = refl
+
+pub nine-sooner : refusalAt (answers mainframe (start 1 1 1) equalStores) 190 ≡ 9
+unfolding countsInRange inRange mainframe
+nine-sooner = ap (λ (l : List Answer). refusalAt l 190) (answers-from-start 1 1 1 refl equalStores) ∙ computed-sooner

@@ -177,6 +177,11 @@ computed-what-it-was : answersInOrder mainframe (start 3 1 1) setToWhatItWas
 unfolding start setToWhatItWas
 computed-what-it-was = refl
 
+pub what-it-was : answers mainframe (start 3 1 1) setToWhatItWas
+    ≡ accepted ∷ accepted ∷ accepted ∷ accepted ∷ accepted ∷ answering 0 7 1 ∷ answering 0 7 1 ∷ answering 0 7 1 ∷ []
+unfolding countsInRange inRange mainframe
+what-it-was = answers-from-start 3 1 1 refl setToWhatItWas ∙ computed-what-it-was
+
 pub words-cases : WordsCases
 unfolding countsInRange inRange mainframe wordsMoved answers listingAnswers answersUnderLock
 words-cases =
@@ -188,5 +193,5 @@ words-cases =
       together = ap wordsMoved (skipping-cases .together);
       collection = ap wordsMoved (skipping-cases .in-collection);
       same-value = ap wordsMoved (answers-from-start 2 1 1 refl sameValue ∙ computed-same-value);
-      set-to-what-it-was = ap wordsMoved (answers-from-start 3 1 1 refl setToWhatItWas ∙ computed-what-it-was);
+      set-to-what-it-was = ap wordsMoved what-it-was;
     }

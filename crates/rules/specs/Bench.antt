@@ -2,7 +2,7 @@
 use Prim.Native.Nat.{ℕ, zero, suc, _<_}
 use mathlib.Core.Path.{_≡_}
 use mathlib.Core.List.{List, [], _∷_, _++_}
-use Rattle.limits.specs.Limits.{wordValues}
+use Rattle.limits.specs.Limits.{wordValues, intervalLimit}
 use Rattle.rules.specs.State.{Counts}
 use Rattle.rules.specs.Refusals.{Step, Answer}
 
@@ -31,11 +31,6 @@ adds p t v = record { kind = 8; processor = p; object = t; value = v }
 
 abbrev pub totals : ℕ → ℕ → Step
 totals p t = record { kind = 9; processor = p; object = t; value = 0 }
-
--- steps n times over
-unfoldable pub repeated : ℕ → List Step → List Step
-repeated zero ts = []
-repeated (suc n) ts = ts ++ repeated n ts
 
 -- ---- openings and answers
 
@@ -72,6 +67,11 @@ listingAnswers =
 
 -- ---- bench cases
 
+-- steps n times over
+unfoldable pub repeated : ℕ → List Step → List Step
+repeated zero ts = []
+repeated (suc n) ts = ts ++ repeated n ts
+
 -- D, and with the processors exchanged E: under lock 0 processor p stores x in word 0, then q stores y there; then 3 takes the lock and reads the word
 unfoldable pub stepsUnderLock : ℕ → ℕ → ℕ → ℕ → List Step
 stepsUnderLock p x q y = acquires p 0 ∷ writes p 0 x ∷ releases p 0 ∷ acquires q 0 ∷ writes q 0 y ∷ releases q 0 ∷ acquires 3 0 ∷ reads 3 0 ∷ []
@@ -91,6 +91,11 @@ pub record StoredValues (u v : ℕ) : Type 0 where
 -- F: "storing 0 over 0 and releasing"
 unfoldable pub stepsF : List Step
 stepsF = acquires 1 0 ∷ writes 1 0 0 ∷ releases 1 0 ∷ []
+
+-- L2, "so 9 and 10 can come sooner": F as often as a processor has intervals, and the store once more
+unfoldable pub equalStores : List Step
+unfolding repeated stepsF
+equalStores = repeated intervalLimit stepsF ++ acquires 1 0 ∷ writes 1 0 0 ∷ []
 
 -- L6, "A word that is set to the value it had counts": 1 and 3 store equal values in a race, so each sets the other's word to the value it had
 unfoldable pub setToWhatItWas : List Step

@@ -1,17 +1,42 @@
--- Document 02, L5 and L6: what an answer tells of a step's fetches: the records applied, and the number of words that they set. Assumes nothing.
-use Prim.Native.Nat.{ℕ, suc}
+-- Document 02, L5 and L6: what a fetch skips, and what an answer tells of a step's fetches: the records applied, and the number of words that they
+-- set. Assumes nothing.
+use Prim.Native.Nat.{ℕ, suc, _+_, _<_}
 use mathlib.Core.Path.{_≡_}
-use mathlib.Core.Bool.{true, false}
-use mathlib.Core.List.{List}
-use lib.ListN.{getD, take}
+use mathlib.Core.Bool.{true, false, cond}
+use mathlib.Core.Logic.{_↔_}
+use mathlib.Core.Option.{none}
+use mathlib.Core.List.{List, [], _∷_}
+use lib.ListN.{length, getD, take}
 use Rattle.lists.specs.Tables.{total}
-use Rattle.rules.specs.State.{Limits, mainframe, Counts, State}
+use Rattle.diff.specs.Reading.{settings, wordsSet}
+use Rattle.rules.specs.State.{Limits, mainframe, Counts, Record, State}
 use Rattle.rules.specs.Opening.{opened}
-use Rattle.rules.specs.Fetch.{fetchCount, fetchWords}
+use Rattle.rules.specs.Fetch.{appliedAll, isSet, anySets, replaced, unreplaced, skipped, fetchCount, fetchWords}
 use Rattle.rules.specs.Steps.{Effect, pageOfWord, atBarrier, allArrived, roundDone, pagesFetched, allFetched, wantsCollection}
 use Rattle.rules.specs.Refusals.{Step, Action, Read, Write, Acquire, Release, Arrive, Want, TallyAdd, TallyRead, Answer, acceptedAs, refusedAs, effect}
 use Rattle.rules.specs.Runs.{stateAfter}
 use Rattle.rules.specs.Order.{events, eventAt, Took}
+
+-- ---- L5: what is skipped
+
+-- the records not skipped where only later ones that are not skipped themselves count
+unfoldable pub unreplacedBy : ℕ → List Record → List Record
+unreplacedBy w [] = []
+unreplacedBy w (r ∷ rs) = cond (replaced w r (unreplacedBy w rs)) (unreplacedBy w rs) (r ∷ unreplacedBy w rs)
+
+-- what holds of skipping on pages of w words, for any records and pages
+pub record Skips (w : ℕ) : Type 0 where
+  -- "a record each of whose words is set again by later records of that fetch is skipped"
+  pub exactly : (r : Record) (rs : List Record)
+      → replaced w r rs ≡ true ↔ ((o : ℕ) → o < w → isSet (getD (settings w (r .diff)) o none) ≡ true → anySets w o rs ≡ true)
+  -- "a record with no words is always skipped"
+  pub no-words : (r : Record) (rs : List Record) → wordsSet (r .diff) ≡ 0 → replaced w r rs ≡ true
+  -- whether skipped records count among the later ones or not
+  pub readings-agree : (rs : List Record) → unreplacedBy w rs ≡ unreplaced w rs
+  -- applied and skipped are all, each once
+  pub all-of-them : (rs : List Record) → length (unreplaced w rs) + length (skipped w rs) ≡ length rs
+  -- "The copy afterwards must equal the one that applying all would give, races or not"
+  pub same-copy : (rs : List Record) (page : List ℕ) → length page ≡ w → appliedAll w (unreplaced w rs) page ≡ appliedAll w rs page
 
 -- ---- what a step brings: a count and a number of words
 
