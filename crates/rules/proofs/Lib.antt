@@ -3,6 +3,7 @@ pub mod Space
 pub mod InOrderRuns
 pub mod StrictOrder
 pub mod WaitsItsTurn
+pub mod GrantsTold
 pub mod WaitingCases
 pub mod LocksFree
 pub mod StoresNoted
