@@ -5,6 +5,7 @@ pub mod InOrderRuns
 pub mod StrictOrder
 pub mod WaitsItsTurn
 pub mod WaitingSteps
+pub mod GrantsTold
 pub mod WaitingCases
 pub mod LocksFree
 pub mod StoresNoted

@@ -1,4 +1,4 @@
--- The run over a list of steps as states by time, and what its reads answer. Rests on OpenedInOrder, InOrderRuns and Timeline. Assumes
+-- The run over a list of steps as states by time, and what its steps answer. Rests on OpenedInOrder, InOrderRuns and Timeline. Assumes
 -- nothing.
 use Prim.Native.Nat.{ℕ, zero, suc, _<_}
 use mathlib.Core.Path.{_≡_, refl, sym, ap, ap₂, _∙_}
@@ -15,6 +15,7 @@ use Rattle.rules.specs.Refusals.{Step, Action, Read, actionOf, knownKind
 use Rattle.rules.specs.Runs.{answersInOrder, stateInOrder}
 use Rattle.rules.specs.Order.{Event, events, noEvent, eventAt, Took}
 use Rattle.rules.specs.Demand.{valueAt}
+use Rattle.rules.specs.Waiting.{refusalAt}
 use Rattle.rules.proofs.inorder.Facts.{InOrder}
 use Rattle.rules.proofs.inorder.OpenedInOrder.{opened-in-order}
 use Rattle.rules.proofs.InOrderRuns.{run-stays-in-order}
@@ -77,6 +78,14 @@ judged-of lim s [] (suc t) = sym (rw (idle-refused lim s) refl)
 judged-of lim s (a ∷ ts) zero = ap (λ (n : ℕ). eqb n 0) (answer-refusal lim s a)
 judged-of lim s (a ∷ ts) (suc t) = judged-of lim (nextInOrder lim s a) ts t
 
+refusal-of : (lim : Limits) (s : State) (ts : List Step) (t : ℕ)
+    → refusalAt (answersInOrder lim s ts) t ≡ refusalInOrder lim (stateBefore lim s ts t) (eventAt (eventsOf lim s ts) t .step)
+unfolding stateInOrder events answersInOrder eventAt refusalAt refusedAs
+refusal-of lim s [] zero = sym (idle-refused lim s)
+refusal-of lim s [] (suc t) = sym (idle-refused lim s)
+refusal-of lim s (a ∷ ts) zero = answer-refusal lim s a
+refusal-of lim s (a ∷ ts) (suc t) = refusal-of lim (nextInOrder lim s a) ts t
+
 answer-of : (lim : Limits) (s : State) (ts : List Step) (t : ℕ) → eventAt (eventsOf lim s ts) t .accepted ≡ true
     → getD (answersInOrder lim s ts) t (refusedAs 3)
     ≡ acceptedAs (effect lim (stateBefore lim s ts t) (eventAt (eventsOf lim s ts) t .step .processor) (actionOf (eventAt (eventsOf lim s ts) t .step)))
@@ -116,6 +125,11 @@ module _ (lim : Limits) (c : Counts) (in-range : countsInRange lim c ≡ true) (
   pub state-at : (j : ℕ) → timeline .state j ≡ stateBefore lim (opened lim c) ts j
   unfolding timeline
   state-at j = refl
+
+  -- the refusal answered at a place; past the end of the list it is that of a step of no kind
+  pub refusal-answer : (j : ℕ) → refusalAt (answersInOrder lim (opened lim c) ts) j ≡ refusalInOrder lim (timeline .state j) (eventAt (eventsOf lim (opened lim c) ts) j .step)
+  unfolding timeline
+  refusal-answer j = refusal-of lim (opened lim c) ts j
 
   -- what an accepted step answers
   pub step-effect : (j p : ℕ) (a : Action) → Took (eventsOf lim (opened lim c) ts) j p a
