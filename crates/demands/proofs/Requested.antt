@@ -28,7 +28,7 @@ use Rattle.rules.specs.Order.{granted}
 use Rattle.rules.specs.Waiting.{refusalAt, ServedInTurn}
 use Rattle.rules.specs.TallyTotals.{TalliesJudged}
 use Rattle.rules.specs.Moved.{EffectsTold}
-use Rattle.rules.specs.Bench.{mainframeWith, listing, listingAnswers, stepsUnderLock, answersUnderLock, stepsF, equalStores, setToWhatItWas}
+use Rattle.rules.specs.Bench.{mainframeWith, answering, accepted, listing, listingAnswers, stepsUnderLock, answersUnderLock, stepsF, equalStores, setToWhatItWas}
 use Rattle.rules.proofs.InOrderRuns.{refusal-is-not-one}
 use Rattle.rules.proofs.inorder.InOrderSays.{in-order-says}
 use Rattle.rules.proofs.inorder.Accepted.{present-says}
@@ -110,7 +110,7 @@ storing-the-same =
     record {
       written = written-is-dirty mainframe;
       noted = closing-notes mainframe;
-      case-F = rw (from-start 1 1 1) (case-lifted (mainframeWith 1 1 1) stepsF ? (rw (from-start 1 1 1) (bench-cases .F .answered)));
+      case-F = case-lifted (mainframeWith 1 1 1) stepsF (accepted ∷ accepted ∷ accepted ∷ []) (rw (from-start 1 1 1) (bench-cases .F .answered));
       one-interval = rw (from-start 1 1 1) (bench-cases .F .own-entry);
       one-record = rw (from-start 1 1 1) (bench-cases .F .records);
       ordered-reads = ordered-reads-by-events;
@@ -178,7 +178,9 @@ words-told =
           accepted-lines file long e
           ∙ ap (λ (x : List ℕ). refusalLine 0 0 ++ (answerLines 1 (stepAnswers file) ++ x)) (words-end file (wordsMoved (stepAnswers file)) whole few);
       listing-A = listing-file;
-      what-it-was = case-lifted (mainframeWith 3 1 1) setToWhatItWas ? (rw (from-start 3 1 1) what-it-was);
+      what-it-was =
+          case-lifted (mainframeWith 3 1 1) setToWhatItWas
+          (accepted ∷ accepted ∷ accepted ∷ accepted ∷ accepted ∷ answering 0 7 1 ∷ answering 0 7 1 ∷ answering 0 7 1 ∷ []) (rw (from-start 3 1 1) what-it-was);
     }
 
 -- ---- L7
