@@ -1,18 +1,17 @@
 -- Lifted once: what is claimed of the answers to the rules' lists of steps holds of calls of `step`, of `run` and of files, since their answers are those of
 -- such lists. Rests on CallsJudged. Assumes nothing.
 use Prim.Native.Nat.{ℕ, suc, min}
-use mathlib.Core.Path.{_≡_, refl, sym, ap, _∙_}
-use mathlib.Core.List.{List, map}
+use mathlib.Core.Path.{_≡_, refl, ap, _∙_}
+use mathlib.Core.List.{List}
 use lib.ListN.{take, drop}
 use Rattle.limits.specs.Files.{fileRecordWidth, stepLimit}
 use Rattle.rules.specs.Opening.{Opening, openingRefusal, opened}
 use Rattle.rules.specs.Refusals.{Step, Answer}
 use Rattle.rules.specs.Runs.{answers}
-use Rattle.rules.specs.State.{mainframe, Counts, State}
+use Rattle.rules.specs.State.{mainframe, Counts}
 use Rattle.layout.specs.Areas.{Areas}
-use Rattle.opening.specs.Promises.{openingOf, openRefusal, areasOpened}
+use Rattle.opening.specs.Promises.{openingOf, areasOpened}
 use Rattle.opening.proofs.Following.{accepted-opening}
-use Rattle.engine.specs.Calls.{answersOfCalls}
 use Rattle.engine.proofs.CallsJudged.{calls-follow-rules, returned-tells}
 use Rattle.step_record.specs.Records.{stepsIn}
 use Rattle.run_list.specs.Runs.{firstRefusal, firstState, runAnswers}

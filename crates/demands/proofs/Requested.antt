@@ -1,28 +1,25 @@
 -- What the landed requests claim holds. Rests on the theorems that README names. Assumes nothing.
-use Prim.Native.Nat.{ℕ, suc, _%_, _≤_, _<_}
+use Prim.Native.Nat.{ℕ, _%_, _≤_, _<_}
 use native.Mathlib.Omega.{arith}
-use native.Mathlib.Nat.{mod-lt}
-use mathlib.Core.Path.{_≡_, refl, sym, ap, _∙_}
-use mathlib.Core.Bool.{Bool, true, false, cond}
+use mathlib.Core.Path.{_≡_, refl, ap, _∙_}
+use mathlib.Core.Bool.{true}
 use mathlib.Core.List.{List, [], _∷_, _++_}
 use mathlib.Core.Logic.{_↔_}
-use lib.ListN.{length, take}
-use lib.Dec.{eqb}
+use lib.ListN.{length}
 use borrow.Author.Tests.{eq-eqb, le-ltb}
 use Rattle.limits.specs.Limits.{pageWidth}
 use Rattle.limits.specs.Files.{fileRecordWidth, stepLimit}
 use Rattle.diff.specs.Format.{setWords}
-use Rattle.diff.specs.Reading.{settings, wordsSet}
+use Rattle.diff.specs.Reading.{settings}
 use Rattle.diff.specs.Answers.{applyRefusal, applyWords}
 use Rattle.diff.proofs.Theorems.{words-with-a-setting}
-use Rattle.rules.specs.State.{mainframe, Counts, Shared, copyOf, State}
-use Rattle.rules.specs.InOrder.{present, inOrder, inRange, countsInRange}
+use Rattle.rules.specs.State.{mainframe, Counts, State}
+use Rattle.rules.specs.InOrder.{inOrder}
 use Rattle.rules.specs.Lines.{waits}
 use Rattle.rules.specs.Tallies.{tallyTotal}
-use Rattle.rules.specs.Opening.{openingRefusal, opened}
-use Rattle.rules.specs.Fetch.{due, appliedAll, fetched}
+use Rattle.rules.specs.Opening.{opened}
 use Rattle.rules.specs.Steps.{collected, emptied}
-use Rattle.rules.specs.Refusals.{Step, Answer, effect, refusalInOrder, refusal}
+use Rattle.rules.specs.Refusals.{Step, effect, refusalInOrder, refusal}
 use Rattle.rules.specs.Runs.{answers, wordsMoved}
 use Rattle.rules.specs.Order.{granted}
 use Rattle.rules.specs.Waiting.{refusalAt, ServedInTurn}
@@ -47,10 +44,9 @@ use Rattle.rules.proofs.Cases.{bench-cases}
 use Rattle.rules.proofs.runs.FromStart.{listing-a}
 use Rattle.rules.proofs.runs.Listing.{start}
 use Rattle.step_close.proofs.InSequence.{sequence-closes}
-use Rattle.opening.specs.Promises.{openingOf}
 use Rattle.lines.specs.Lines.{wordsLine}
 use Rattle.file_record.specs.Records.{refusalLine}
-use Rattle.stepfile.specs.Files.{answerLines, stepCount, endLine, stepAnswers, fileLines}
+use Rattle.stepfile.specs.Files.{answerLines, stepCount, endLine, stepAnswers}
 use Rattle.stepfile.proofs.Judged.{accepted-lines}
 use Rattle.stepfile.proofs.Cases.{listing-file}
 use Rattle.demands.specs.Answered.{OfAnswers}
@@ -152,7 +148,7 @@ not-applying-replaced =
       same-copy = λ s p g ordered here page.
           let o = in-order-says mainframe s ordered in
           let b = present-says s p here in
-          fetched-copy mainframe s p g (o .sized .copy-words p g (b .0) (omega (arith, b .1, o .processors-fit)) page);
+          fetched-copy mainframe s p g (o .sized .copy p g (b .0) (omega (arith, b .1, o .processors-fit)) page);
       case-D = λ u v h. case-lifted (mainframeWith 3 1 1) (stepsUnderLock 1 u 2 v) (answersUnderLock v) (rw (from-start 3 1 1) (bench-cases .D u v h));
     }
 

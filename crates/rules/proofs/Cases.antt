@@ -23,7 +23,7 @@ use Rattle.rules.proofs.inorder.Facts.{InOrder}
 use Rattle.rules.proofs.inorder.InOrderSays.{in-order-says}
 use Rattle.rules.proofs.inorder.InOrderWhen.{in-order-when}
 use Rattle.rules.proofs.InOrderRuns.{refusal-is-not-one, state-in-order}
-use Rattle.rules.proofs.runs.Listing.{writes, acquires, releases, arrives, start, answering}
+use Rattle.rules.proofs.runs.Listing.{writes, releases, arrives, start, answering}
 use Rattle.rules.proofs.runs.BenchFaults.{stepsC, computed-C, computed-clock-of-3}
 use Rattle.rules.proofs.runs.FromStart.{answers-from-start, state-from-start}
 use Rattle.rules.proofs.runs.OneInterval.{NoInterval, OneInterval, pageFetched, pageStored, release-without-store, store-and-release, equal-store}

@@ -10,14 +10,14 @@ use mathlib.Core.Bool.{Bool, true, false, cond, false≢true}
 use mathlib.Core.Logic.{_⊎_, inl, inr}
 use mathlib.Core.List.{List, [], _∷_}
 use lib.Dec.{ltb, eqb}
-use borrow.Author.Tests.{eqb-true, eqb-false, eq-eqb, ltb-true, ltb-false}
+use borrow.Author.Tests.{ltb-true, ltb-false}
 use Rattle.lists.proofs.Tables.{every-at, any-holds}
 use Rattle.rules.specs.State.{Limits, State, own, holder, hasArrived}
 use Rattle.rules.specs.Opening.{Opening, openingRefusal, opened}
 use Rattle.rules.specs.InOrder.{inOrder, present}
 use Rattle.rules.specs.Close.{closed}
 use Rattle.rules.specs.Steps.{atBarrier, allArrived}
-use Rattle.rules.specs.Refusals.{Step, Arrive, actionOf, holdsAny, refusalInOrder, effect, nextInOrder, refusal, next}
+use Rattle.rules.specs.Refusals.{Step, Arrive, actionOf, holdsAny, refusal, next}
 use Rattle.rules.specs.Runs.{stateAfter}
 use Rattle.rules.specs.LocksFree.{LocksFree, FindsLocksFree}
 use Rattle.rules.proofs.inorder.Facts.{InOrder}
@@ -27,7 +27,7 @@ use Rattle.rules.proofs.inorder.OpenedInOrder.{opened-in-order, opening
 use Rattle.rules.proofs.inorder.Outside.{not-held-outside}
 use Rattle.rules.proofs.inorder.Accepted.{Accepted, accepted-says, present-says, late-arrive}
 use Rattle.rules.proofs.InOrderRuns.{step-keeps-order, refusal-is-not-one}
-use Rattle.rules.proofs.order.MarksAfter.{arrived-at-barrier, holder-after, linesAfter}
+use Rattle.rules.proofs.order.MarksAfter.{arrived-at-barrier, linesAfter}
 use Rattle.rules.proofs.WaitsItsTurn.{lines-next, holder-next, round-meets-no-line}
 
 -- ---- one step, from any state in order

@@ -1,14 +1,14 @@
 -- Document 02, L1, one step from any state in order: an acquire of a lock that another holds is accepted, closes the asker's interval and puts it at the
 -- end of the line; a release hands the lock to the first of its line, which learns the lock's clock; and what a state in order says of lines. Over lists
 -- of steps see WaitsItsTurn. Rests on it, on RowsExactly and on LineOf. Assumes nothing.
-use Prim.Native.Nat.{ℕ, zero, suc, _+_, _≤_, _<_}
+use Prim.Native.Nat.{ℕ, zero, suc, _+_, _≤_}
 use native.Mathlib.Omega.{arith}
 use mathlib.Core.Path.{_≡_, refl, sym, ap, ap₂, _∙_}
 use mathlib.Core.Bool.{Bool, true, false, cond, not}
-use mathlib.Core.List.{List, [], _∷_}
+use mathlib.Core.List.{List, _∷_}
 use lib.ListN.{length, getD}
 use lib.Dec.{eqb}
-use borrow.Author.Tests.{eq-eqb, ne-eqb}
+use borrow.Author.Tests.{ne-eqb}
 use Rattle.lists.proofs.Tables.{total-zero}
 use Rattle.clock.specs.Clocks.{joined}
 use Rattle.rules.specs.State.{Limits, Processor, Lock, Interval, Clocks, clockOf, withClock, State, withMarks, clock, own, holder, hasArrived}
@@ -16,16 +16,16 @@ use Rattle.rules.specs.InOrder.{present, inOrder}
 use Rattle.rules.specs.Lines.{firstInLine, lineOf, lockHanded}
 use Rattle.rules.specs.Close.{anyDirty, raised, ticked, closed}
 use Rattle.rules.specs.Steps.{learned, acquire, lockTold, waiterTold, release}
-use Rattle.rules.specs.Refusals.{Step, Action, Write, Acquire, Release, Arrive, actionOf, effect, refusalInOrder, nextInOrder, refusal, next}
+use Rattle.rules.specs.Refusals.{Step, Action, Write, Acquire, Release, Arrive, actionOf, effect, refusal, next}
 use Rattle.rules.specs.Rows.{Comes, NoRowApplies}
 use Rattle.rules.specs.Waiting.{lineIn, WaitsInLine, GoesTo, LinesAsClaimed}
 use Rattle.rules.proofs.state.Lines.{waiting, waiting-not}
-use Rattle.rules.proofs.state.Holders.{sameHolder, other-holder, clock-of-with-same, clock-of-with-other}
-use Rattle.rules.proofs.state.Waiters.{awaits, turnAt, in-line-is, found-stands}
+use Rattle.rules.proofs.state.Holders.{sameHolder, clock-of-with-same, clock-of-with-other}
+use Rattle.rules.proofs.state.Waiters.{awaits, in-line-is, found-stands}
 use Rattle.rules.proofs.state.LineOf.{in-line-stands, no-line, handing-takes-first, nobody-first}
 use Rattle.rules.proofs.inorder.Facts.{InOrder}
 use Rattle.rules.proofs.inorder.InOrderSays.{in-order-says}
-use Rattle.rules.proofs.inorder.Accepted.{accepted-says, present-says, present-when}
+use Rattle.rules.proofs.inorder.Accepted.{present-when}
 use Rattle.rules.proofs.InOrderRuns.{refusal-is-not-one}
 use Rattle.rules.proofs.RowsExactly.{accepted-exactly-when}
 use Rattle.rules.proofs.WaitsItsTurn.{accepted-next, asking-appends, release-takes-first}

@@ -18,8 +18,8 @@ use Rattle.rules.specs.State.{Limits, mainframe, Record, State}
 use Rattle.rules.specs.Fetch.{due, replaced, unreplaced, skipped, wordsIn, applying, fetchCount, fetchWords}
 use Rattle.rules.specs.InOrder.{inOrder, inRange, countsInRange}
 use Rattle.rules.specs.Opening.{Opening, openingRefusal, opened}
-use Rattle.rules.specs.Steps.{read, write, atBarrier, allArrived, roundDone, noneFetched, pagesFetched, allFetched, collected, wantsCollection, arrive}
-use Rattle.rules.specs.Refusals.{Step, Arrive, actionOf, effect, refusalInOrder, refusal, refusedAs, acceptedAs, Answer, answerInOrder, answer}
+use Rattle.rules.specs.Steps.{read, write, atBarrier, allArrived, roundDone, noneFetched, pagesFetched, allFetched, collected, arrive}
+use Rattle.rules.specs.Refusals.{Step, Arrive, actionOf, effect, refusalInOrder, refusal, refusedAs, acceptedAs, answerInOrder, answer}
 use Rattle.rules.specs.Runs.{answers, wordsMoved, answersInOrder}
 use Rattle.rules.specs.Moved.{BringsNothing, ArrivalBrings, StepsMove, EffectsTold}
 use Rattle.rules.specs.Bench.{listing, listingAnswers, StoredValues, stepsUnderLock, answersUnderLock, setToWhatItWas}
@@ -100,11 +100,11 @@ arrival-moves lim s p =
     s₁ = roundDone (atBarrier s p)
 
     not-wanted : (a : Bool) → BringsNothing (record {
-        after = cond a (noneFetched (roundDone (atBarrier s p))) (noneFetched (atBarrier s p)) .after;
-        value = 0;
-        count = cond a (noneFetched (roundDone (atBarrier s p))) (noneFetched (atBarrier s p)) .count;
-        words = cond a (noneFetched (roundDone (atBarrier s p))) (noneFetched (atBarrier s p)) .words;
-      })
+      after = cond a (noneFetched (roundDone (atBarrier s p))) (noneFetched (atBarrier s p)) .after;
+      value = 0;
+      count = cond a (noneFetched (roundDone (atBarrier s p))) (noneFetched (atBarrier s p)) .count;
+      words = cond a (noneFetched (roundDone (atBarrier s p))) (noneFetched (atBarrier s p)) .words;
+    })
     not-wanted true = record { count = refl; words = refl }
     not-wanted false = record { count = refl; words = refl }
 

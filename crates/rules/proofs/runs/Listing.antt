@@ -16,7 +16,6 @@ use Rattle.rules.specs.Tallies.{tallyAdded, tallyTotal, totalAfter, post
 use Rattle.rules.specs.Refusals.{actionOf, knownKind, objectBound, usesValue, fits, holdsAny, lateRefusal, refusalBy, refusalInOrder, effect, refusedAs, answerInOrder, nextInOrder}
 use Rattle.rules.specs.Runs.{answersInOrder, stateInOrder}
 use Rattle.rules.specs.Bench.{listing, listingAnswers}
-
 -- the names of steps and answers go with it
 pub use Rattle.rules.specs.Bench.{reads, writes, acquires, releases, arrives, wants, adds, totals, moving, answering}
 

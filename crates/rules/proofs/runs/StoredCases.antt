@@ -14,7 +14,6 @@ use Rattle.rules.specs.Demand.{valueField}
 use Rattle.rules.specs.Bench.{StoredValues, stepsUnderLock, answersUnderLock}
 use Rattle.rules.proofs.runs.Listing.{reads, writes, acquires, releases, arrives, start, answering}
 use Rattle.rules.proofs.runs.ClosingFirst.{first-word, second-word, read-back, found, closedWith, closes, closing-first}
-
 -- the name of the answer that most steps of these runs have goes with them
 pub use Rattle.rules.specs.Bench.{accepted}
 

@@ -3,11 +3,11 @@
 use Prim.Native.Nat.{ℕ, zero, suc, _+_}
 use mathlib.Core.Path.{_≡_, refl, sym, ap, _∙_}
 use mathlib.Core.Bool.{Bool, true, false, cond}
-use mathlib.Core.List.{List, []}
+use mathlib.Core.List.{[]}
 use lib.Dec.{eqb}
 use borrow.Author.Tests.{eqb-true}
 use Rattle.lists.specs.Tables.{put}
-use Rattle.rules.specs.State.{Limits, Counts, Processor, Lock, Barrier, Clocks, Marks, withArrived, Pages, dirtyAt, appended, State, withClocks, withPages, withMarks, clock, own, holder, hasArrived}
+use Rattle.rules.specs.State.{Limits, Processor, Lock, Barrier, withArrived, Pages, dirtyAt, appended, State, withClocks, withPages, withMarks, clock, own, holder, hasArrived}
 use Rattle.rules.specs.InOrder.{present, dirtyPages}
 use Rattle.rules.specs.Lines.{firstInLine, lockAsked, lockHanded}
 use Rattle.rules.specs.Close.{anyDirty, ticked, newRecord, recorded, cleaned, closed}

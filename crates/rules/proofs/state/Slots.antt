@@ -13,7 +13,6 @@ use Rattle.lists.proofs.Tables.{length-put, take-put-next, get-map-within}
 use Rattle.lists.proofs.Selected.{Each, each-at, each-when}
 use Rattle.rules.specs.State.{dirtyAt, Record, Records, slotBytes, recordIn, recordsOf, laidOver, appended, State}
 use Rattle.rules.specs.Close.{newRecord, recorded}
-
 -- the records that closing makes, with the laws on them
 unfoldable pub use Rattle.rules.specs.Noted.{newRecords}
 

@@ -7,11 +7,10 @@ use lib.ListN.{length}
 use Rattle.lists.specs.Tables.{any}
 use Rattle.limits.specs.Limits.{pageWidth}
 use Rattle.diff.specs.Format.{written}
-use Rattle.rules.specs.State.{mainframe, dirtyAt, State, withClocks}
+use Rattle.rules.specs.State.{mainframe, dirtyAt, withClocks}
 use Rattle.rules.specs.Close.{ticked}
 use Rattle.layout.specs.Layout.{rowOf}
 use Rattle.layout.specs.Areas.{copyRow, twinRow, stateIn}
-
 -- the parts in the words of the rules
 unfoldable pub use Rattle.step_close.specs.Sequence.{changeOf, pageCleaned, changeMade, pageClosed, pagesClosed, allClosed}
 
