@@ -31,3 +31,5 @@ pub mod word
 pub mod invariant
 pub mod demand
 pub mod runs
+pub mod ForecastCases
+pub mod Foretold

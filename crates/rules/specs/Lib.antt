@@ -17,3 +17,4 @@ pub mod TallyTotals
 pub mod Moved
 pub mod LocksFree
 pub mod Bench
+pub mod Forecast
