@@ -44,8 +44,7 @@ use Rattle.rules.proofs.Cases.{bench-cases}
 use Rattle.rules.proofs.runs.FromStart.{listing-a}
 use Rattle.rules.proofs.runs.Listing.{start}
 use Rattle.step_close.proofs.InSequence.{sequence-closes}
-use Rattle.lines.specs.Lines.{wordsLine}
-use Rattle.file_record.specs.Records.{refusalLine}
+use Rattle.lines.specs.Lines.{wordsLine, refusalLine}
 use Rattle.stepfile.specs.Files.{answerLines, stepCount, endLine, stepAnswers}
 use Rattle.stepfile.proofs.Judged.{accepted-lines}
 use Rattle.stepfile.proofs.Cases.{listing-file}

@@ -13,7 +13,7 @@ use Rattle.opening.specs.Promises.{openingOf, openRefusal, areasOpened}
 use Rattle.step_act.specs.Telling.{told}
 use Rattle.step_act.specs.declared.Outcome.{Outcome}
 use Rattle.engine.specs.Calls.{answersOfCalls, Returned}
-use Rattle.step_record.specs.Records.{stepsIn}
+use Rattle.step_fields.specs.Records.{stepsIn}
 use Rattle.run_list.specs.Runs.{firstRefusal, runAnswers}
 use Rattle.stepfile.specs.Files.{stepCount, stepAnswers}
 

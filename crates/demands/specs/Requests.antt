@@ -28,7 +28,7 @@ use Rattle.rules.specs.Runs.{answers, stateAfter, wordsMoved}
 use Rattle.rules.specs.Order.{Event, events, Took, Before}
 use Rattle.rules.specs.Demand.{Synchronized, valueAt, ReadsJudged}
 use Rattle.rules.specs.Rows.{Addressed, Comes, HoldsOne}
-use Rattle.rules.specs.Noted.{ClosingNotes, outline, withoutStored, refusalsOf}
+use Rattle.rules.specs.Noted.{ClosingNotes, outline, withoutValue, refusalsOf}
 use Rattle.rules.specs.Waiting.{lineIn, eventsIn, WaitsInLine, GoesTo, LinesAsClaimed, InTurn, HandsTo, refusalAt, ServedInTurn}
 use Rattle.rules.specs.TallyTotals.{postedDue, TalliesJudged, takenUp, takenDown}
 use Rattle.rules.specs.Moved.{Skips, StepsMove, EffectsTold}
@@ -36,8 +36,7 @@ use Rattle.rules.specs.LocksFree.{FindsLocksFree}
 use Rattle.rules.specs.Bench.{mainframeWith, answering, accepted, listing, listingAnswers, stepsUnderLock, answersUnderLock, StoredValues, stepsF, equalStores, setToWhatItWas}
 use Rattle.step_close.specs.Sequence.{closedInSequence}
 use Rattle.opening.specs.Promises.{openingOf}
-use Rattle.lines.specs.Lines.{wordsLine}
-use Rattle.file_record.specs.Records.{refusalLine}
+use Rattle.lines.specs.Lines.{wordsLine, refusalLine}
 use Rattle.stepfile.specs.Files.{answerLines, stepCount, stepAnswers, fileLines}
 use Rattle.stepfile.specs.ListingA.{listingBytes, listingLines}
 use Rattle.demands.specs.Answered.{OfAnswers, AnswersAs}
@@ -97,7 +96,7 @@ pub record StoringTheSame : Type 0 where
   -- "since L2 no refusal depends on a stored value" (said in L8): two states alike but for what words, twins and diffs hold, and two lists alike but for what
   -- they store, are refused alike
   pub refused-alike : (s s′ : State) (ts ts′ : List Step) → inOrder mainframe s ≡ true → inOrder mainframe s′ ≡ true → outline s ≡ outline s′
-      → map withoutStored ts ≡ map withoutStored ts′ → refusalsOf (answers mainframe s ts) ≡ refusalsOf (answers mainframe s′ ts′)
+      → map withoutValue ts ≡ map withoutValue ts′ → refusalsOf (answers mainframe s ts) ≡ refusalsOf (answers mainframe s′ ts′)
 
 -- ---- L3. Closing in the thesis's sequence
 

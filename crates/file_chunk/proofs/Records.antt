@@ -21,11 +21,12 @@ use Rattle.engine.specs.Promises.{answerOf, areasAfter}
 use Rattle.engine.specs.inner.Needed.{SteppedAs}
 use Rattle.engine.proofs.Answering.{in-order-after, in-order-answered, out-of-order, out-of-order-untouched, ready-when-fine}
 use Rattle.engine.proofs.Stepping.{stepped-ready}
-use Rattle.step_record.specs.Records.{stepFrom}
-use Rattle.lines.specs.Lines.{lineBytes}
-use Rattle.file_record.specs.Records.{openingTaken, recordTaken, refusalLine, stepTaken, tooManyTaken}
+use Rattle.step_fields.specs.Records.{stepFrom}
+use Rattle.lines.specs.Lines.{lineBytes, refusalLine}
+use Rattle.file_record.specs.Records.{openingTaken, recordTaken, stepTaken, tooManyTaken}
 use Rattle.file_record.specs.declared.Stand.{Stand}
-use Rattle.file_record.specs.inner.Needed.{LinePut, StoppedAt, Takeable, RecordTaken, WordsAdded, outcomeLine, standsAt}
+use Rattle.file_lines.specs.inner.Needed.{LinePut}
+use Rattle.file_record.specs.inner.Needed.{StoppedAt, Takeable, RecordTaken, WordsAdded, outcomeLine, standsAt}
 use Rattle.file_record.proofs.Taking.{ready-order, stands}
 
 -- ---- the answer of a step

@@ -1,9 +1,9 @@
 -- L8: the figures of Listing A and of a run with two pages, computed. Rests on Listing. Assumes nothing.
-use Prim.Native.Nat.{ℕ, max}
+use Prim.Native.Nat.{ℕ}
 use mathlib.Core.Path.{_≡_, refl}
-use mathlib.Core.List.{List, [], _∷_}
+use mathlib.Core.List.{[], _∷_}
 use Rattle.rules.specs.State.{mainframe}
-use Rattle.rules.specs.Forecast.{bare, ownFor, forecastRefusal, dirtyFor, closedFor, marksFor, writtenFor, roundFor, collectedFor, completedFor, barrierFor, forecastAfter, forecastNext, openedFor, Figures, forecastFigures, mostOf}
+use Rattle.rules.specs.Forecast.{bare, ownFor, forecastRefusal, dirtyFor, closedFor, marksFor, writtenFor, roundFor, collectedFor, completedFor, barrierFor, forecastAfter, forecastNext, openedFor, Figures, forecastFigures}
 use Rattle.rules.proofs.runs.Listing.{reads, writes, acquires, releases, arrives, wants, start}
 
 abbrev figures : ℕ → ℕ → ℕ → Figures

@@ -4,28 +4,27 @@ use Prim.Native.Nat.{ℕ, zero, suc, _+_, _≤_, _<_}
 use native.Mathlib.Omega.{arith}
 use native.Mathlib.Decide.{ℕ-discrete}
 use mathlib.Core.Path.{_≡_, refl, sym, ap, _∙_}
-use mathlib.Core.Bool.{Bool, true, false, cond, not}
-use mathlib.Core.List.{List, [], _∷_, map}
+use mathlib.Core.Bool.{Bool, true, false, cond}
+use mathlib.Core.List.{List, [], _∷_}
 use lib.ListN.{getD}
 use lib.Dec.{eqb}
 use borrow.Author.Tests.{eqb-true, eq-eqb, ne-eqb}
 use Rattle.lists.specs.Tables.{put, total}
 use Rattle.lists.proofs.Tables.{get-put, get-map}
-use Rattle.clock.specs.Clocks.{entryOf}
-use Rattle.rules.specs.State.{Limits, Counts, Processor, Lock, Barrier, Clocks, clockOf, withClock, cleared, Pages, dirtyAt, Marks, withArrived, withWanted, appended, State, withClocks, withMarks, clock, own, holder, hasArrived}
+use Rattle.rules.specs.State.{Limits, Counts, Processor, Lock, Barrier, clockOf, withClock, dirtyAt, Marks, withArrived, appended, State, clock, own, holder, hasArrived}
 use Rattle.rules.specs.InOrder.{present, dirtyPages}
-use Rattle.rules.specs.Lines.{firstInLine, lockAsked, lockHanded}
+use Rattle.rules.specs.Lines.{lockAsked, lockHanded}
 use Rattle.rules.specs.Close.{anyDirty, ticked, newRecord, recorded, cleaned, closed}
 use Rattle.rules.specs.Fetch.{withCopy, fetched}
-use Rattle.rules.specs.Steps.{pageOfWord, read, newTwin, twinTaken, stored, write, learned, acquire, lockTold, waiterTold, release, atBarrier, allArrived, allLearned, roundDone, allFetched, noneFetched, emptied, allCleared, collected, wantsCollection, arrive, want}
+use Rattle.rules.specs.Steps.{pageOfWord, read, newTwin, twinTaken, stored, write, learned, acquire, release, atBarrier, allArrived, roundDone, allFetched, noneFetched, emptied, collected, wantsCollection, arrive, want}
 use Rattle.rules.specs.Refusals.{Step, Action, Read, Write, Acquire, Release, Arrive, Want, TallyAdd, TallyRead, Unknown, actionOf, objectBound, fits, holdsAny, lateRefusal, refusalBy, refusalInOrder, effect, answerInOrder, nextInOrder, answer, next}
 use Rattle.rules.specs.Opening.{opened, Opening, openingRefusal}
 use Rattle.rules.specs.Forecast.{Forecast, bare, ownFor, forecastRefusal, dirtyFor, closedFor, marksFor, writtenFor, roundFor, collectedFor, completedFor, barrierFor, forecastAfter, forecastNext, openedFor, Figures, runFigures, forecastFigures}
 use Rattle.rules.proofs.state.Fetches.{all-fetched-keep, all-fetched-counts, all-fetched-marks}
 use Rattle.rules.proofs.state.Holders.{Knows, barrier-carries}
 use Rattle.rules.proofs.inorder.Facts.{InOrder}
-use Rattle.rules.proofs.inorder.KeptParts.{presentAmong, among-says, ownIn, ClocksInOrder, Parts, parts-of}
-use Rattle.rules.proofs.inorder.KeptMoves.{OwnKept, kept-again, knows-within}
+use Rattle.rules.proofs.inorder.KeptParts.{presentAmong, among-says, ownIn, Parts, parts-of}
+use Rattle.rules.proofs.inorder.KeptMoves.{OwnKept, knows-within}
 use Rattle.rules.proofs.inorder.KeptRounds.{processor-learned, carrier-learned, round-clocks, own-ticked-same, own-ticked-other, entry-all-cleared}
 use Rattle.rules.proofs.inorder.KeptClose.{closed-parts}
 use Rattle.rules.proofs.inorder.KeptLocks.{release-moves}

@@ -6,7 +6,7 @@ use mathlib.Core.List.{List, [], _∷_, map}
 use lib.ListN.{getD}
 use lib.Dec.{eqb}
 use Rattle.lists.specs.Tables.{put, putCell, total}
-use Rattle.rules.specs.State.{Limits, Counts, Clocks, Pages, dirtyAt, Marks, withArrived, withWanted, State}
+use Rattle.rules.specs.State.{Limits, Counts, dirtyAt, Marks, withArrived, withWanted, State}
 use Rattle.rules.specs.InOrder.{dirtyPages}
 use Rattle.rules.specs.Lines.{lockAsked, lockHanded}
 use Rattle.rules.specs.Opening.{zeroPages, zeroMarks}

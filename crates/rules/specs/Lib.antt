@@ -16,5 +16,5 @@ pub mod Waiting
 pub mod TallyTotals
 pub mod Moved
 pub mod LocksFree
-pub mod Bench
 pub mod Forecast
+pub mod Bench

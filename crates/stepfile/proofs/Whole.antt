@@ -20,9 +20,9 @@ use Rattle.layout.specs.Areas.{Areas, holding, rightSizes}
 use Rattle.opening.specs.Promises.{openingOf, openRefusal, areasOpened}
 use Rattle.engine.specs.Promises.{answerOf, areasAfter}
 use Rattle.engine.proofs.Carried.{Carried, opened-carried, next-carried, carried-answer, carried-after}
-use Rattle.step_record.specs.Records.{stepFrom, stepsIn}
-use Rattle.lines.specs.Lines.{lineBytes, wordsLine}
-use Rattle.file_record.specs.Records.{Feed, refusalLine, openingTaken, stepTaken, tooManyTaken, recordTaken}
+use Rattle.step_fields.specs.Records.{stepFrom, stepsIn}
+use Rattle.lines.specs.Lines.{lineBytes, wordsLine, refusalLine}
+use Rattle.file_record.specs.Records.{Feed, openingTaken, stepTaken, tooManyTaken, recordTaken}
 use Rattle.file_chunk.specs.Bytes.{heldOn, bytesTaken}
 use Rattle.file_chunk.proofs.Bytes.{taken-stopped, taken-held, eight-first}
 use Rattle.file_chunk.proofs.Records.{step-of-eight}

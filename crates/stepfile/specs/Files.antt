@@ -10,9 +10,8 @@ use Rattle.rules.specs.Refusals.{Answer}
 use Rattle.rules.specs.Runs.{answers, wordsMoved}
 use Rattle.rules.specs.State.{mainframe, State}
 use Rattle.opening.specs.Promises.{openingOf}
-use Rattle.step_record.specs.Records.{stepsIn}
-use Rattle.lines.specs.Lines.{lineBytes, wordsLine}
-use Rattle.file_record.specs.Records.{refusalLine}
+use Rattle.step_fields.specs.Records.{stepsIn}
+use Rattle.lines.specs.Lines.{lineBytes, wordsLine, refusalLine}
 
 -- "a line a record": the lines of answers, numbered from n on
 unfoldable pub answerLines : ℕ → List Answer → List ℕ

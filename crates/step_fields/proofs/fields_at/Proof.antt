@@ -1,7 +1,7 @@
 -- `fields_at` meets its contract. Assumes nothing.
-use Rattle.step_record.proofs.Reading.{reading-laws}
-use Rattle.step_record.proofs.fields_at.Statement.{statement}
-use Rattle.step_record.proofs.fields_at.Tie as tie
+use Rattle.step_fields.proofs.Reading.{reading-laws}
+use Rattle.step_fields.proofs.fields_at.Statement.{statement}
+use Rattle.step_fields.proofs.fields_at.Tie as tie
 
 pub fields-at-spec : {M : Type 1} → statement M
 fields-at-spec =
