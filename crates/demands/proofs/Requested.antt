@@ -45,7 +45,8 @@ use Rattle.rules.proofs.runs.FromStart.{listing-a}
 use Rattle.rules.proofs.runs.Listing.{start}
 use Rattle.step_close.proofs.InSequence.{sequence-closes}
 use Rattle.lines.specs.Lines.{wordsLine, refusalLine}
-use Rattle.stepfile.specs.Files.{answerLines, stepCount, endLine, stepAnswers}
+use Rattle.step_fields.specs.Records.{stepCount}
+use Rattle.stepfile.specs.Files.{answerLines, endLine, stepAnswers}
 use Rattle.stepfile.proofs.Judged.{accepted-lines}
 use Rattle.stepfile.proofs.Cases.{listing-file}
 use Rattle.demands.specs.Answered.{OfAnswers}

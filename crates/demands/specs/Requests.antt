@@ -37,7 +37,8 @@ use Rattle.rules.specs.Bench.{mainframeWith, answering, accepted, listing, list
 use Rattle.step_close.specs.Sequence.{closedInSequence}
 use Rattle.opening.specs.Promises.{openingOf}
 use Rattle.lines.specs.Lines.{wordsLine, refusalLine}
-use Rattle.stepfile.specs.Files.{answerLines, stepCount, stepAnswers, fileLines}
+use Rattle.step_fields.specs.Records.{stepCount}
+use Rattle.stepfile.specs.Files.{answerLines, stepAnswers, fileLines}
 use Rattle.stepfile.specs.ListingA.{listingBytes, listingLines}
 use Rattle.demands.specs.Answered.{OfAnswers, AnswersAs}
 

@@ -6,14 +6,12 @@ use mathlib.Core.Path.{_∙_, _≡_, ap, refl, sym}
 use mathlib.Core.Bool.{false, true, true≢false}
 use mathlib.Core.List.{List}
 use lib.ListN.{drop, length, length-drop, take}
-use lib.Seq.{drop-drop}
 use borrow.Author.Needs.{needs}
 use Rattle.limits.specs.Files.{fileRecordWidth, lineLimit}
 use Rattle.layout.specs.Areas.{areas}
 use Rattle.lines.specs.inner.Needed.{Room}
 use Rattle.file_record.specs.Records.{Feed, openingTaken, recordTaken}
 use Rattle.file_record.specs.declared.Stand.{Stand}
-use Rattle.file_lines.specs.inner.Needed.{RestKept}
 use Rattle.file_record.specs.inner.Needed.{StoppedAt, Takeable, RecordTaken, standsAt}
 use Rattle.file_lines.proofs.Placing.{rest-kept-all, rest-kept-again}
 use Rattle.file_chunk.specs.Bytes.{bytesTaken}

@@ -4,8 +4,7 @@ use native.Mathlib.Omega.{arith}
 use mathlib.Core.Path.{_∙_, _≡_, ap, refl, sym}
 use mathlib.Core.Bool.{Bool, _&&_, false, not, true}
 use mathlib.Core.List.{List, [], _++_}
-use lib.ListN.{drop, length, length-append, take}
-use lib.Seq.{drop-at, length-sets, length-take-le, sets, sets-eq, take-at}
+use lib.ListN.{drop, take}
 use lib.Dec.{eqb}
 use mir.Syntax.{w32, w64}
 use mir.Val.{Fits}
@@ -25,12 +24,11 @@ use Rattle.opening.proofs.Following.{opened-ready}
 use Rattle.step_act.specs.Telling.{outcomeCount, outcomeRefusal, outcomeValue, outcomeWords, told}
 use Rattle.step_act.specs.declared.Outcome.{Outcome}
 use Rattle.step_act.specs.declared.Outcome.the-variants.{Done, Refused}
-use Rattle.lines.specs.Lines.{lineBytes, wordsLine, refusalLine}
+use Rattle.lines.specs.Lines.{lineBytes, refusalLine}
 use Rattle.lines.specs.inner.Needed.{Room}
-use Rattle.lines.proofs.Lines.{at-most-44-bytes, length-words-line}
 use Rattle.file_record.specs.Records.{openingTaken}
 use Rattle.file_record.specs.declared.Stand.{Stand}
-use Rattle.file_lines.specs.inner.Needed.{RestKept, LinePut}
+use Rattle.file_lines.specs.inner.Needed.{LinePut}
 use Rattle.file_record.specs.inner.Needed.{OpenedAs, Takeable, RecordTaken, TotalThere, WordsAdded, outcomeLine, standsAt}
 
 -- ---- the line of an outcome

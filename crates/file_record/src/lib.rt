@@ -3,15 +3,12 @@ ghost use mathlib.Core.Path.{_≡_};
 ghost use Prim.Native.Nat.{_+_, _≤_};
 ghost use lib.ListN.{length, take, drop};
 ghost use Rattle.limits.specs.Files.{fileRecordWidth, lineLimit};
-ghost use Rattle.limits.specs.inner.Sizes.{fileRecordLimit};
 ghost use Rattle.layout.specs.Areas.{areas};
 ghost use Rattle.step_act.specs.Telling.{told};
-ghost use Rattle.lines.specs.Lines.{lineBytes, wordsLine};
 ghost use Rattle.lines.specs.inner.Needed.{Room, Counted};
 ghost use Rattle.file_record.specs.Records.{openingTaken};
-ghost use Rattle.file_lines.specs.inner.Needed.{LinePut, AllAhead};
+ghost use Rattle.file_lines.specs.inner.Needed.{LinePut};
 ghost use Rattle.file_record.specs.inner.Needed.{outcomeLine, standsAt, Takeable, StoppedAt, RecordTaken, TotalThere, WordsAdded, OpenedAs};
-use limits::FILE_RECORD_LIMIT;
 use limits::FILE_RECORD_WIDTH;
 use step_act::Outcome;
 

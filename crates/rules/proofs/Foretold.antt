@@ -6,7 +6,7 @@ use native.Mathlib.Decide.{ℕ-discrete}
 use mathlib.Core.Path.{_≡_, refl, sym, ap, _∙_}
 use mathlib.Core.Bool.{Bool, true, false, cond}
 use mathlib.Core.List.{List, [], _∷_}
-use lib.ListN.{getD}
+use lib.ListN.{getD, replicate}
 use lib.Dec.{eqb}
 use borrow.Author.Tests.{eqb-true, eq-eqb, ne-eqb}
 use Rattle.lists.specs.Tables.{put, total}
@@ -265,9 +265,18 @@ figures-foretold lim s f (t ∷ ts) o h =
     (dirty-foretold (nextInOrder lim s t) (forecastNext lim f t) k)
     (figures-foretold lim (nextInOrder lim s t) (forecastNext lim f t) ts (next-keeps-order lim s t o) k))
 
+-- a row of zeros has 0 at every place
+zero-entries : (n p : ℕ) → getD (replicate {A = ℕ} n 0) p 0 ≡ 0
+zero-entries zero p = refl
+zero-entries (suc n) zero = refl
+zero-entries (suc n) (suc p) = zero-entries n p
+
 opened-foretold : (lim : Limits) (c : Counts) → Foretells (opened lim c) (openedFor lim c)
 unfolding opened openedFor seenIn
-opened-foretold lim c = record { same = refl; own-entries = λ p. unfold own clock in opened-own lim c p }
+opened-foretold lim c = record { same = refl; own-entries = λ p. none p ∙ sym (zero-entries (suc (lim .processors)) p) }
+  where
+    none : (p : ℕ) → ownIn (opened lim c .clocks) p ≡ 0
+    none p = unfold own clock in opened-own lim c p
 
 -- "These must equal what the run itself has, for every file": of every accepted opening and every list of steps
 pub forecast-is-the-run : (lim : Limits) (o : Opening) → openingRefusal lim o ≡ 0 → (ts : List Step) → runFigures lim (opened lim (o .counts)) ts ≡ forecastFigures lim (openedFor lim (o .counts)) ts

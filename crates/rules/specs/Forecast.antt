@@ -1,9 +1,9 @@
 -- Document 02, L8, "Space forecast": what a forecast keeps of a state, "no page contents and no values", which refusal it gives a step, and what
 -- an accepted step does to it. Assumes nothing.
-use Prim.Native.Nat.{ℕ, _+_, max}
+use Prim.Native.Nat.{ℕ, suc, _+_, max}
 use mathlib.Core.Bool.{cond}
 use mathlib.Core.List.{List, [], _∷_, map}
-use lib.ListN.{getD}
+use lib.ListN.{getD, replicate}
 use lib.Dec.{eqb}
 use Rattle.lists.specs.Tables.{put, putCell, total}
 use Rattle.rules.specs.State.{Limits, Counts, dirtyAt, Marks, withArrived, withWanted, State}
@@ -111,7 +111,7 @@ forecastNext lim f t = cond (eqb (forecastRefusal lim f t) 0) (forecastAfter lim
 
 -- the forecast of an opening
 unfoldable pub openedFor : Limits → Counts → Forecast
-openedFor lim c = record { counts = c; entries = []; dirty = zeroPages lim .dirty; standing = 0; marks = zeroMarks lim }
+openedFor lim c = record { counts = c; entries = replicate (suc (lim .processors)) 0; dirty = zeroPages lim .dirty; standing = 0; marks = zeroMarks lim }
 
 -- ---- the figures of a list of steps: "its refusal, the records standing and the dirty pages after it"
 

@@ -1,8 +1,8 @@
 -- Document 01, "Records of eight bytes": the steps that a byte string holds. Assumes nothing.
-use Prim.Native.Nat.{ℕ, zero, suc, _+_, _*_}
+use Prim.Native.Nat.{ℕ, zero, suc, _+_, _-_, _*_, _/_, min}
 use mathlib.Core.List.{List, [], _∷_}
-use lib.ListN.{getD, drop}
-use Rattle.limits.specs.Files.{fileRecordWidth}
+use lib.ListN.{length, getD, drop}
+use Rattle.limits.specs.Files.{fileRecordWidth, stepLimit}
 use Rattle.rules.specs.Refusals.{Step}
 
 -- "kind, card, object (two bytes, low first), value (four, low first)": the step in the first eight bytes
@@ -19,3 +19,11 @@ stepFrom bytes =
 unfoldable pub stepsIn : ℕ → List ℕ → List Step
 stepsIn zero bytes = []
 stepsIn (suc n) bytes = stepFrom bytes ∷ stepsIn n (drop fileRecordWidth bytes)
+
+-- how many whole records stand behind the opening of a file
+unfoldable pub stepCount : List ℕ → ℕ
+stepCount bytes = (length bytes - fileRecordWidth) / fileRecordWidth
+
+-- the steps of a file: its records behind the opening, up to the 1,000,000th
+abbrev pub fileSteps : List ℕ → List Step
+fileSteps bytes = stepsIn (min (stepCount bytes) stepLimit) (drop fileRecordWidth bytes)
