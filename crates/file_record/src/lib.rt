@@ -91,7 +91,16 @@ pub fn put_next(
             count,
             words: _,
         } => file_lines::put_counted(out, at, digits, len, number, 0, value, count),
-        Outcome::Refused(refusal) => file_lines::put_counted(out, at, digits, len, number, wide(refusal), 0, 0),
+        Outcome::Refused(refusal) => file_lines::put_counted(
+            out,
+            at,
+            digits,
+            len,
+            number,
+            wide(refusal),
+            0,
+            0,
+        ),
     }
 }
 

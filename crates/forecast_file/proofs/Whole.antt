@@ -1,139 +1,194 @@
--- The records of a file taken one after the other make the lines of the whole file. Rests on rules' Foretold. Assumes nothing.
-use Prim.Native.Nat.{ℕ, zero, suc, _+_, _-_, _*_, _/_, _%_, _≤_, _<_, max, min}
+-- The records of a file taken one after the other make the lines of the whole file. Rests on Records and on rules' Foretold. Assumes nothing.
+use Prim.Native.Nat.{ℕ, suc, _+_, _-_, _*_, _/_, _%_, _≤_, _<_, max, min}
 use native.Mathlib.Omega.{arith}
-use native.Mathlib.Nat.{add-zero, zero-add, suc-add}
-use mathlib.Core.Path.{_≡_, refl, sym, ap, ap₂, _∙_}
-use mathlib.Core.Bool.{Bool, true, false, cond, not, _||_, false≢true}
-use mathlib.Core.List.{List, [], _∷_, _++_, append-assoc, append-nil}
-use lib.ListN.{length, take, drop, length-append, length-drop}
-use lib.Seq.{drop-drop, drop-at, take-append-le, drop-append-le}
-use lib.Dec.{leb, ltb, eqb}
-use borrow.Author.Tests.{eqb-true, eqb-false, eq-eqb, ne-eqb, le-leb, lt-leb, lt-ltb, le-ltb, ltb-true, ltb-false}
+use native.Mathlib.Decide.{decLt, ℕ-discrete}
+use mathlib.Core.Path.{_≡_, refl, sym, ap, _∙_}
+use mathlib.Core.Bool.{Bool, true, false, cond}
+use mathlib.Core.List.{List, _++_, append-assoc}
+use lib.ListN.{length, take, drop}
+use lib.Dec.{eqb}
+use borrow.Author.Tests.{eq-eqb, ne-eqb, lt-leb, lt-ltb, le-ltb}
 use Rattle.limits.specs.Files.{fileRecordWidth, stepLimit}
 use Rattle.rules.specs.State.{mainframe}
 use Rattle.rules.specs.Opening.{Opening, openingRefusal, opened}
-use Rattle.rules.specs.Refusals.{Step}
-use Rattle.rules.specs.Forecast.{Forecast, forecastRefusal, dirtyFor, forecastNext, openedFor, Figures, runFigures, forecastFigures, mostOf}
-use Rattle.rules.proofs.Foretold.{forecast-is-the-run}
+use Rattle.rules.specs.Forecast.{Forecast, dirtyFor, openedFor, Figures, forecastFigures, mostOf}
+use Rattle.rules.proofs.inorder.OpenedInOrder.{opened-no-dirty}
+use Rattle.rules.proofs.Foretold.{dirty-foretold, opened-foretold, forecast-is-the-run}
 use Rattle.opening.specs.Promises.{openingOf}
-use Rattle.step_fields.specs.Records.{stepFrom, stepsIn, stepCount, fileSteps}
-use Rattle.step_fields.proofs.Reading.{step-of-eight}
+use Rattle.step_fields.specs.Records.{stepsIn, stepCount, fileSteps}
 use Rattle.lines.specs.Lines.{lineBytes, refusalLine, mostLine}
 use Rattle.forecast_file.specs.Files.{figureLines, fileFigures, noFigures, lastFigures, stopLine, foreseenLines, forecastLines}
-use Rattle.forecast_file.specs.Standing.{Foresight, nothingForeseen, openingForeseen, stepForeseen, tooManyForeseen, recordForeseen, recordsForeseen, foreseen}
+use Rattle.forecast_file.specs.Standing.{Foresight, nothingForeseen, openingForeseen, tooManyForeseen, recordForeseen, recordsForeseen, foreseen}
 use Rattle.forecast_file.specs.inner.Needed.{lastLines}
+use Rattle.forecast_file.proofs.Records.{foreseen-stopped, foreseen-one, foreseen-together, afterSteps, last-kept, steps-foreseen}
 
--- ---- records one after the other
+-- ---- the whole file
 
--- after 2 or 16 nothing changes any more
-pub foreseen-stopped : (f : Foresight) (n : ℕ) (bytes : List ℕ) → f .stopped ≡ true → recordsForeseen f n bytes ≡ f
-unfolding recordsForeseen
-foreseen-stopped f zero bytes e = refl
-foreseen-stopped f (suc n) bytes e = rw e
+-- nothing is dirty after an opening
+opened-clean-for : (o : Opening) → dirtyFor (openedFor mainframe (o .counts)) ≡ 0
+opened-clean-for o = sym (dirty-foretold (opened mainframe (o .counts)) (openedFor mainframe (o .counts)) (opened-foretold mainframe (o .counts))) ∙ opened-no-dirty mainframe (o .counts)
 
--- one record more
-pub foreseen-one : (f : Foresight) (n : ℕ) (bytes : List ℕ) → f .stopped ≡ false
-    → recordsForeseen f (suc n) bytes ≡ recordsForeseen (recordForeseen f (take fileRecordWidth bytes)) n (drop fileRecordWidth bytes)
-unfolding recordsForeseen
-foreseen-one f n bytes e = rw e
-
--- some records, and those behind them
-pub foreseen-together : (f : Foresight) (n m : ℕ) (bytes : List ℕ) → recordsForeseen f (n + m) bytes ≡ recordsForeseen (recordsForeseen f n bytes) m (drop (fileRecordWidth * n) bytes)
-unfolding recordsForeseen
-foreseen-together f zero m bytes = ap (λ (k : ℕ). recordsForeseen f k bytes) (zero-add m)
-foreseen-together f (suc n) m bytes =
-    ap (λ (k : ℕ). recordsForeseen f k bytes) (suc-add n m)
-    ∙ go (f .stopped) refl (foreseen-together (recordForeseen f (take fileRecordWidth bytes)) n m (drop fileRecordWidth bytes))
+-- a file that ends before its opening
+short-forecast : (k : Forecast) (file : List ℕ) → length file < fileRecordWidth → forecastLines file ≡ foreseen k file .lines ++ lastLines (foreseen k file) (length file % fileRecordWidth)
+unfolding forecastLines foreseen recordsForeseen nothingForeseen lastLines
+short-forecast k file h =
+    ap (λ (b : Bool). cond b (refusalLine 0 15 ++ mostLine 0) (cond (eqb (openingRefusal mainframe (openingOf (take fileRecordWidth file))) 0) (refusalLine 0 0 ++ foreseenLines file) (refusalLine 0 2 ++ mostLine 0)))
+    (lt-ltb (length file) fileRecordWidth h)
+    ∙ sym (ap (λ (n : ℕ). recordsForeseen (nothingForeseen k) n file .lines ++ lastLines (recordsForeseen (nothingForeseen k) n file) (length file % fileRecordWidth)) none)
   where
-    further : fileRecordWidth + fileRecordWidth * n ≡ fileRecordWidth * suc n
-    further = omega arith
+    none : length file / fileRecordWidth ≡ 0
+    none = omega (arith, h)
 
-    go : (b : Bool) → f .stopped ≡ b
-        → recordsForeseen (recordForeseen f (take fileRecordWidth bytes)) (n + m) (drop fileRecordWidth bytes)
-        ≡ recordsForeseen (recordsForeseen (recordForeseen f (take fileRecordWidth bytes)) n (drop fileRecordWidth bytes)) m (drop (fileRecordWidth * n) (drop fileRecordWidth bytes))
-        → cond b f (recordsForeseen (recordForeseen f (take fileRecordWidth bytes)) (n + m) (drop fileRecordWidth bytes))
-        ≡ recordsForeseen (cond b f (recordsForeseen (recordForeseen f (take fileRecordWidth bytes)) n (drop fileRecordWidth bytes))) m (drop (fileRecordWidth * suc n) bytes)
-    go true e ih = sym (foreseen-stopped f m (drop (fileRecordWidth * suc n) bytes) e)
-    go false e ih =
-        ih
-        ∙ ap (recordsForeseen (recordsForeseen (recordForeseen f (take fileRecordWidth bytes)) n (drop fileRecordWidth bytes)) m)
-        (drop-drop (fileRecordWidth * n) fileRecordWidth bytes ∙ ap (λ (k : ℕ). drop k bytes) further)
+module _ (k : Forecast) (file : List ℕ) (long : fileRecordWidth ≤ length file) where
+  abbrev o : Opening
+  o = openingOf (take fileRecordWidth file)
 
--- only the bytes of the records count
-pub foreseen-of : (f : Foresight) (n : ℕ) (xs ys : List ℕ) → fileRecordWidth * n ≤ length xs → recordsForeseen f n (xs ++ ys) ≡ recordsForeseen f n xs
-unfolding recordsForeseen
-foreseen-of f zero xs ys h = refl
-foreseen-of f (suc n) xs ys h =
-    ap₂ (λ (a b : List ℕ). cond (f .stopped) f (recordsForeseen (recordForeseen f a) n b)) (take-append-le fileRecordWidth xs ys (omega (arith, h))) (drop-append-le fileRecordWidth xs ys (omega (arith, h)))
-    ∙ ap (λ (g : Foresight). cond (f .stopped) f g) (foreseen-of (recordForeseen f (take fileRecordWidth xs)) n (drop fileRecordWidth xs) ys (omega (arith, h, length-drop fileRecordWidth xs)))
+  abbrev steps : List ℕ
+  steps = drop fileRecordWidth file
 
--- bytes taken in two parts, of which the first are whole records
-pub foreseen-cut : (k : Forecast) (xs ys : List ℕ) → length xs % fileRecordWidth ≡ 0
-    → foreseen k (xs ++ ys) ≡ recordsForeseen (foreseen k xs) (length ys / fileRecordWidth) ys
-unfolding foreseen
-foreseen-cut k xs ys whole =
-    let n : ℕ = length xs / fileRecordWidth in
-    let long : fileRecordWidth * n ≡ length xs = omega (arith, whole) in
-    ap (λ (j : ℕ). recordsForeseen (nothingForeseen k) j (xs ++ ys)) (omega (arith, length-append xs ys, whole))
-    ∙ foreseen-together (nothingForeseen k) n (length ys / fileRecordWidth) (xs ++ ys)
-    ∙ ap₂ (λ (f : Foresight) (bytes : List ℕ). recordsForeseen f (length ys / fileRecordWidth) bytes) (foreseen-of (nothingForeseen k) n xs ys (omega (arith, long)))
-    (ap (λ (j : ℕ). drop j (xs ++ ys)) long ∙ drop-at xs ys (length xs) refl)
+  -- behind the opening stand its steps
+  behind-opening : foreseen k file ≡ recordsForeseen (openingForeseen (nothingForeseen k) (take fileRecordWidth file)) (stepCount file) (drop fileRecordWidth file)
+  unfolding foreseen recordsForeseen nothingForeseen recordForeseen stepCount
+  behind-opening = ap (λ (n : ℕ). recordsForeseen (nothingForeseen k) n file) count
+    where
+      count : length file / fileRecordWidth ≡ suc ((length file - fileRecordWidth) / fileRecordWidth)
+      count = omega (arith, long)
 
--- ---- steps
+  -- a refused opening
+  refused-forecast : (openingRefusal mainframe (openingOf (take fileRecordWidth file)) ≡ 0 → ⊥)
+      → forecastLines file ≡ foreseen k file .lines ++ lastLines (foreseen k file) (length file % fileRecordWidth)
+  unfolding forecastLines openingForeseen nothingForeseen lastLines
+  refused-forecast refused =
+      ap (λ (b : Bool). cond b (refusalLine 0 15 ++ mostLine 0) (cond (eqb (openingRefusal mainframe o) 0) (refusalLine 0 0 ++ foreseenLines file) (refusalLine 0 2 ++ mostLine 0))) (le-ltb (length file) fileRecordWidth long)
+      ∙ ap (λ (b : Bool). cond b (refusalLine 0 0 ++ foreseenLines file) (refusalLine 0 2 ++ mostLine 0)) (ne-eqb (openingRefusal mainframe o) 0 refused)
+      ∙ sym (ap (λ (f : Foresight). f .lines ++ lastLines f (length file % fileRecordWidth)) (behind-opening ∙ stays))
+    where
+      first : Foresight
+      first = record { number = 1; stopped = true; forecast = k; most = 0; lines = refusalLine 0 2 }
 
--- what a forecast keeps after some steps
-unfoldable afterSteps : Forecast → List Step → Forecast
-afterSteps f [] = f
-afterSteps f (t ∷ ts) = afterSteps (forecastNext mainframe f t) ts
+      stays : recordsForeseen (openingForeseen (nothingForeseen k) (take fileRecordWidth file)) (stepCount file) (drop fileRecordWidth file) ≡ first
+      stays =
+          ap (λ (f : Foresight). recordsForeseen f (stepCount file) (drop fileRecordWidth file)) (ap (λ (b : Bool). cond b (record { number = 1; stopped = false; forecast = openedFor mainframe (o .counts); most = 0; lines = refusalLine 0 0 }) first) (ne-eqb (openingRefusal mainframe o) 0 refused))
+          ∙ foreseen-stopped first (stepCount file) (drop fileRecordWidth file) refl
 
--- the figures of the last step are those of what is kept then
-last-kept : (f : Forecast) (ts : List Step) (x : Figures) → x .standing ≡ f .standing → x .dirty ≡ dirtyFor f
-    → (lastFigures x (forecastFigures mainframe f ts) .standing ≡ afterSteps f ts .standing) × (lastFigures x (forecastFigures mainframe f ts) .dirty ≡ dirtyFor (afterSteps f ts))
-unfolding lastFigures forecastFigures afterSteps
-last-kept f [] x s d = (s, d)
-last-kept f (t ∷ ts) x s d =
-    last-kept (forecastNext mainframe f t) ts (record { refusal = forecastRefusal mainframe f t; standing = forecastNext mainframe f t .standing; dirty = dirtyFor (forecastNext mainframe f t) }) refl refl
+  module _ (accepted : openingRefusal mainframe (openingOf (take fileRecordWidth file)) ≡ 0) where
+    -- what stands behind the opening
+    abbrev begun : Foresight
+    begun = record { number = 1; stopped = false; forecast = openedFor mainframe (o .counts); most = 0; lines = refusalLine 0 0 }
 
--- a record that is a step
-one-step : (f : Foresight) (bytes : List ℕ) → 1 ≤ f .number → f .number ≤ stepLimit → recordForeseen f (take fileRecordWidth bytes) ≡ stepForeseen f bytes
-unfolding recordForeseen stepForeseen
-one-step f bytes from few =
-    rw (ne-eqb (f .number) 0 (λ z. omega (arith, z, from)), le-leb (f .number) stepLimit few, step-of-eight bytes)
+    -- what is kept, and the figures, after n steps
+    abbrev kept : ℕ → Forecast
+    kept n = afterSteps (openedFor mainframe (o .counts)) (stepsIn n steps)
 
--- where a forecast that goes on stands, by its parts
-stands-equal : (n n′ : ℕ) (k : Forecast) (m m′ : ℕ) (l l′ : List ℕ) → n ≡ n′ → m ≡ m′ → l ≡ l′
-    → _≡_ {A = Foresight} (record { number = n; stopped = false; forecast = k; most = m; lines = l }) (record { number = n′; stopped = false; forecast = k; most = m′; lines = l′ })
-stands-equal n n′ k m m′ l l′ a b c = λ i. record { number = a i; stopped = false; forecast = k; most = b i; lines = c i }
+    abbrev figures : ℕ → List Figures
+    figures n = forecastFigures mainframe (openedFor mainframe (o .counts)) (stepsIn n steps)
 
--- the steps of n records, taken from a number on that leaves room for them
-steps-foreseen : (f : Foresight) (n : ℕ) (bytes : List ℕ) → f .stopped ≡ false → 1 ≤ f .number → f .number + n ≤ stepLimit + 1
-    → recordsForeseen f n bytes
-    ≡ record {
-      number = f .number + n;
-      stopped = false;
-      forecast = afterSteps (f .forecast) (stepsIn n bytes);
-      most = max (f .most) (mostOf (forecastFigures mainframe (f .forecast) (stepsIn n bytes)));
-      lines = f .lines ++ figureLines (f .number) (forecastFigures mainframe (f .forecast) (stepsIn n bytes));
-    }
-unfolding recordsForeseen stepsIn afterSteps forecastFigures mostOf figureLines
-steps-foreseen f zero bytes e from few = rw (add-zero (f .number), append-nil (f .lines), ← e, max-zero) refl
+    opened-first : foreseen k file ≡ recordsForeseen begun (stepCount file) (drop fileRecordWidth file)
+    unfolding openingForeseen nothingForeseen
+    opened-first =
+        behind-opening
+        ∙ ap (λ (b : Bool). recordsForeseen (cond b begun (record { number = 1; stopped = true; forecast = k; most = 0; lines = refusalLine 0 2 })) (stepCount file) (drop fileRecordWidth file))
+        (eq-eqb (openingRefusal mainframe o) 0 accepted)
+
+    -- the lines of the file by these figures
+    by-figures : (n : ℕ) → min (stepCount file) stepLimit ≡ n
+        → forecastLines file ≡ refusalLine 0 0 ++ (figureLines 1 (figures n) ++ (stopLine file (lastFigures noFigures (figures n)) ++ mostLine (mostOf (figures n))))
+    unfolding forecastLines foreseenLines fileFigures
+    by-figures n e =
+        ap (λ (b : Bool). cond b (refusalLine 0 15 ++ mostLine 0) (cond (eqb (openingRefusal mainframe o) 0) (refusalLine 0 0 ++ foreseenLines file) (refusalLine 0 2 ++ mostLine 0))) (le-ltb (length file) fileRecordWidth long)
+        ∙ ap (λ (b : Bool). cond b (refusalLine 0 0 ++ foreseenLines file) (refusalLine 0 2 ++ mostLine 0)) (eq-eqb (openingRefusal mainframe o) 0 accepted)
+        ∙ ap (λ (xs : List Figures). refusalLine 0 0 ++ (figureLines 1 xs ++ (stopLine file (lastFigures noFigures xs) ++ mostLine (mostOf xs))))
+        (forecast-is-the-run mainframe o accepted (fileSteps file) ∙ ap figures e)
+
+    -- the figures of the last of n steps are those of what is kept
+    last-standing : (n : ℕ) → lastFigures noFigures (figures n) .standing ≡ kept n .standing
+    last-standing n = last-kept (openedFor mainframe (o .counts)) (stepsIn n steps) noFigures (unfold openedFor in refl) (sym (opened-clean-for o)) .0
+
+    last-dirty : (n : ℕ) → lastFigures noFigures (figures n) .dirty ≡ dirtyFor (kept n)
+    last-dirty n = last-kept (openedFor mainframe (o .counts)) (stepsIn n steps) noFigures (unfold openedFor in refl) (sym (opened-clean-for o)) .1
+
+    -- n steps behind the opening
+    abbrev after : ℕ → Foresight
+    after n = record { number = 1 + n; stopped = false; forecast = kept n; most = max 0 (mostOf (figures n)); lines = refusalLine 0 0 ++ figureLines 1 (figures n) }
+
+    most-is : (n : ℕ) → max 0 (mostOf (figures n)) ≡ mostOf (figures n)
+    most-is n = omega arith
+
+    -- the lines of n steps, and what stands behind them
+    joined-lines : (n : ℕ) (tail rest : List ℕ) → tail ≡ rest → refusalLine 0 0 ++ (figureLines 1 (figures n) ++ tail) ≡ refusalLine 0 0 ++ figureLines 1 (figures n) ++ rest
+    joined-lines n tail rest e =
+        ap (λ (l : List ℕ). refusalLine 0 0 ++ (figureLines 1 (figures n) ++ l)) e ∙ sym (append-assoc (refusalLine 0 0) (figureLines 1 (figures n)) rest)
+
+    -- a file with no step too many
+    few-forecast : stepCount file ≤ stepLimit → forecastLines file ≡ foreseen k file .lines ++ lastLines (foreseen k file) (length file % fileRecordWidth)
+    few-forecast few =
+        by-figures (stepCount file) (omega (arith, few))
+        ∙ joined-lines (stepCount file) (stopLine file (lastFigures noFigures (figures (stepCount file))) ++ mostLine (mostOf (figures (stepCount file))))
+        (lastLines (after (stepCount file)) (length file % fileRecordWidth)) (go (eqb (length file % fileRecordWidth) 0) refl)
+        ∙ sym (ap (λ (f : Foresight). f .lines ++ lastLines f (length file % fileRecordWidth)) (opened-first ∙ steps-foreseen begun (stepCount file) steps refl (omega arith) (omega (arith, few))))
+      where
+        number : stepCount file + 1 ≡ 1 + stepCount file
+        number = omega arith
+
+        go : (b : Bool) → eqb (length file % fileRecordWidth) 0 ≡ b
+            → stopLine file (lastFigures noFigures (figures (stepCount file))) ++ mostLine (mostOf (figures (stepCount file))) ≡ lastLines (after (stepCount file)) (length file % fileRecordWidth)
+        go true e = unfold stopLine lastLines in rw (le-ltb stepLimit (stepCount file) few, e, ne-eqb (1 + stepCount file) 0 (λ z. omega (arith, z)), most-is (stepCount file)) refl
+        go false e = unfold stopLine lastLines in
+            rw (le-ltb stepLimit (stepCount file) few, e, ne-eqb (1 + stepCount file) 0 (λ z. omega (arith, z)), most-is (stepCount file), last-standing (stepCount file), last-dirty (stepCount file), number) refl
+
+    -- a file with one
+    many-forecast : stepLimit < stepCount file → forecastLines file ≡ foreseen k file .lines ++ lastLines (foreseen k file) (length file % fileRecordWidth)
+    many-forecast many =
+        by-figures stepLimit (omega (arith, many))
+        ∙ joined-lines stepLimit (stopLine file (lastFigures noFigures (figures stepLimit)) ++ mostLine (mostOf (figures stepLimit))) (sixteen ++ mostLine (mostOf (figures stepLimit))) stops
+        ∙ sym (append-assoc (refusalLine 0 0 ++ figureLines 1 (figures stepLimit)) sixteen (mostLine (mostOf (figures stepLimit))))
+        ∙ sym (ap (λ (f : Foresight). f .lines ++ lastLines f (length file % fileRecordWidth)) (opened-first ∙ one-too-many) ∙ last)
+      where
+        sixteen : List ℕ
+        sixteen = lineBytes (1 + stepLimit) 16 (kept stepLimit .standing) (dirtyFor (kept stepLimit))
+
+        number : stepLimit + 1 ≡ 1 + stepLimit
+        number = omega arith
+
+        stops : stopLine file (lastFigures noFigures (figures stepLimit)) ++ mostLine (mostOf (figures stepLimit)) ≡ sixteen ++ mostLine (mostOf (figures stepLimit))
+        stops = unfold stopLine in rw (lt-ltb stepLimit (stepCount file) many, last-standing stepLimit, last-dirty stepLimit, number) refl
+
+        over : Foresight
+        over = tooManyForeseen (after stepLimit)
+
+        more : stepCount file ≡ stepLimit + suc (stepCount file - stepLimit - 1)
+        more = omega (arith, many)
+
+        rest : List ℕ
+        rest = drop (fileRecordWidth * stepLimit) steps
+
+        stopped-there : recordForeseen (after stepLimit) (take fileRecordWidth rest) ≡ over
+        stopped-there = unfold recordForeseen in rw (ne-eqb (1 + stepLimit) 0 (λ z. omega (arith, z)), lt-leb (1 + stepLimit) stepLimit (omega arith)) refl
+
+        one-too-many : recordsForeseen begun (stepCount file) steps ≡ over
+        one-too-many =
+            ap (λ (n : ℕ). recordsForeseen begun n steps) more
+            ∙ foreseen-together begun stepLimit (suc (stepCount file - stepLimit - 1)) steps
+            ∙ ap (λ (f : Foresight). recordsForeseen f (suc (stepCount file - stepLimit - 1)) rest) (steps-foreseen begun stepLimit steps refl (omega arith) (omega arith))
+            ∙ foreseen-one (after stepLimit) (stepCount file - stepLimit - 1) rest refl
+            ∙ ap (λ (f : Foresight). recordsForeseen f (stepCount file - stepLimit - 1) (drop fileRecordWidth rest)) stopped-there
+            ∙ foreseen-stopped over (stepCount file - stepLimit - 1) (drop fileRecordWidth rest) (unfold tooManyForeseen in refl)
+
+        last : over .lines ++ lastLines over (length file % fileRecordWidth) ≡ refusalLine 0 0 ++ figureLines 1 (figures stepLimit) ++ sixteen ++ mostLine (mostOf (figures stepLimit))
+        last = unfold tooManyForeseen lastLines in ap (λ (m : ℕ). refusalLine 0 0 ++ figureLines 1 (figures stepLimit) ++ lineBytes (1 + stepLimit) 16 (kept stepLimit .standing) (dirtyFor (kept stepLimit)) ++ mostLine m) (most-is stepLimit)
+
+-- the lines of a file are those of its whole records, and the last
+pub whole-forecast : (k : Forecast) (file : List ℕ) → forecastLines file ≡ foreseen k file .lines ++ lastLines (foreseen k file) (length file % fileRecordWidth)
+whole-forecast k file = by-length (decLt (length file) fileRecordWidth)
   where
-    max-zero : max (f .most) 0 ≡ f .most
-    max-zero = omega arith
-steps-foreseen f (suc n) bytes e from few =
-    ap (λ (b : Bool). cond b f (recordsForeseen (recordForeseen f (take fileRecordWidth bytes)) n (drop fileRecordWidth bytes))) e
-    ∙ ap (λ (g : Foresight). recordsForeseen g n (drop fileRecordWidth bytes)) (one-step f bytes from (omega (arith, few)))
-    ∙ steps-foreseen (stepForeseen f bytes) n (drop fileRecordWidth bytes) (unfold stepForeseen in refl) (unfold stepForeseen in omega arith) (unfold stepForeseen in omega (arith, few))
-    ∙ (unfold stepForeseen in
-    stands-equal (suc (f .number) + n) (f .number + suc n) (afterSteps g (stepsIn n (drop fileRecordWidth bytes))) (max (max (f .most) (g .standing + dirtyFor g)) (mostOf rest))
-    (max (f .most) (max (g .standing + dirtyFor g) (mostOf rest))) (f .lines ++ line ++ figureLines (suc (f .number)) rest) (f .lines ++ (line ++ figureLines (suc (f .number)) rest))
-    (omega arith) (omega arith) (append-assoc (f .lines) line (figureLines (suc (f .number)) rest)))
-  where
-    g : Forecast
-    g = forecastNext mainframe (f .forecast) (stepFrom bytes)
-
-    rest : List Figures
-    rest = forecastFigures mainframe (forecastNext mainframe (f .forecast) (stepFrom bytes)) (stepsIn n (drop fileRecordWidth bytes))
-
-    line : List ℕ
-    line = lineBytes (f .number) (forecastRefusal mainframe (f .forecast) (stepFrom bytes)) (forecastNext mainframe (f .forecast) (stepFrom bytes) .standing) (dirtyFor (forecastNext mainframe (f .forecast) (stepFrom bytes)))
+    by-length : Dec (length file < fileRecordWidth) → forecastLines file ≡ foreseen k file .lines ++ lastLines (foreseen k file) (length file % fileRecordWidth)
+    by-length (yes h) = short-forecast k file h
+    by-length (no h) = by-opening (ℕ-discrete (openingRefusal mainframe (openingOf (take fileRecordWidth file))) 0)
+      where
+        by-opening : Dec (openingRefusal mainframe (openingOf (take fileRecordWidth file)) ≡ 0) → forecastLines file ≡ foreseen k file .lines ++ lastLines (foreseen k file) (length file % fileRecordWidth)
+        by-opening (no e) = refused-forecast k file (omega arith) e
+        by-opening (yes e) = by-count (decLt stepLimit (stepCount file))
+          where
+            by-count : Dec (stepLimit < stepCount file) → forecastLines file ≡ foreseen k file .lines ++ lastLines (foreseen k file) (length file % fileRecordWidth)
+            by-count (yes many) = many-forecast k file (omega arith) e many
+            by-count (no few) = few-forecast k file (omega arith) e (omega arith)

@@ -271,7 +271,7 @@ zero-entries zero p = refl
 zero-entries (suc n) zero = refl
 zero-entries (suc n) (suc p) = zero-entries n p
 
-opened-foretold : (lim : Limits) (c : Counts) → Foretells (opened lim c) (openedFor lim c)
+pub opened-foretold : (lim : Limits) (c : Counts) → Foretells (opened lim c) (openedFor lim c)
 unfolding opened openedFor seenIn
 opened-foretold lim c = record { same = refl; own-entries = λ p. none p ∙ sym (zero-entries (suc (lim .processors)) p) }
   where
