@@ -1,0 +1,4 @@
+pub mod Coming
+pub mod Filling
+pub mod Writing
+pub mod Answered
