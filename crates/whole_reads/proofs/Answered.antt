@@ -15,7 +15,7 @@ use mir.Val.{SFits, ofZ, toZ}
 use mir.ValLaws.{toZ-ofZ}
 use Rattle.io.specs.Counts.{clamped}
 use Rattle.lists.proofs.Parts.{take-at-most}
-use Rattle.whole_reads.specs.Promises.{Flows, GotAs, PutAs, failedFlow, filledFlow, gotFlow, leftToWrite, movedBytes, putFlow, wroteFlow}
+use Rattle.whole_reads.specs.Promises.{GotAs, PutAs, filledFlow, gotFlow, leftToWrite, movedBytes, putFlow, wroteFlow}
 use Rattle.whole_reads.specs.inner.Needed.{FailedAs, WroteAs}
 use Rattle.whole_reads.specs.declared.Flow.{Flow}
 use Rattle.whole_reads.specs.declared.Fault.the-variants.{Reading, Writing}
@@ -60,7 +60,7 @@ module _ (z : ℤ) (b : Bool) (fits : SFits w64 z) (e : b ≡ ltZ (toZ w64 (ofZ 
 
 -- ---- a read
 
--- the bytes of the buffer have numbers that fit
+-- the bytes that stand in the buffer and those that came can be counted
 pub fill-fits : (f : Flow) (buffer part : List ℕ) (n : ℕ) → part ≡ drop (f .have) buffer → n ≤ length part → length buffer < 2 ^ 64 → f .have < 2 ^ 64 → f .have + n < 2 ^ 64
 fill-fits f buffer part n p l s h = omega (arith, ap length p, length-drop (f .have) buffer)
 

@@ -2,7 +2,7 @@
 use Prim.Native.Nat.{ℕ, _+_, _-_, _≤_, min}
 use native.Mathlib.Omega.{arith}
 use mathlib.Core.Path.{_≡_, refl, sym, ap, _∙_}
-use mathlib.Core.Bool.{Bool, true, false, _||_}
+use mathlib.Core.Bool.{Bool, true, or-true, or-false}
 use mathlib.Core.List.{List, _++_, append-assoc, append-nil}
 use lib.ListN.{length, take, drop, length-drop}
 use lib.Seq.{take-add, take-all}
@@ -25,20 +25,12 @@ module _ (f : Flow) (n : ℕ) where
   pub filled-none : n ≡ 0
       → _≡_ {A = Flow} (record { have = f .have + n; ended = true; from = f .from; to = f .to; done = f .done; fault = f .fault }) (filledFlow f n)
   unfolding filledFlow
-  filled-none z = rw (eq-eqb n 0 z) (ap (λ (b : Bool). record { have = f .have + n; ended = b; from = f .from; to = f .to; done = f .done; fault = f .fault }) (sym (over (f .ended))))
-    where
-      over : (b : Bool) → (b || true) ≡ true
-      over true = refl
-      over false = refl
+  filled-none z = sym (rw (eq-eqb n 0 z, or-true (f .ended)))
 
   pub filled-some : (n ≡ 0 → ⊥)
       → _≡_ {A = Flow} (record { have = f .have + n; ended = f .ended; from = f .from; to = f .to; done = f .done; fault = f .fault }) (filledFlow f n)
   unfolding filledFlow
-  filled-some z = rw (ne-eqb n 0 z) (ap (λ (b : Bool). record { have = f .have + n; ended = b; from = f .from; to = f .to; done = f .done; fault = f .fault }) (sym (still (f .ended))))
-    where
-      still : (b : Bool) → (b || false) ≡ b
-      still true = refl
-      still false = refl
+  filled-some z = sym (rw (ne-eqb n 0 z, or-false (f .ended)))
 
 module _ (read taken made written : List ℕ) (f : Flow) (buffer out : List ℕ) where
   -- a buffer in which the same bytes stand
