@@ -1,6 +1,12 @@
 // A program's reads and writes but for its C calls: bytes are read until the buffer is full or the input has ended, then they are taken, then the lines
 // made of them are written.
-ghost use Rattle.whole_reads.specs.Promises.{Begins, NextIs, leftToWrite, GotAs, TookAs, PutAs};
+ghost use Prim.Native.Nat.{_+_, _-_, _^_, _≤_, _<_, min};
+ghost use mathlib.Core.Path.{_≡_};
+ghost use lib.ListN.{drop};
+ghost use lib.IntN.{pos};
+ghost use lib.Signed.{ltZ};
+ghost use Rattle.whole_reads.specs.Promises.{isFine, leftToWrite, filledFlow, Begins, NextIs, GotAs, TookAs, PutAs};
+ghost use Rattle.whole_reads.specs.inner.Needed.{WroteAs, FailedAs};
 
 // What went wrong: a read or a write.
 pub enum Fault {
@@ -29,4 +35,192 @@ pub struct Flow {
     // Whether no more lines will be made.
     pub done: bool,
     pub fault: Fault,
+}
+
+// Nothing has been read or written.
+pub fn begin() -> Flow
+    ensures { λ r. ⌜ Begins r ⌝ }
+{
+    Flow {
+        have: 0,
+        ended: false,
+        from: 0,
+        to: 0,
+        done: false,
+        fault: Fault::Nothing,
+    }
+}
+
+// What to do next, with a buffer of so many bytes: write the lines that are left; then, unless all is done, fill the buffer, and take what stands in it.
+pub fn next_action(flow: Flow, room: usize) -> Action
+    ensures { λ r. ⌜ NextIs flow room r ⌝ }
+{
+    let fault = flow.fault;
+    if !is_fine(fault) {
+        return Action::Stop;
+    }
+    if flow.from < flow.to {
+        return Action::Write;
+    }
+    if flow.done {
+        return Action::Stop;
+    }
+    if flow.ended {
+        return Action::Take;
+    }
+    if room <= flow.have {
+        return Action::Take;
+    }
+    Action::Read
+}
+
+// The lines that are left to be written.
+pub fn unwritten(flow: Flow, lines: &[u8]) -> &[u8]
+    ensures { λ r. ⌜ now r ≡ leftToWrite flow (now (lines .entry)) ⌝ }
+{
+    let to = least(flow.to, lines.len());
+    let from = least(flow.from, to);
+    &lines[from..to]
+}
+
+// A read has answered, and put bytes into the buffer behind those that stand in it. One that failed is made again or not.
+pub fn after_read(flow: Flow, got: isize, again: bool, buffer: &[u8]) -> Flow
+    ensures { λ r. ⌜ GotAs flow got again (now (buffer .entry)) r ⌝ }
+{
+    if is_failed(got) {
+        return fail(flow, Fault::Reading, again);
+    }
+    let part = unfilled(flow, buffer);
+    let n = io::count(got, part);
+    fill(flow, n)
+}
+
+// All bytes in the buffer are taken, and so many bytes of lines are made of them.
+pub fn after_take(flow: Flow, made: usize, done: bool) -> Flow
+    ensures { λ r. ⌜ TookAs flow made done r ⌝ }
+{
+    let fault = flow.fault;
+    Flow {
+        have: 0,
+        ended: flow.ended,
+        from: 0,
+        to: made,
+        done,
+        fault,
+    }
+}
+
+// A write has answered, which was handed the lines that are left. One that failed is made again or not; one that takes nothing has failed.
+pub fn after_write(flow: Flow, put: isize, again: bool, lines: &[u8]) -> Flow
+    ensures { λ r. ⌜ PutAs flow put again (now (lines .entry)) r ⌝ }
+{
+    if is_failed(put) {
+        return fail(flow, Fault::Writing, again);
+    }
+    let part = unwritten(flow, lines);
+    let n = io::count(put, part);
+    write(flow, n)
+}
+
+// The bytes of the buffer behind those that stand in it.
+fn unfilled(flow: Flow, buffer: &[u8]) -> &[u8]
+    ensures { λ r. ⌜ now r ≡ drop (flow .have) (now (buffer .entry)) ⌝ }
+{
+    let have = least(flow.have, buffer.len());
+    &buffer[have..]
+}
+
+// n bytes more stand in the buffer; none is the end of the input.
+fn fill(flow: Flow, n: usize) -> Flow
+    requires { ⌜ flow .have + n < 2 ^ 64 ⌝ }
+    ensures { λ r. ⌜ r ≡ filledFlow flow n ⌝ }
+{
+    let have = flow.have + n;
+    let fault = flow.fault;
+    if n == 0 {
+        return Flow {
+            have,
+            ended: true,
+            from: flow.from,
+            to: flow.to,
+            done: flow.done,
+            fault,
+        };
+    }
+    Flow {
+        have,
+        ended: flow.ended,
+        from: flow.from,
+        to: flow.to,
+        done: flow.done,
+        fault,
+    }
+}
+
+// Goes on behind the first n bytes of the lines that were left; none is a failure.
+fn write(flow: Flow, n: usize) -> Flow
+    requires { ⌜ n ≤ flow .to - flow .from ⌝ }
+    ensures { λ r. ⌜ WroteAs flow n r ⌝ }
+{
+    let from = flow.from + n;
+    if n == 0 {
+        return Flow {
+            have: flow.have,
+            ended: flow.ended,
+            from,
+            to: flow.to,
+            done: flow.done,
+            fault: Fault::Writing,
+        };
+    }
+    let fault = flow.fault;
+    Flow {
+        have: flow.have,
+        ended: flow.ended,
+        from,
+        to: flow.to,
+        done: flow.done,
+        fault,
+    }
+}
+
+// A read or a write has failed; where it is to be made again nothing changes.
+fn fail(flow: Flow, fault: Fault, again: bool) -> Flow
+    ensures { λ r. ⌜ FailedAs flow fault again r ⌝ }
+{
+    if again {
+        return flow;
+    }
+    Flow {
+        have: flow.have,
+        ended: flow.ended,
+        from: flow.from,
+        to: flow.to,
+        done: flow.done,
+        fault,
+    }
+}
+
+// Whether a call failed, by its answer.
+fn is_failed(answer: isize) -> bool
+    ensures { λ r. ⌜ r ≡ ltZ answer (pos 0) ⌝ }
+{
+    answer < 0
+}
+
+// Whether nothing went wrong.
+fn is_fine(fault: Fault) -> bool
+    ensures { λ r. ⌜ r ≡ isFine fault ⌝ }
+{
+    match fault {
+        Fault::Nothing => true,
+        Fault::Reading => false,
+        Fault::Writing => false,
+    }
+}
+
+fn least(a: usize, b: usize) -> usize
+    ensures { λ r. ⌜ r ≡ min a b ⌝ }
+{
+    if a < b { a } else { b }
 }
