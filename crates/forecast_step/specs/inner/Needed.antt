@@ -1,6 +1,6 @@
 -- The forecast in memory: the area of the marks and the own entries of the processors, of a mainframe of which nothing else is kept; what the functions of
 -- this crate ask of it and promise. Assumes nothing.
-use Prim.Native.Nat.{ℕ, _≤_}
+use Prim.Native.Nat.{ℕ}
 use mathlib.Core.Path.{_≡_}
 use mathlib.Core.List.{List, _∷_}
 use lib.ListN.{length}
