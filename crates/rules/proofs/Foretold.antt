@@ -75,13 +75,18 @@ module _ (lim : Limits) (s : State) (e : List ℕ) where
   late-foretold o p (TallyRead j) = refl
   late-foretold o p Unknown = refl
 
-  refusal-seen : (t : Step) → own s (t .processor) ≡ getD e (t .processor) 0 → refusalInOrder lim s t ≡ forecastRefusal lim (seenIn s e) t
-  unfolding refusalInOrder forecastRefusal refusalBy fits present hasArrived ownFor bare seenIn
-  refusal-seen t o = rw (bound-foretold (actionOf t), o, late-foretold (getD e (t .processor) 0) (t .processor) (actionOf t)) refl
+  -- the table, given an own entry, looks at nothing else
+  pub refusal-seen : (o : ℕ) (t : Step) → refusalBy lim s o t ≡ refusalBy lim (bare (seenIn s e)) o t
+  unfolding refusalBy fits present hasArrived bare seenIn
+  refusal-seen o t = rw (bound-foretold (actionOf t), late-foretold o (t .processor) (actionOf t)) refl
 
 -- "its refusal ... must equal what the run itself has"
 pub refusal-foretold : (lim : Limits) (s : State) (f : Forecast) (t : Step) → Foretells s f → refusalInOrder lim s t ≡ forecastRefusal lim f t
-refusal-foretold lim s f t h = refusal-seen lim s (f .entries) t (unfold own clock in h .own-entries (t .processor)) ∙ ap (λ (g : Forecast). forecastRefusal lim g t) (sym (h .same))
+unfolding refusalInOrder forecastRefusal ownFor own clock
+refusal-foretold lim s f t h =
+    refusal-seen lim s (f .entries) (own s (t .processor)) t
+    ∙ ap (λ (o : ℕ). refusalBy lim (bare (seenIn s (f .entries))) o t) (h .own-entries (t .processor))
+    ∙ ap (λ (g : Forecast). refusalBy lim (bare g) (ownFor f (t .processor)) t) (sym (h .same))
 
 -- "the records standing and the dirty pages after it"
 pub standing-foretold : (s : State) (f : Forecast) → Foretells s f → s .records .standing ≡ f .standing
@@ -119,6 +124,10 @@ closed-foretold s e p owns from =
     go q true (yes d) = rw (d, get-put 0 e p p (getD e p 0 + 1), eq-eqb p p refl) (omega (arith, own-ticked-same s p from, owns p))
     go q true (no d) = rw (get-put 0 e p q (getD e p 0 + 1), ne-eqb q p d) (own-ticked-other s p q d ∙ owns q)
     go q false d = owns q
+
+-- closing is foretold
+pub close-foretold : (s : State) (f : Forecast) (p : ℕ) → Foretells s f → 1 ≤ p → Foretells (closed s p) (closedFor f p)
+close-foretold s f p h from = goes-on s (closed s p) f (λ g. closedFor g p) h (λ e owns. closed-foretold s e p owns from)
 
 -- ---- other clocks and marks
 

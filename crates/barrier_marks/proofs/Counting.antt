@@ -3,13 +3,17 @@ use Prim.Native.Nat.{ℕ, suc, _+_, _≤_, _<_}
 use native.Mathlib.Numerals.{add-one}
 use native.Mathlib.Omega.{arith}
 use mathlib.Core.Path.{_≡_, refl, sym, ap, _∙_}
-use mathlib.Core.Bool.{Bool, false, cond, not}
+use mathlib.Core.Bool.{Bool, false, cond, not, and-false}
 use mathlib.Core.List.{List}
-use lib.Dec.{eqb}
+use lib.ListN.{length}
+use lib.Dec.{leb, eqb}
+use borrow.Author.Tests.{not-false, eqb-true, lt-leb}
 use borrow.Author.Needs.{needs}
 use Rattle.lists.specs.Tables.{total}
 use Rattle.lists.proofs.Tables.{total-same, total-of-fewer}
 use Rattle.limits.specs.Limits.{processorLimit}
+use Rattle.limits.specs.inner.Sizes.{markArea}
+use Rattle.rules.specs.InOrder.{present}
 use Rattle.rules.specs.State.{mainframe, State, hasArrived}
 use Rattle.rules.specs.Steps.{atBarrier, allArrived}
 use Rattle.rules.proofs.order.Ghosts.{completes}
@@ -18,8 +22,8 @@ use Rattle.layout.specs.Areas.{stateIn}
 use Rattle.layout.specs.inner.Needed.{MarksOf}
 use Rattle.layout.specs.inner.Marks.{processorCount, arrivedMark}
 use Rattle.layout.proofs.MarkLaws.{arrived-read}
-use Rattle.step_barrier.specs.inner.Needed.{AbsentAway}
-use Rattle.step_barrier.specs.inner.Effects.{OneMissing, arrivedCount}
+use Rattle.barrier_marks.specs.inner.Needed.{AbsentAway}
+use Rattle.barrier_marks.specs.inner.Effects.{OneMissing, arrivedCount}
 
 -- ---- tests counted
 
@@ -79,6 +83,26 @@ arrived-counting-ends m sum k x n h l e d =
     }
 
 pub ruleset count-laws = (arrived-counting-begins, counting-next, counting-more, arrived-counting-ends, needs)
+
+-- ---- the marks of a state in order
+
+-- no absent processor has arrived
+pub absent-away : (c w r m : List ℕ) → length m ≡ markArea → processorCount m ≤ processorLimit
+    → ((p : ℕ) → 1 ≤ p → present (stateIn mainframe c w r m) p ≡ false → hasArrived (stateIn mainframe c w r m) p ≡ false) → AbsentAway m
+unfolding present hasArrived stateIn
+absent-away c w r m long few away =
+    record {
+      marks = long;
+      few = few;
+      absent =
+          record {
+            away =
+                λ p h k.
+                eqb-true (arrivedMark m p) 0
+                (not-false (eqb (arrivedMark m p) 0)
+                (ap (λ (x : ℕ). not (eqb x 0)) (sym (arrived-read c w r m p (omega arith) k)) ∙ away p (omega arith) (rw (lt-leb p (processorCount m) h) (and-false (leb 1 p)))));
+          };
+    }
 
 -- ---- the last arrival
 

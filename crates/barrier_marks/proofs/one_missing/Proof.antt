@@ -1,9 +1,9 @@
 -- `one_missing` meets its contract: one mark after the other. Assumes nothing.
 use Prim.Native.Nat.{_-_}
 use Rattle.limits.specs.Limits.{processorLimit}
-use Rattle.step_barrier.proofs.Counting.{ArrivedCounted, count-laws}
-use Rattle.step_barrier.proofs.one_missing.Statement.{statement}
-use Rattle.step_barrier.proofs.one_missing.Tie as tie
+use Rattle.barrier_marks.proofs.Counting.{ArrivedCounted, count-laws}
+use Rattle.barrier_marks.proofs.one_missing.Statement.{statement}
+use Rattle.barrier_marks.proofs.one_missing.Tie as tie
 
 abbrev Inv-loop : tie.InvT-loop
 Inv-loop marks sum₀ k₀ sum k = ArrivedCounted marks sum k
