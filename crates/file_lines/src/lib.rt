@@ -24,7 +24,7 @@ pub fn put_record_line(
 }
 
 // Writes a line from a place on where the digits of its number are at hand, and says the place behind it.
-pub fn put_counted(
+pub fn put_counted_line(
     out: &mut [u8],
     at: usize,
     digits: [u8; 8],
@@ -42,7 +42,7 @@ pub fn put_counted(
 }
 
 // Writes the last line of a run, how many words have moved, from a place on, and says the place behind it.
-pub fn put_words_line(out: &mut [u8], at: usize, words: u64) -> usize
+pub fn end_with_words(out: &mut [u8], at: usize, words: u64) -> usize
     requires { ⌜ Room (now out) at lineLimit ⌝ }
     ensures { λ r. ⌜ LinePut (now (out .entry)) at (wordsLine words) (now (out .exit)) r ⌝ }
 {
@@ -50,7 +50,7 @@ pub fn put_words_line(out: &mut [u8], at: usize, words: u64) -> usize
 }
 
 // Writes the last line of a forecast, the most that stands, from a place on, and says the place behind it.
-pub fn put_most_line(out: &mut [u8], at: usize, most: u32) -> usize
+pub fn end_with_most(out: &mut [u8], at: usize, most: u32) -> usize
     requires { ⌜ Room (now out) at lineLimit ⌝ }
     ensures { λ r. ⌜ LinePut (now (out .entry)) at (mostLine most) (now (out .exit)) r ⌝ }
 {

@@ -90,8 +90,8 @@ pub fn put_next(
             value,
             count,
             words: _,
-        } => file_lines::put_counted(out, at, digits, len, number, 0, value, count),
-        Outcome::Refused(refusal) => file_lines::put_counted(
+        } => file_lines::put_counted_line(out, at, digits, len, number, 0, value, count),
+        Outcome::Refused(refusal) => file_lines::put_counted_line(
             out,
             at,
             digits,

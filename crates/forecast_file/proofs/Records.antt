@@ -90,7 +90,7 @@ last-kept f (t ∷ ts) x s d =
     last-kept (forecastNext mainframe f t) ts (record { refusal = forecastRefusal mainframe f t; standing = forecastNext mainframe f t .standing; dirty = dirtyFor (forecastNext mainframe f t) }) refl refl
 
 -- a record that is a step
-one-step : (f : Foresight) (bytes : List ℕ) → 1 ≤ f .number → f .number ≤ stepLimit → recordForeseen f (take fileRecordWidth bytes) ≡ stepForeseen f bytes
+pub one-step : (f : Foresight) (bytes : List ℕ) → 1 ≤ f .number → f .number ≤ stepLimit → recordForeseen f (take fileRecordWidth bytes) ≡ stepForeseen f bytes
 unfolding recordForeseen stepForeseen
 one-step f bytes from few =
     rw (ne-eqb (f .number) 0 (λ z. omega (arith, z, from)), le-leb (f .number) stepLimit few, step-of-eight bytes)

@@ -19,7 +19,7 @@ use Rattle.step_fields.specs.Records.{stepsIn, stepCount, fileSteps}
 use Rattle.lines.specs.Lines.{lineBytes, refusalLine, mostLine}
 use Rattle.forecast_file.specs.Files.{figureLines, fileFigures, noFigures, lastFigures, stopLine, foreseenLines, forecastLines}
 use Rattle.forecast_file.specs.Standing.{Foresight, nothingForeseen, openingForeseen, tooManyForeseen, recordForeseen, recordsForeseen, foreseen}
-use Rattle.forecast_file.specs.inner.Needed.{lastLines}
+use Rattle.forecast_file.specs.inner.Needed.{cutLine, lastLines}
 use Rattle.forecast_file.proofs.Records.{foreseen-stopped, foreseen-one, foreseen-together, afterSteps, last-kept, steps-foreseen}
 
 -- ---- the whole file
@@ -30,7 +30,7 @@ opened-clean-for o = sym (dirty-foretold (opened mainframe (o .counts)) (openedF
 
 -- a file that ends before its opening
 short-forecast : (k : Forecast) (file : List ℕ) → length file < fileRecordWidth → forecastLines file ≡ foreseen k file .lines ++ lastLines (foreseen k file) (length file % fileRecordWidth)
-unfolding forecastLines foreseen recordsForeseen nothingForeseen lastLines
+unfolding forecastLines foreseen recordsForeseen nothingForeseen cutLine lastLines
 short-forecast k file h =
     ap (λ (b : Bool). cond b (refusalLine 0 15 ++ mostLine 0) (cond (eqb (openingRefusal mainframe (openingOf (take fileRecordWidth file))) 0) (refusalLine 0 0 ++ foreseenLines file) (refusalLine 0 2 ++ mostLine 0)))
     (lt-ltb (length file) fileRecordWidth h)
@@ -57,7 +57,7 @@ module _ (k : Forecast) (file : List ℕ) (long : fileRecordWidth ≤ length fil
   -- a refused opening
   refused-forecast : (openingRefusal mainframe (openingOf (take fileRecordWidth file)) ≡ 0 → ⊥)
       → forecastLines file ≡ foreseen k file .lines ++ lastLines (foreseen k file) (length file % fileRecordWidth)
-  unfolding forecastLines openingForeseen nothingForeseen lastLines
+  unfolding forecastLines openingForeseen nothingForeseen cutLine lastLines
   refused-forecast refused =
       ap (λ (b : Bool). cond b (refusalLine 0 15 ++ mostLine 0) (cond (eqb (openingRefusal mainframe o) 0) (refusalLine 0 0 ++ foreseenLines file) (refusalLine 0 2 ++ mostLine 0))) (le-ltb (length file) fileRecordWidth long)
       ∙ ap (λ (b : Bool). cond b (refusalLine 0 0 ++ foreseenLines file) (refusalLine 0 2 ++ mostLine 0)) (ne-eqb (openingRefusal mainframe o) 0 refused)
@@ -73,8 +73,8 @@ module _ (k : Forecast) (file : List ℕ) (long : fileRecordWidth ≤ length fil
 
   module _ (accepted : openingRefusal mainframe (openingOf (take fileRecordWidth file)) ≡ 0) where
     -- what stands behind the opening
-    abbrev begun : Foresight
-    begun = record { number = 1; stopped = false; forecast = openedFor mainframe (o .counts); most = 0; lines = refusalLine 0 0 }
+    abbrev forecast-begun : Foresight
+    forecast-begun = record { number = 1; stopped = false; forecast = openedFor mainframe (o .counts); most = 0; lines = refusalLine 0 0 }
 
     -- what is kept, and the figures, after n steps
     abbrev kept : ℕ → Forecast
@@ -83,11 +83,11 @@ module _ (k : Forecast) (file : List ℕ) (long : fileRecordWidth ≤ length fil
     abbrev figures : ℕ → List Figures
     figures n = forecastFigures mainframe (openedFor mainframe (o .counts)) (stepsIn n steps)
 
-    opened-first : foreseen k file ≡ recordsForeseen begun (stepCount file) (drop fileRecordWidth file)
+    opened-first : foreseen k file ≡ recordsForeseen forecast-begun (stepCount file) (drop fileRecordWidth file)
     unfolding openingForeseen nothingForeseen
     opened-first =
         behind-opening
-        ∙ ap (λ (b : Bool). recordsForeseen (cond b begun (record { number = 1; stopped = true; forecast = k; most = 0; lines = refusalLine 0 2 })) (stepCount file) (drop fileRecordWidth file))
+        ∙ ap (λ (b : Bool). recordsForeseen (cond b forecast-begun (record { number = 1; stopped = true; forecast = k; most = 0; lines = refusalLine 0 2 })) (stepCount file) (drop fileRecordWidth file))
         (eq-eqb (openingRefusal mainframe o) 0 accepted)
 
     -- the lines of the file by these figures
@@ -125,15 +125,15 @@ module _ (k : Forecast) (file : List ℕ) (long : fileRecordWidth ≤ length fil
         by-figures (stepCount file) (omega (arith, few))
         ∙ joined-lines (stepCount file) (stopLine file (lastFigures noFigures (figures (stepCount file))) ++ mostLine (mostOf (figures (stepCount file))))
         (lastLines (after (stepCount file)) (length file % fileRecordWidth)) (go (eqb (length file % fileRecordWidth) 0) refl)
-        ∙ sym (ap (λ (f : Foresight). f .lines ++ lastLines f (length file % fileRecordWidth)) (opened-first ∙ steps-foreseen begun (stepCount file) steps refl (omega arith) (omega (arith, few))))
+        ∙ sym (ap (λ (f : Foresight). f .lines ++ lastLines f (length file % fileRecordWidth)) (opened-first ∙ steps-foreseen forecast-begun (stepCount file) steps refl (omega arith) (omega (arith, few))))
       where
         number : stepCount file + 1 ≡ 1 + stepCount file
         number = omega arith
 
         go : (b : Bool) → eqb (length file % fileRecordWidth) 0 ≡ b
             → stopLine file (lastFigures noFigures (figures (stepCount file))) ++ mostLine (mostOf (figures (stepCount file))) ≡ lastLines (after (stepCount file)) (length file % fileRecordWidth)
-        go true e = unfold stopLine lastLines in rw (le-ltb stepLimit (stepCount file) few, e, ne-eqb (1 + stepCount file) 0 (λ z. omega (arith, z)), most-is (stepCount file)) refl
-        go false e = unfold stopLine lastLines in
+        go true e = unfold stopLine cutLine lastLines in rw (le-ltb stepLimit (stepCount file) few, e, ne-eqb (1 + stepCount file) 0 (λ z. omega (arith, z)), most-is (stepCount file)) refl
+        go false e = unfold stopLine cutLine lastLines in
             rw (le-ltb stepLimit (stepCount file) few, e, ne-eqb (1 + stepCount file) 0 (λ z. omega (arith, z)), most-is (stepCount file), last-standing (stepCount file), last-dirty (stepCount file), number) refl
 
     -- a file with one
@@ -165,17 +165,17 @@ module _ (k : Forecast) (file : List ℕ) (long : fileRecordWidth ≤ length fil
         stopped-there : recordForeseen (after stepLimit) (take fileRecordWidth rest) ≡ over
         stopped-there = unfold recordForeseen in rw (ne-eqb (1 + stepLimit) 0 (λ z. omega (arith, z)), lt-leb (1 + stepLimit) stepLimit (omega arith)) refl
 
-        one-too-many : recordsForeseen begun (stepCount file) steps ≡ over
+        one-too-many : recordsForeseen forecast-begun (stepCount file) steps ≡ over
         one-too-many =
-            ap (λ (n : ℕ). recordsForeseen begun n steps) more
-            ∙ foreseen-together begun stepLimit (suc (stepCount file - stepLimit - 1)) steps
-            ∙ ap (λ (f : Foresight). recordsForeseen f (suc (stepCount file - stepLimit - 1)) rest) (steps-foreseen begun stepLimit steps refl (omega arith) (omega arith))
+            ap (λ (n : ℕ). recordsForeseen forecast-begun n steps) more
+            ∙ foreseen-together forecast-begun stepLimit (suc (stepCount file - stepLimit - 1)) steps
+            ∙ ap (λ (f : Foresight). recordsForeseen f (suc (stepCount file - stepLimit - 1)) rest) (steps-foreseen forecast-begun stepLimit steps refl (omega arith) (omega arith))
             ∙ foreseen-one (after stepLimit) (stepCount file - stepLimit - 1) rest refl
             ∙ ap (λ (f : Foresight). recordsForeseen f (stepCount file - stepLimit - 1) (drop fileRecordWidth rest)) stopped-there
             ∙ foreseen-stopped over (stepCount file - stepLimit - 1) (drop fileRecordWidth rest) (unfold tooManyForeseen in refl)
 
         last : over .lines ++ lastLines over (length file % fileRecordWidth) ≡ refusalLine 0 0 ++ figureLines 1 (figures stepLimit) ++ sixteen ++ mostLine (mostOf (figures stepLimit))
-        last = unfold tooManyForeseen lastLines in ap (λ (m : ℕ). refusalLine 0 0 ++ figureLines 1 (figures stepLimit) ++ lineBytes (1 + stepLimit) 16 (kept stepLimit .standing) (dirtyFor (kept stepLimit)) ++ mostLine m) (most-is stepLimit)
+        last = unfold tooManyForeseen cutLine lastLines in ap (λ (m : ℕ). refusalLine 0 0 ++ figureLines 1 (figures stepLimit) ++ lineBytes (1 + stepLimit) 16 (kept stepLimit .standing) (dirtyFor (kept stepLimit)) ++ mostLine m) (most-is stepLimit)
 
 -- the lines of a file are those of its whole records, and the last
 pub whole-forecast : (k : Forecast) (file : List ℕ) → forecastLines file ≡ foreseen k file .lines ++ lastLines (foreseen k file) (length file % fileRecordWidth)

@@ -25,7 +25,7 @@ use Rattle.refusals.specs.inner.Parts.{seen}
 use Rattle.refusals.proofs.ByKind.{page-of-word}
 use Rattle.refusals.proofs.Marked.{dirty-seen}
 use Rattle.barrier_marks.specs.inner.Effects.{Wanted}
-use Rattle.forecast_step.specs.inner.Needed.{forecastIn}
+use Rattle.forecast_step.specs.Memory.{forecastIn}
 use Rattle.forecast_step.specs.inner.Parts.{ActsForeseen, LockForeseen, ArrivalForeseen, AcceptedForeseen, Shows, PageWritten}
 use Rattle.forecast_step.proofs.Foreseeing.{counts-seen, marks-seen, counted-foreseen, pages-foreseen, marks-shown}
 
@@ -37,7 +37,7 @@ module _ (m : List ℕ) (p w : ℕ) (h : WriteOf m p w) (b : Bool) (mark : b ≡
 
   -- a dirty page stays as it is
   pub page-stays : b ≡ true → PageWritten m m p w
-  unfolding writtenFor forecastIn seenIn bare dirtyAt pageOfWord mainframe
+  unfolding writtenFor forecastIn seenIn bare dirtyAt pageOfWord mainframe seen
   page-stays e = record { marks = h .by .counted .marks; is = λ own. rw (sym dirty-is ∙ e) }
 
   -- a clean one becomes dirty

@@ -1,5 +1,5 @@
 -- Closing an interval by the marks and the own entries: the dirty pages of a processor counted, its marks cleared, and the two put together. One
--- law for each way of the code, and `close-laws`. Rests on Foreseeing. Assumes nothing.
+-- law for each way of the code; `count-laws`, `clean-laws` and `close-laws`. Rests on Foreseeing. Assumes nothing.
 use Prim.Native.Nat.{ℕ, zero, suc, _+_, _-_, _*_, _≤_, _<_}
 use native.Mathlib.Numerals.{add-one}
 use native.Mathlib.Omega.{arith}
@@ -39,7 +39,7 @@ use Rattle.layout.proofs.Stores.{get-sets-before, get-sets-behind, get-sets-sam
 use Rattle.refusals.specs.inner.Needed.{PagesOf}
 use Rattle.refusals.specs.inner.Parts.{seen}
 use Rattle.refusals.proofs.Counting.{markAt, marks-of-processor}
-use Rattle.forecast_step.specs.inner.Needed.{forecastIn}
+use Rattle.forecast_step.specs.Memory.{forecastIn}
 use Rattle.forecast_step.specs.inner.Parts.{ActsForeseen, Shows}
 use Rattle.forecast_step.proofs.Foreseeing.{entry-at, foreseen-in-order, pages-foreseen, present-foreseen}
 
@@ -177,7 +177,7 @@ module _ (own m : List ℕ) (p : ℕ) (h : ActsForeseen own m p) where
 
   -- and is small
   pub own-entry-fits : (r : ℕ) → r ≤ 1 → Fits w8 (getD own (p - 1) 0 + r)
-  unfolding forecastIn seenIn ownFor mainframe
+  unfolding forecastIn seenIn ownFor mainframe seen
   own-entry-fits r f =
       let few : getD (0 ∷ own) p 0 ≤ intervalLimit = foreseen-in-order own m (h .foreseen) .own-fits p in
       omega (arith, f, few, entry-at own p (h .from))
@@ -198,7 +198,7 @@ module _ (own m : List ℕ) (p : ℕ) (h : ActsForeseen own m p) where
       -- records, own entry and dirty marks are those of the forecast's closing
       pub closing-shown : (m₂ : List ℕ) (r : ℕ) → r ≡ cond (not (eqb d 0)) 1 0 → m₂ ≡ sets m₁ (dirtyPlace mainframe p 0) (replicate pageLimit 0)
           → Shows (set own (p - 1) (getD own (p - 1) 0 + r)) m₂ (closedFor (forecastIn own m) p)
-      unfolding forecastIn
+      unfolding forecastIn seen seenIn
       closing-shown m₂ r raises clean =
           record {
             entries = length-set own (p - 1) (getD own (p - 1) 0 + r) ∙ h .foreseen .entries;

@@ -21,7 +21,8 @@ use Rattle.refusals.specs.inner.Needed.{MarksCountable, PagesOf}
 use Rattle.refusals.specs.inner.Parts.{seen}
 use Rattle.barrier_marks.specs.inner.Needed.{AbsentAway}
 use Rattle.barrier_marks.proofs.Counting.{absent-away}
-use Rattle.forecast_step.specs.inner.Needed.{forecastIn, Foreseen}
+use Rattle.forecast_step.specs.Memory.{forecastIn}
+use Rattle.forecast_step.specs.inner.Needed.{Foreseen}
 use Rattle.forecast_step.specs.inner.Parts.{ActsForeseen, Shows}
 
 -- ---- a forecast of a state in order
@@ -63,12 +64,12 @@ entry-at own (suc k) h = let place : suc k - 1 ≡ k = omega arith in rw place
 module _ (own m : List ℕ) (h : Foreseen own m) where
   -- the counts are those of the state
   pub counts-seen : seen m .counts ≡ h .state .counts
-  unfolding forecastIn seenIn
+  unfolding forecastIn seenIn seen
   counts-seen = ap (λ (f : Forecast). f .counts) (h .foretold .same)
 
   -- and so are the marks
   pub marks-seen : seen m .marks ≡ h .state .marks
-  unfolding forecastIn seenIn
+  unfolding forecastIn seenIn seen
   marks-seen = ap (λ (f : Forecast). f .marks) (h .foretold .same)
 
   -- what "in order" says of that state
@@ -118,5 +119,5 @@ module _ (own m : List ℕ) (p : ℕ) (a : ActsForeseen own m p) where
 
 -- marks stored anew are those of the forecast
 pub marks-shown : (own m m′ : List ℕ) (k : Marks) → seen m′ ≡ withMarks (seen m) k → forecastIn own m′ ≡ marksFor (forecastIn own m) k
-unfolding forecastIn seenIn marksFor
+unfolding forecastIn seenIn marksFor seen
 marks-shown own m m′ k e = ap (λ (s : State). seenIn s (0 ∷ own)) e

@@ -4,3 +4,4 @@ pub mod Locking
 pub mod Meeting
 pub mod Acting
 pub mod Stepping
+pub mod Opening

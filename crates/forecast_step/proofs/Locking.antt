@@ -17,7 +17,7 @@ use Rattle.refusals.specs.inner.Parts.{seen}
 use Rattle.lock_line.specs.inner.Needed.{LineThere, InLine, Hands}
 use Rattle.lock_line.specs.inner.Effects.{MarksBecome}
 use Rattle.lock_line.proofs.Standing.{hands-in-order}
-use Rattle.forecast_step.specs.inner.Needed.{forecastIn}
+use Rattle.forecast_step.specs.Memory.{forecastIn}
 use Rattle.forecast_step.specs.inner.Parts.{LockForeseen, Shows}
 use Rattle.forecast_step.proofs.Foreseeing.{ForecastInOrder, foreseen-in-order, counted-foreseen, pages-foreseen, closed-foreseen, marks-shown}
 

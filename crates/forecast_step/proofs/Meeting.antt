@@ -1,5 +1,5 @@
--- Arrivals by the marks and the own entries: the processor is marked, a round is completed, garbage is collected. One law for each way of the code, and
--- `meet-laws`. Rests on Foreseeing. Assumes nothing.
+-- Arrivals by the marks and the own entries: the processor is marked, a round is completed, garbage is collected. One law for each way of the code;
+-- `collect-laws`, `round-laws` and `meet-laws`. Rests on Foreseeing. Assumes nothing.
 use Prim.Native.Nat.{ℕ}
 use mathlib.Core.Path.{_≡_, sym, ap, _∙_}
 use mathlib.Core.Bool.{Bool, true, false, not}
@@ -27,13 +27,13 @@ use Rattle.refusals.specs.inner.Parts.{seen}
 use Rattle.barrier_marks.specs.inner.Needed.{AbsentAway}
 use Rattle.barrier_marks.specs.inner.Effects.{OneMissing}
 use Rattle.barrier_marks.proofs.Counting.{last-arrives}
-use Rattle.forecast_step.specs.inner.Needed.{forecastIn}
-use Rattle.forecast_step.specs.inner.Parts.{Sized, ArrivalForeseen, Shows, roundCompleted}
+use Rattle.forecast_step.specs.Memory.{forecastIn}
+use Rattle.forecast_step.specs.inner.Parts.{BothLent, ArrivalForeseen, Shows, roundCompleted}
 use Rattle.forecast_step.proofs.Foreseeing.{away-foreseen, pages-foreseen, marks-shown}
 
 -- ---- garbage collection
 
-module _ (own m : List ℕ) (h : Sized own m) (m₁ : List ℕ) (none : m₁ ≡ withStanding m 0) where
+module _ (own m : List ℕ) (h : BothLent own m) (m₁ : List ℕ) (none : m₁ ≡ withStanding m 0) where
   -- the marks are as many
   pub emptied-marks : length m₁ ≡ markArea
   emptied-marks = ap length none ∙ standing-length m 0 (h .marks)
@@ -55,10 +55,10 @@ module _ (own m : List ℕ) (h : Sized own m) (m₁ : List ℕ) (none : m₁ ≡
 
 -- ---- a completed round
 
-module _ (own m : List ℕ) (h : Sized own m) (m₁ : List ℕ) (cleared : m₁ ≡ sets m firstArrived (replicate processorLimit 0)) where
+module _ (own m : List ℕ) (h : BothLent own m) (m₁ : List ℕ) (cleared : m₁ ≡ sets m firstArrived (replicate processorLimit 0)) where
   -- the areas have their sizes
-  pub cleared-sized : Sized own m₁
-  cleared-sized = record { entries = h .entries; marks = ap length cleared ∙ length-sets m firstArrived (replicate processorLimit 0) ∙ h .marks }
+  pub cleared-lent : BothLent own m₁
+  cleared-lent = record { entries = h .entries; marks = ap length cleared ∙ length-sets m firstArrived (replicate processorLimit 0) ∙ h .marks }
 
   round-shown : forecastIn own m₁ ≡ roundFor (forecastIn own m)
   unfolding roundFor forecastIn seenIn seen
@@ -72,7 +72,7 @@ module _ (own m : List ℕ) (h : Sized own m) (m₁ : List ℕ) (cleared : m₁ 
     -- nothing is collected
     pub round-plain : not b ≡ true → Shows own m₁ (roundCompleted (forecastIn own m))
     unfolding roundCompleted
-    round-plain e = record { entries = h .entries; marks = cleared-sized .marks; is = rw (← wish-is, not-true b e) round-shown }
+    round-plain e = record { entries = h .entries; marks = cleared-lent .marks; is = rw (← wish-is, not-true b e) round-shown }
 
     -- garbage is collected
     pub round-collects : (own′ m₂ : List ℕ) → not b ≡ false → Shows own′ m₂ (collectedFor (forecastIn own m₁)) → Shows own′ m₂ (roundCompleted (forecastIn own m))
@@ -93,8 +93,8 @@ module _ (own m : List ℕ) (p : ℕ) (h : ArrivalForeseen own m p) where
 
     module _ (m₂ : List ℕ) (marked : m₂ ≡ set m₁ (arrivedPlace mainframe p) 1) where
       -- the areas have their sizes
-      pub marked-sized : Sized own₁ m₂
-      marked-sized = record { entries = k .entries; marks = ap length marked ∙ length-set m₁ (arrivedPlace mainframe p) 1 ∙ k .marks }
+      pub marked-lent : BothLent own₁ m₂
+      marked-lent = record { entries = k .entries; marks = ap length marked ∙ length-set m₁ (arrivedPlace mainframe p) 1 ∙ k .marks }
 
       barrier-shown : forecastIn own₁ m₂ ≡ barrierFor (closedFor (forecastIn own m) p) p
       unfolding barrierFor forecastIn seenIn seen
@@ -110,7 +110,7 @@ module _ (own m : List ℕ) (p : ℕ) (h : ArrivalForeseen own m p) where
         -- others are awaited
         pub not-the-last : not b ≡ true → Shows own₁ m₂ (forecastAfter mainframe (forecastIn own m) p Arrive)
         unfolding forecastAfter completedFor
-        not-the-last e = record { entries = k .entries; marks = marked-sized .marks; is = rw (← answer-is, not-true b e) barrier-shown }
+        not-the-last e = record { entries = k .entries; marks = marked-lent .marks; is = rw (← answer-is, not-true b e) barrier-shown }
 
         -- the last completes the round
         pub last-completes : (own₂ m₃ : List ℕ) → not b ≡ false → Shows own₂ m₃ (roundCompleted (forecastIn own₁ m₂)) → Shows own₂ m₃ (forecastAfter mainframe (forecastIn own m) p Arrive)
@@ -119,6 +119,6 @@ module _ (own m : List ℕ) (p : ℕ) (h : ArrivalForeseen own m p) where
 
 pub ruleset collect-laws = (emptied-marks, collection-shown, needs)
 
-pub ruleset round-laws = (cleared-sized, round-plain, round-collects, needs)
+pub ruleset round-laws = (cleared-lent, round-plain, round-collects, needs)
 
-pub ruleset meet-laws = (others-counted, arrived-there, marked-sized, not-the-last, last-completes, needs)
+pub ruleset meet-laws = (others-counted, arrived-there, marked-lent, not-the-last, last-completes, needs)

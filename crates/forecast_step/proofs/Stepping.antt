@@ -18,7 +18,8 @@ use Rattle.rules.proofs.inorder.KindsOfSteps.{by-kind}
 use Rattle.refusals.specs.inner.Needed.{FittingStep}
 use Rattle.refusals.specs.inner.Parts.{seen, earlyRefusal, refusalOfKind}
 use Rattle.refusals.proofs.Refusing.{early-decides, step-fits, kind-decides}
-use Rattle.forecast_step.specs.inner.Needed.{forecastIn, Foreseen, StepForeseen}
+use Rattle.forecast_step.specs.Memory.{forecastIn}
+use Rattle.forecast_step.specs.inner.Needed.{Foreseen, StepForeseen}
 use Rattle.forecast_step.specs.inner.Parts.{AcceptedForeseen, Shows}
 use Rattle.forecast_step.proofs.Foreseeing.{entry-at, counted-foreseen}
 
@@ -26,7 +27,7 @@ use Rattle.forecast_step.proofs.Foreseeing.{entry-at, counted-foreseen}
 
 -- the table by the marks and the own entry is the forecast's
 table-shown : (own m : List ℕ) (t : Step) → refusalBy mainframe (seen m) (getD (0 ∷ own) (t .processor) 0) t ≡ forecastRefusal mainframe (forecastIn own m) t
-unfolding forecastRefusal ownFor forecastIn seenIn
+unfolding forecastRefusal ownFor forecastIn seenIn seen
 table-shown own m t = refusal-seen mainframe (seen m) (0 ∷ own) (getD (0 ∷ own) (t .processor) 0) t
 
 module _ (own m : List ℕ) (k p o v x : ℕ) (early : x ≡ earlyRefusal (seen m) k p o v) where

@@ -1,5 +1,5 @@
-// A step of the forecast (document 02, L8): the refusal of a step, and what it does to the marks and to the own entries of the processors. There are no
-// clocks, no words and no records in it. The own entry of processor p lies at p - 1.
+// The forecast (document 02, L8) of an opening and of a step: the refusal, and what it does to the marks and to the own entries of the processors.
+// There are no clocks, no words and no records in it. The own entry of processor p lies at p - 1.
 // Every contract is an equation over the forecast that the two areas hold, with a definition of the rules (specs/Forecast.antt of the crate rules).
 ghost use mathlib.Core.Path.{_≡_};
 ghost use Prim.Native.Nat.{_≤_};
@@ -15,8 +15,9 @@ ghost use Rattle.layout.specs.inner.Marks.{pageCount};
 ghost use Rattle.layout.specs.inner.Needed.{MarksOf};
 ghost use Rattle.refusals.specs.inner.Needed.{PagesOf, WriteOf};
 ghost use Rattle.refusals.specs.inner.Parts.{seen};
-ghost use Rattle.forecast_step.specs.inner.Needed.{forecastIn, Foreseen, StepForeseen};
-ghost use Rattle.forecast_step.specs.inner.Parts.{Sized, ActsForeseen, LockForeseen, ArrivalForeseen, AcceptedForeseen, Shows, PageWritten, roundCompleted};
+ghost use Rattle.forecast_step.specs.Memory.{forecastIn};
+ghost use Rattle.forecast_step.specs.inner.Needed.{Foreseen, OpeningGiven, OpeningForeseen, MarksForeseen, FiguresShown, StepForeseen};
+ghost use Rattle.forecast_step.specs.inner.Parts.{BothLent, ActsForeseen, LockForeseen, ArrivalForeseen, AcceptedForeseen, Shows, PageWritten, roundCompleted};
 use clock::PageId;
 use clock::ProcessorId;
 use layout::clear;
@@ -34,8 +35,37 @@ use layout::wide;
 use limits::PAGE_LIMIT;
 use limits::PAGE_WIDTH;
 
+// What a line says of a forecast: how many records stand, and how many pages are dirty.
+pub struct Figures {
+    pub standing: u32,
+    pub dirty: u32,
+}
+
+// The opening in eight bytes: its refusal, and where that is 0, the forecast of the opened mainframe.
+pub fn open(opening: &[u8], own: &mut [u8], marks: &mut [u8]) -> u8
+    requires { ⌜ OpeningGiven (now opening) (now own) (now marks) ⌝ }
+    ensures { λ r. ⌜ OpeningForeseen (now (opening .entry)) (now (own .entry)) (now (marks .entry)) r (now (own .exit)) (now (marks .exit)) ⌝ }
+{
+    if !opening::opening_fits(opening) {
+        return 2;
+    }
+    clear(own);
+    opening::lay_marks(opening, marks);
+    0
+}
+
+// The figures that the marks have.
+pub fn figures_of(marks: &[u8]) -> Figures
+    requires { ⌜ MarksForeseen (now marks) ⌝ }
+    ensures { λ r. ⌜ FiguresShown (now (marks .entry)) (r .standing) (r .dirty) ⌝ }
+{
+    let standing = standing_count(marks) as u32;
+    let dirty = refusals::dirty_pages(marks) as u32;
+    Figures { standing, dirty }
+}
+
 // A step: its refusal, and where that is 0, what the step does.
-pub fn step(
+pub fn foresee(
     kind: u32,
     processor: u32,
     object: u32,
@@ -146,7 +176,7 @@ fn arrive(p: ProcessorId, own: &mut [u8], marks: &mut [u8])
 
 // Completes a round: the arrived marks clear; if collection is wanted, garbage is collected.
 fn complete_round(own: &mut [u8], marks: &mut [u8])
-    requires { ⌜ Sized (now own) (now marks) ⌝ }
+    requires { ⌜ BothLent (now own) (now marks) ⌝ }
     ensures { λ _. ⌜ Shows (now (own .exit)) (now (marks .exit)) (roundCompleted (forecastIn (now (own .entry)) (now (marks .entry)))) ⌝ }
 {
     clear_arrived(marks);
@@ -158,7 +188,7 @@ fn complete_round(own: &mut [u8], marks: &mut [u8])
 
 // Garbage collection: no record stands, every own entry is 0, and the wish clears.
 fn collect(own: &mut [u8], marks: &mut [u8])
-    requires { ⌜ Sized (now own) (now marks) ⌝ }
+    requires { ⌜ BothLent (now own) (now marks) ⌝ }
     ensures { λ _. ⌜ Shows (now (own .exit)) (now (marks .exit)) (collectedFor (forecastIn (now (own .entry)) (now (marks .entry)))) ⌝ }
 {
     put_standing_count(marks, 0);

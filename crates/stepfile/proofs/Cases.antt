@@ -116,7 +116,7 @@ listing-state : openedBy listingBytes ≡ start 2 1 1
 unfolding openedBy openingOf listingBytes start
 listing-state = refl
 
-listing-steps : stepsIn (min (stepCount listingBytes) stepLimit) (drop fileRecordWidth listingBytes) ≡ listing
+pub listing-steps : stepsIn (min (stepCount listingBytes) stepLimit) (drop fileRecordWidth listingBytes) ≡ listing
 unfolding stepsIn stepFrom stepCount listingBytes listing
 listing-steps = refl
 

@@ -13,7 +13,7 @@ use Rattle.limits.specs.Files.{fileRecordWidth, lineLimit}
 use Rattle.lines.specs.Lines.{lineBytes, wordsLine, refusalLine}
 use Rattle.lines.specs.inner.Needed.{Room}
 use Rattle.file_lines.specs.inner.Needed.{LinePut}
-use Rattle.file_chunk.proofs.Passing.{rest-kept-all}
+use Rattle.file_lines.proofs.Placing.{rest-kept-all}
 use Rattle.stepfile.specs.Feeding.{after, lastLine}
 use Rattle.stepfile.specs.Promises.{FinishedAs, feedable, finishAnswer, finishLine, finishLines, notTaken}
 use Rattle.stepfile.specs.declared.Progress.{Progress}

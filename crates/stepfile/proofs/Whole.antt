@@ -25,7 +25,7 @@ use Rattle.lines.specs.Lines.{lineBytes, wordsLine, refusalLine}
 use Rattle.file_record.specs.Records.{Feed, openingTaken, stepTaken, tooManyTaken, recordTaken}
 use Rattle.file_chunk.specs.Bytes.{heldOn, bytesTaken}
 use Rattle.file_chunk.proofs.Bytes.{taken-stopped, taken-held, eight-first}
-use Rattle.file_chunk.proofs.Records.{step-of-eight}
+use Rattle.step_fields.proofs.Reading.{step-of-eight}
 use Rattle.stepfile.specs.Files.{answerLines, endLine, openedBy, stepAnswers, stepLines, fileLines}
 use Rattle.stepfile.specs.Feeding.{begun, after, lastLine}
 use Rattle.stepfile.specs.Promises.{progressOf, finishLine, Reached}

@@ -122,7 +122,7 @@ fn put_end(progress: Progress, lines: &mut [u8]) -> usize
     if ends_short(progress) {
         return file_lines::put_record_line(lines, 0, progress.number, 15, 0, 0);
     }
-    file_lines::put_words_line(lines, 0, progress.words)
+    file_lines::end_with_words(lines, 0, progress.words)
 }
 
 // Whether a file that ends here ends within a record or before the opening.

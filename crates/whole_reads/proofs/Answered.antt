@@ -15,10 +15,10 @@ use mir.Val.{SFits, ofZ, toZ}
 use mir.ValLaws.{toZ-ofZ}
 use Rattle.io.specs.Counts.{clamped}
 use Rattle.lists.proofs.Parts.{take-at-most}
-use Rattle.whole_reads.specs.Promises.{GotAs, PutAs, filledFlow, gotFlow, leftToWrite, movedBytes, putFlow, wroteFlow}
-use Rattle.whole_reads.specs.inner.Needed.{FailedAs, WroteAs}
+use Rattle.whole_reads.specs.Promises.{ReadNoted, WriteNoted, filledFlow, gotFlow, leftToWrite, movedBytes, putFlow, wroteFlow}
+use Rattle.whole_reads.specs.inner.Needed.{FailureNoted, WritingOn}
 use Rattle.whole_reads.specs.declared.Flow.{Flow}
-use Rattle.whole_reads.specs.declared.Fault.the-variants.{Reading, Writing}
+use Rattle.whole_reads.specs.declared.Failure.the-variants.{Reading, Writing}
 use Rattle.whole_reads.proofs.Filling.{buffer-kept, filled-flows}
 
 -- ---- the bytes that were moved
@@ -65,7 +65,7 @@ pub fill-fits : (f : Flow) (buffer part : List ℕ) (n : ℕ) → part ≡ drop 
 fill-fits f buffer part n p l s h = omega (arith, ap length p, length-drop (f .have) buffer)
 
 module _ (f : Flow) (got : ℤ) (again : Bool) (buffer : List ℕ) (b : Bool) (fits : SFits w64 got) (e : b ≡ ltZ (toZ w64 (ofZ w64 got)) (pos 0)) where
-  pub got-failed : (f′ : Flow) → b ≡ true → FailedAs f Reading again f′ → GotAs f got again buffer f′
+  pub got-failed : (f′ : Flow) → b ≡ true → FailureNoted f Reading again f′ → ReadNoted f got again buffer f′
   unfolding gotFlow
   got-failed f′ y w =
       record {
@@ -77,7 +77,7 @@ module _ (f : Flow) (got : ℤ) (again : Bool) (buffer : List ℕ) (b : Bool) (f
       bad : ltZ got (pos 0) ≡ true
       bad = sym (asked got b fits e) ∙ y
 
-  pub got-some : (n : ℕ) (part : List ℕ) (f′ : Flow) → b ≡ false → part ≡ drop (f .have) buffer → n ≡ clamped (toZ w64 (ofZ w64 got)) (length part) → n ≤ length part → f′ ≡ filledFlow f n → GotAs f got again buffer f′
+  pub got-some : (n : ℕ) (part : List ℕ) (f′ : Flow) → b ≡ false → part ≡ drop (f .have) buffer → n ≡ clamped (toZ w64 (ofZ w64 got)) (length part) → n ≤ length part → f′ ≡ filledFlow f n → ReadNoted f got again buffer f′
   unfolding gotFlow
   got-some n part f′ y p c l w =
       record {
@@ -96,7 +96,7 @@ unfolding leftToWrite
 write-within f out part n p l = omega (arith, ap length p, length-take (f .to - f .from) (drop (f .from) out))
 
 module _ (f : Flow) (put : ℤ) (again : Bool) (out : List ℕ) (b : Bool) (fits : SFits w64 put) (e : b ≡ ltZ (toZ w64 (ofZ w64 put)) (pos 0)) where
-  pub put-failed : (f′ : Flow) → b ≡ true → FailedAs f Writing again f′ → PutAs f put again out f′
+  pub put-failed : (f′ : Flow) → b ≡ true → FailureNoted f Writing again f′ → WriteNoted f put again out f′
   unfolding putFlow
   put-failed f′ y w =
       record {
@@ -107,7 +107,7 @@ module _ (f : Flow) (put : ℤ) (again : Bool) (out : List ℕ) (b : Bool) (fits
       bad : ltZ put (pos 0) ≡ true
       bad = sym (asked put b fits e) ∙ y
 
-  pub put-some : (n : ℕ) (part : List ℕ) (f′ : Flow) → b ≡ false → part ≡ leftToWrite f out → n ≡ clamped (toZ w64 (ofZ w64 put)) (length part) → n ≤ length part → WroteAs f n f′ → PutAs f put again out f′
+  pub put-some : (n : ℕ) (part : List ℕ) (f′ : Flow) → b ≡ false → part ≡ leftToWrite f out → n ≡ clamped (toZ w64 (ofZ w64 put)) (length part) → n ≤ length part → WritingOn f n f′ → WriteNoted f put again out f′
   unfolding putFlow
   put-some n part f′ y p c l w =
       record {

@@ -9,7 +9,7 @@ use lib.Seq.{take-add, take-all}
 use borrow.Author.Tests.{eq-eqb, ne-eqb}
 use borrow.Author.Needs.{needs}
 use Rattle.lists.proofs.Parts.{drop-at-most, part-from-start}
-use Rattle.whole_reads.specs.Promises.{Flows, TookAs, filledFlow, leftToWrite, takenFlow}
+use Rattle.whole_reads.specs.Promises.{Flows, TakeNoted, filledFlow, leftToWrite, takenFlow}
 use Rattle.whole_reads.specs.declared.Flow.{Flow}
 use Rattle.whole_reads.proofs.Coming.{all-written, taking}
 
@@ -23,12 +23,12 @@ part-unfilled f buffer have e =
 
 module _ (f : Flow) (n : ℕ) where
   pub filled-none : n ≡ 0
-      → _≡_ {A = Flow} (record { have = f .have + n; ended = true; from = f .from; to = f .to; done = f .done; fault = f .fault }) (filledFlow f n)
+      → _≡_ {A = Flow} (record { have = f .have + n; ended = true; from = f .from; to = f .to; done = f .done; failure = f .failure }) (filledFlow f n)
   unfolding filledFlow
   filled-none z = sym (rw (eq-eqb n 0 z, or-true (f .ended)))
 
   pub filled-some : (n ≡ 0 → ⊥)
-      → _≡_ {A = Flow} (record { have = f .have + n; ended = f .ended; from = f .from; to = f .to; done = f .done; fault = f .fault }) (filledFlow f n)
+      → _≡_ {A = Flow} (record { have = f .have + n; ended = f .ended; from = f .from; to = f .to; done = f .done; failure = f .failure }) (filledFlow f n)
   unfolding filledFlow
   filled-some z = sym (rw (ne-eqb n 0 z, or-false (f .ended)))
 
@@ -63,7 +63,7 @@ module _ (read taken made written : List ℕ) (f : Flow) (buffer out : List ℕ)
 
 -- ---- all are taken
 
-pub took : (f : Flow) (n : ℕ) (done : Bool) → TookAs f n done (record { have = 0; ended = f .ended; from = 0; to = n; done = done; fault = f .fault })
+pub took : (f : Flow) (n : ℕ) (done : Bool) → TakeNoted f n done (record { have = 0; ended = f .ended; from = 0; to = n; done = done; failure = f .failure })
 unfolding takenFlow leftToWrite
 took f n done =
     record {

@@ -10,10 +10,10 @@ use borrow.Author.Tests.{eq-eqb, ne-eqb}
 use borrow.Author.Needs.{needs}
 use Rattle.lists.proofs.Parts.{part-goes-on, part-within}
 use Rattle.whole_reads.specs.Promises.{Flows, failedFlow, leftToWrite, wroteFlow}
-use Rattle.whole_reads.specs.inner.Needed.{FailedAs, WroteAs}
+use Rattle.whole_reads.specs.inner.Needed.{FailureNoted, WritingOn}
 use Rattle.whole_reads.specs.declared.Flow.{Flow}
-use Rattle.whole_reads.specs.declared.Fault.{Fault}
-use Rattle.whole_reads.specs.declared.Fault.the-variants.{Writing}
+use Rattle.whole_reads.specs.declared.Failure.{Failure}
+use Rattle.whole_reads.specs.declared.Failure.the-variants.{Writing}
 
 -- ---- the lines that are left
 
@@ -40,28 +40,28 @@ module _ (f : Flow) (n : ℕ) where
       }
 
   module _ (l : n ≤ f .to - f .from) where
-    wrote-as : (fault : Fault) → fault ≡ cond (eqb n 0) Writing (f .fault)
-        → WroteAs f n (record { have = f .have; ended = f .ended; from = f .from + n; to = f .to; done = f .done; fault = fault })
+    wrote-as : (failure : Failure) → failure ≡ cond (eqb n 0) Writing (f .failure)
+        → WritingOn f n (record { have = f .have; ended = f .ended; from = f .from + n; to = f .to; done = f .done; failure = failure })
     unfolding wroteFlow
-    wrote-as fault e =
+    wrote-as failure e =
         let all : n ≡ min n (f .to - f .from) = omega arith in
-        let is : _≡_ {A = Flow} (record { have = f .have; ended = f .ended; from = f .from + n; to = f .to; done = f .done; fault = fault }) (wroteFlow f n) = rw (← all, e) in
+        let is : _≡_ {A = Flow} (record { have = f .have; ended = f .ended; from = f .from + n; to = f .to; done = f .done; failure = failure }) (wroteFlow f n) = rw (← all, e) in
         record { flow = is; flows = λ read taken made written buffer out h. rw is (wrote-flows read taken made written buffer out h) }
 
-    pub wrote-none : n ≡ 0 → WroteAs f n (record { have = f .have; ended = f .ended; from = f .from + n; to = f .to; done = f .done; fault = Writing })
+    pub wrote-none : n ≡ 0 → WritingOn f n (record { have = f .have; ended = f .ended; from = f .from + n; to = f .to; done = f .done; failure = Writing })
     wrote-none z = wrote-as Writing (sym (rw (eq-eqb n 0 z)))
 
-    pub wrote-some : (n ≡ 0 → ⊥) → WroteAs f n (record { have = f .have; ended = f .ended; from = f .from + n; to = f .to; done = f .done; fault = f .fault })
-    wrote-some z = wrote-as (f .fault) (sym (rw (ne-eqb n 0 z)))
+    pub wrote-some : (n ≡ 0 → ⊥) → WritingOn f n (record { have = f .have; ended = f .ended; from = f .from + n; to = f .to; done = f .done; failure = f .failure })
+    wrote-some z = wrote-as (f .failure) (sym (rw (ne-eqb n 0 z)))
 
 -- ---- a call that failed
 
-module _ (f : Flow) (fault : Fault) (again : Bool) where
-  pub failed-again : again ≡ true → FailedAs f fault again f
+module _ (f : Flow) (failure : Failure) (again : Bool) where
+  pub failed-again : again ≡ true → FailureNoted f failure again f
   unfolding failedFlow
   failed-again e = record { flow = sym (rw e); flows = λ read taken made written buffer out h. h }
 
-  pub failed-for-good : again ≡ false → FailedAs f fault again (record { have = f .have; ended = f .ended; from = f .from; to = f .to; done = f .done; fault = fault })
+  pub failed-for-good : again ≡ false → FailureNoted f failure again (record { have = f .have; ended = f .ended; from = f .from; to = f .to; done = f .done; failure = failure })
   unfolding failedFlow leftToWrite
   failed-for-good e =
       record {

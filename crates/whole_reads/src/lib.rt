@@ -5,18 +5,18 @@ ghost use mathlib.Core.Path.{_≡_};
 ghost use lib.ListN.{drop};
 ghost use lib.IntN.{pos};
 ghost use lib.Signed.{ltZ};
-ghost use Rattle.whole_reads.specs.Promises.{isFine, leftToWrite, filledFlow, Begins, NextIs, GotAs, TookAs, PutAs};
-ghost use Rattle.whole_reads.specs.inner.Needed.{WroteAs, FailedAs};
+ghost use Rattle.whole_reads.specs.Promises.{isFine, leftToWrite, filledFlow, FlowBegins, NextAs, ReadNoted, TakeNoted, WriteNoted};
+ghost use Rattle.whole_reads.specs.inner.Needed.{WritingOn, FailureNoted};
 
 // What went wrong: a read or a write.
-pub enum Fault {
+pub enum Failure {
     Nothing,
     Reading,
     Writing,
 }
 
 // What the program does next.
-pub enum Action {
+pub enum Next {
     Read,
     Take,
     Write,
@@ -34,12 +34,12 @@ pub struct Flow {
     pub to: usize,
     // Whether no more lines will be made.
     pub done: bool,
-    pub fault: Fault,
+    pub failure: Failure,
 }
 
 // Nothing has been read or written.
-pub fn begin() -> Flow
-    ensures { λ r. ⌜ Begins r ⌝ }
+pub fn new_flow() -> Flow
+    ensures { λ r. ⌜ FlowBegins r ⌝ }
 {
     Flow {
         have: 0,
@@ -47,35 +47,35 @@ pub fn begin() -> Flow
         from: 0,
         to: 0,
         done: false,
-        fault: Fault::Nothing,
+        failure: Failure::Nothing,
     }
 }
 
 // What to do next, with a buffer of so many bytes: write the lines that are left; then, unless all is done, fill the buffer, and take what stands in it.
-pub fn next_action(flow: Flow, room: usize) -> Action
-    ensures { λ r. ⌜ NextIs flow room r ⌝ }
+pub fn what_next(flow: Flow, room: usize) -> Next
+    ensures { λ r. ⌜ NextAs flow room r ⌝ }
 {
-    let fault = flow.fault;
-    if !is_fine(fault) {
-        return Action::Stop;
+    let failure = flow.failure;
+    if !is_fine(failure) {
+        return Next::Stop;
     }
     if flow.from < flow.to {
-        return Action::Write;
+        return Next::Write;
     }
     if flow.done {
-        return Action::Stop;
+        return Next::Stop;
     }
     if flow.ended {
-        return Action::Take;
+        return Next::Take;
     }
     if room <= flow.have {
-        return Action::Take;
+        return Next::Take;
     }
-    Action::Read
+    Next::Read
 }
 
 // The lines that are left to be written.
-pub fn unwritten(flow: Flow, lines: &[u8]) -> &[u8]
+pub fn lines_left(flow: Flow, lines: &[u8]) -> &[u8]
     ensures { λ r. ⌜ now r ≡ leftToWrite flow (now (lines .entry)) ⌝ }
 {
     let to = least(flow.to, lines.len());
@@ -84,11 +84,11 @@ pub fn unwritten(flow: Flow, lines: &[u8]) -> &[u8]
 }
 
 // A read has answered, and put bytes into the buffer behind those that stand in it. One that failed is made again or not.
-pub fn after_read(flow: Flow, got: isize, again: bool, buffer: &[u8]) -> Flow
-    ensures { λ r. ⌜ GotAs flow got again (now (buffer .entry)) r ⌝ }
+pub fn note_read(flow: Flow, got: isize, again: bool, buffer: &[u8]) -> Flow
+    ensures { λ r. ⌜ ReadNoted flow got again (now (buffer .entry)) r ⌝ }
 {
     if is_failed(got) {
-        return fail(flow, Fault::Reading, again);
+        return fail(flow, Failure::Reading, again);
     }
     let part = unfilled(flow, buffer);
     let n = io::count(got, part);
@@ -96,28 +96,28 @@ pub fn after_read(flow: Flow, got: isize, again: bool, buffer: &[u8]) -> Flow
 }
 
 // All bytes in the buffer are taken, and so many bytes of lines are made of them.
-pub fn after_take(flow: Flow, made: usize, done: bool) -> Flow
-    ensures { λ r. ⌜ TookAs flow made done r ⌝ }
+pub fn note_take(flow: Flow, made: usize, done: bool) -> Flow
+    ensures { λ r. ⌜ TakeNoted flow made done r ⌝ }
 {
-    let fault = flow.fault;
+    let failure = flow.failure;
     Flow {
         have: 0,
         ended: flow.ended,
         from: 0,
         to: made,
         done,
-        fault,
+        failure,
     }
 }
 
 // A write has answered, which was handed the lines that are left. One that failed is made again or not; one that takes nothing has failed.
-pub fn after_write(flow: Flow, put: isize, again: bool, lines: &[u8]) -> Flow
-    ensures { λ r. ⌜ PutAs flow put again (now (lines .entry)) r ⌝ }
+pub fn note_write(flow: Flow, put: isize, again: bool, lines: &[u8]) -> Flow
+    ensures { λ r. ⌜ WriteNoted flow put again (now (lines .entry)) r ⌝ }
 {
     if is_failed(put) {
-        return fail(flow, Fault::Writing, again);
+        return fail(flow, Failure::Writing, again);
     }
-    let part = unwritten(flow, lines);
+    let part = lines_left(flow, lines);
     let n = io::count(put, part);
     write(flow, n)
 }
@@ -136,7 +136,7 @@ fn fill(flow: Flow, n: usize) -> Flow
     ensures { λ r. ⌜ r ≡ filledFlow flow n ⌝ }
 {
     let have = flow.have + n;
-    let fault = flow.fault;
+    let failure = flow.failure;
     if n == 0 {
         return Flow {
             have,
@@ -144,7 +144,7 @@ fn fill(flow: Flow, n: usize) -> Flow
             from: flow.from,
             to: flow.to,
             done: flow.done,
-            fault,
+            failure,
         };
     }
     Flow {
@@ -153,14 +153,14 @@ fn fill(flow: Flow, n: usize) -> Flow
         from: flow.from,
         to: flow.to,
         done: flow.done,
-        fault,
+        failure,
     }
 }
 
 // Goes on behind the first n bytes of the lines that were left; none is a failure.
 fn write(flow: Flow, n: usize) -> Flow
     requires { ⌜ n ≤ flow .to - flow .from ⌝ }
-    ensures { λ r. ⌜ WroteAs flow n r ⌝ }
+    ensures { λ r. ⌜ WritingOn flow n r ⌝ }
 {
     let from = flow.from + n;
     if n == 0 {
@@ -170,23 +170,23 @@ fn write(flow: Flow, n: usize) -> Flow
             from,
             to: flow.to,
             done: flow.done,
-            fault: Fault::Writing,
+            failure: Failure::Writing,
         };
     }
-    let fault = flow.fault;
+    let failure = flow.failure;
     Flow {
         have: flow.have,
         ended: flow.ended,
         from,
         to: flow.to,
         done: flow.done,
-        fault,
+        failure,
     }
 }
 
 // A read or a write has failed; where it is to be made again nothing changes.
-fn fail(flow: Flow, fault: Fault, again: bool) -> Flow
-    ensures { λ r. ⌜ FailedAs flow fault again r ⌝ }
+fn fail(flow: Flow, failure: Failure, again: bool) -> Flow
+    ensures { λ r. ⌜ FailureNoted flow failure again r ⌝ }
 {
     if again {
         return flow;
@@ -197,7 +197,7 @@ fn fail(flow: Flow, fault: Fault, again: bool) -> Flow
         from: flow.from,
         to: flow.to,
         done: flow.done,
-        fault,
+        failure,
     }
 }
 
@@ -209,13 +209,13 @@ fn is_failed(answer: isize) -> bool
 }
 
 // Whether nothing went wrong.
-fn is_fine(fault: Fault) -> bool
-    ensures { λ r. ⌜ r ≡ isFine fault ⌝ }
+fn is_fine(failure: Failure) -> bool
+    ensures { λ r. ⌜ r ≡ isFine failure ⌝ }
 {
-    match fault {
-        Fault::Nothing => true,
-        Fault::Reading => false,
-        Fault::Writing => false,
+    match failure {
+        Failure::Nothing => true,
+        Failure::Reading => false,
+        Failure::Writing => false,
     }
 }
 

@@ -12,12 +12,13 @@ use Rattle.rules.specs.Refusals.{stepOf}
 use Rattle.rules.specs.Forecast.{Forecast, bare, forecastRefusal, writtenFor, roundFor, collectedFor}
 use Rattle.layout.specs.inner.Marks.{processorCount, lockCount}
 use Rattle.refusals.specs.inner.Parts.{seen}
-use Rattle.forecast_step.specs.inner.Needed.{forecastIn, Foreseen}
+use Rattle.forecast_step.specs.Memory.{forecastIn}
+use Rattle.forecast_step.specs.inner.Needed.{Foreseen}
 
 -- ---- what is asked
 
 -- both areas have their sizes
-pub record Sized (own m : List ℕ) : Type 0 where
+pub record BothLent (own m : List ℕ) : Type 0 where
   pub entries : length own ≡ processorLimit
   pub marks : length m ≡ markArea
 

@@ -1,9 +1,0 @@
--- `after_read` meets its contract. Assumes nothing.
-use Rattle.whole_reads.proofs.Answered.{answered-laws}
-use Rattle.whole_reads.proofs.after_read.Statement.{statement}
-use Rattle.whole_reads.proofs.after_read.Tie as tie
-
-pub after-read-spec : {M : Type 1} → statement M
-after-read-spec =
-    tie.close
-    (tie.spec (λ c κs. search answered-laws) (λ c κs. search answered-laws) (λ c. search answered-laws) (λ c κs. search answered-laws) (λ c κs. search answered-laws) (λ c κs. search answered-laws) (λ c. search answered-laws))
