@@ -13,9 +13,9 @@ use Rattle.layout.specs.Areas.{Areas}
 use Rattle.opening.specs.Promises.{openingOf, areasOpened}
 use Rattle.opening.proofs.Following.{accepted-opening}
 use Rattle.engine.proofs.CallsJudged.{calls-follow-rules, returned-tells}
-use Rattle.step_record.specs.Records.{stepsIn}
+use Rattle.step_fields.specs.Records.{stepsIn, stepCount}
 use Rattle.run_list.specs.Runs.{firstRefusal, firstState, runAnswers}
-use Rattle.stepfile.specs.Files.{stepCount, openedBy, stepAnswers}
+use Rattle.stepfile.specs.Files.{openedBy, stepAnswers}
 use Rattle.demands.specs.Answered.{OfAnswers, AnswersAs}
 
 -- the answers of `run` behind the opening's are those of the rules' list

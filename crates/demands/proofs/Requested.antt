@@ -1,12 +1,12 @@
 -- What the landed requests claim holds. Rests on the theorems that README names. Assumes nothing.
 use Prim.Native.Nat.{ℕ, _%_, _≤_, _<_}
 use native.Mathlib.Omega.{arith}
-use mathlib.Core.Path.{_≡_, refl, ap, _∙_}
+use mathlib.Core.Path.{_≡_, refl, sym, ap, _∙_}
 use mathlib.Core.Bool.{true}
-use mathlib.Core.List.{List, [], _∷_, _++_}
+use mathlib.Core.List.{List, [], _∷_, _++_, map}
 use mathlib.Core.Logic.{_↔_}
-use lib.ListN.{length}
-use borrow.Author.Tests.{eq-eqb, le-ltb}
+use lib.ListN.{length, take}
+use borrow.Author.Tests.{eq-eqb, ne-eqb, lt-ltb, le-ltb}
 use Rattle.limits.specs.Limits.{pageWidth}
 use Rattle.limits.specs.Files.{fileRecordWidth, stepLimit}
 use Rattle.diff.specs.Format.{setWords}
@@ -17,7 +17,7 @@ use Rattle.rules.specs.State.{mainframe, Counts, State}
 use Rattle.rules.specs.InOrder.{inOrder}
 use Rattle.rules.specs.Lines.{waits}
 use Rattle.rules.specs.Tallies.{tallyTotal}
-use Rattle.rules.specs.Opening.{opened}
+use Rattle.rules.specs.Opening.{openingRefusal, opened}
 use Rattle.rules.specs.Steps.{collected, emptied}
 use Rattle.rules.specs.Refusals.{Step, effect, refusalInOrder, refusal}
 use Rattle.rules.specs.Runs.{answers, wordsMoved}
@@ -26,6 +26,11 @@ use Rattle.rules.specs.Waiting.{refusalAt, ServedInTurn}
 use Rattle.rules.specs.TallyTotals.{TalliesJudged}
 use Rattle.rules.specs.Moved.{EffectsTold}
 use Rattle.rules.specs.Bench.{mainframeWith, answering, accepted, listing, listingAnswers, stepsUnderLock, answersUnderLock, stepsF, equalStores, setToWhatItWas}
+use Rattle.rules.specs.Noted.{withoutValue, refusalsOf}
+use Rattle.rules.specs.Forecast.{openedFor, Figures, forecastFigures}
+use Rattle.rules.proofs.Foretold.{forecast-is-the-run}
+use Rattle.rules.proofs.NoValues.{foreseen-without-values, refusals-foreseen, refused-without-values}
+use Rattle.rules.proofs.ForecastCases.{two-pages-figures}
 use Rattle.rules.proofs.InOrderRuns.{refusal-is-not-one}
 use Rattle.rules.proofs.inorder.InOrderSays.{in-order-says}
 use Rattle.rules.proofs.inorder.Accepted.{present-says}
@@ -44,14 +49,17 @@ use Rattle.rules.proofs.Cases.{bench-cases}
 use Rattle.rules.proofs.runs.FromStart.{listing-a}
 use Rattle.rules.proofs.runs.Listing.{start}
 use Rattle.step_close.proofs.InSequence.{sequence-closes}
-use Rattle.lines.specs.Lines.{wordsLine}
-use Rattle.file_record.specs.Records.{refusalLine}
-use Rattle.stepfile.specs.Files.{answerLines, stepCount, endLine, stepAnswers}
+use Rattle.opening.specs.Promises.{openingOf}
+use Rattle.lines.specs.Lines.{wordsLine, refusalLine, mostLine}
+use Rattle.step_fields.specs.Records.{stepCount}
+use Rattle.stepfile.specs.Files.{answerLines, endLine, stepAnswers}
 use Rattle.stepfile.proofs.Judged.{accepted-lines}
 use Rattle.stepfile.proofs.Cases.{listing-file}
+use Rattle.forecast_file.specs.Files.{forecastLines}
 use Rattle.demands.specs.Answered.{OfAnswers}
-use Rattle.demands.specs.Requests.{WaitForAHeldLock, StoringTheSame, ClosingInSequence, TalliesCount, NotApplyingReplaced, WordsTold, NoArrivingWithALock, Requests}
+use Rattle.demands.specs.Requests.{WaitForAHeldLock, StoringTheSame, ClosingInSequence, TalliesCount, NotApplyingReplaced, WordsTold, NoArrivingWithALock, SpaceForecast, Requests}
 use Rattle.demands.proofs.Lifted.{lifted, case-lifted}
+use Rattle.demands.proofs.SideBySide.{side-by-side, forecast-printed, run-printed, stops-at-15, stops-at-16, listing-rows, cut-rows}
 
 -- a page has words
 words-there : 0 < mainframe .words
@@ -111,7 +119,6 @@ storing-the-same =
       one-record = rw (from-start 1 1 1) (bench-cases .F .records);
       ordered-reads = ordered-reads-by-events;
       sooner = refused-at (mainframeWith 1 1 1) equalStores 190 9 (rw (from-start 1 1 1) nine-sooner);
-      refused-alike = refusals-alike mainframe;
     }
 
 -- ---- L3
@@ -191,6 +198,43 @@ no-arriving-with-a-lock =
       no-hang = round-finds-locks-free mainframe;
     }
 
+-- ---- L8
+
+-- a file that ends before its opening
+unopened-forecast : (file : List ℕ) → length file < fileRecordWidth → forecastLines file ≡ refusalLine 0 15 ++ mostLine 0
+unfolding forecastLines
+unopened-forecast file short = rw (lt-ltb (length file) fileRecordWidth short) refl
+
+-- one whose opening is refused
+refused-forecast : (file : List ℕ) → fileRecordWidth ≤ length file → (openingRefusal mainframe (openingOf (take fileRecordWidth file)) ≡ 0 → ⊥)
+    → forecastLines file ≡ refusalLine 0 2 ++ mostLine 0
+unfolding forecastLines
+refused-forecast file long refused =
+    rw (le-ltb (length file) fileRecordWidth long, ne-eqb (openingRefusal mainframe (openingOf (take fileRecordWidth file))) 0 refused) refl
+
+space-forecast : SpaceForecast
+space-forecast =
+    record {
+      foretold = λ o e ts. sym (forecast-is-the-run mainframe o e ts);
+      no-values = λ c ts ts′ same. foreseen-without-values mainframe (openedFor mainframe c) ts ts′ same;
+      side-by-side = side-by-side;
+      run-lines = run-printed;
+      forecast-lines = forecast-printed;
+      refusals =
+          lifted (λ c ts answered. refusalsOf answered ≡ map (λ (x : Figures). x .refusal) (forecastFigures mainframe (openedFor mainframe c) ts)) (λ o e ts. refusals-foreseen mainframe o e ts);
+      refused-alike =
+          lifted (λ c ts answered. (ts′ : List Step) → map withoutValue ts ≡ map withoutValue ts′ → refusalsOf answered ≡ refusalsOf (answers mainframe (opened mainframe c) ts′))
+          (λ o e ts ts′ same. refused-without-values mainframe o e ts ts′ same);
+      states-alike = refusals-alike mainframe;
+      at-15 = λ file long e few cut. stops-at-15 file long e few cut;
+      at-16 = λ file long e many. stops-at-16 file long e many;
+      unopened = unopened-forecast;
+      at-2 = refused-forecast;
+      listing = listing-rows;
+      cut = cut-rows;
+      two-pages = two-pages-figures;
+    }
+
 -- all of them
 pub requests : Requests
 requests =
@@ -202,4 +246,5 @@ requests =
       L5 = not-applying-replaced;
       L6 = words-told;
       L7 = no-arriving-with-a-lock;
+      L8 = space-forecast;
     }

@@ -13,9 +13,9 @@ use Rattle.opening.specs.Promises.{openingOf, openRefusal, areasOpened}
 use Rattle.step_act.specs.Telling.{told}
 use Rattle.step_act.specs.declared.Outcome.{Outcome}
 use Rattle.engine.specs.Calls.{answersOfCalls, Returned}
-use Rattle.step_record.specs.Records.{stepsIn}
+use Rattle.step_fields.specs.Records.{stepsIn, stepCount}
 use Rattle.run_list.specs.Runs.{firstRefusal, runAnswers}
-use Rattle.stepfile.specs.Files.{stepCount, stepAnswers}
+use Rattle.stepfile.specs.Files.{stepAnswers}
 
 -- what is claimed of the counts of an accepted opening, a list of steps and the answers to it holds:
 pub record OfAnswers (Claim : Counts → List Step → List Answer → Type 0) : Type 0 where

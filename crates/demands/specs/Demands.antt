@@ -32,7 +32,7 @@ use Rattle.rules.specs.Steps.{pageOfWord}
 use Rattle.layout.specs.Areas.{Areas, heldBy, rightSizes}
 use Rattle.opening.specs.Promises.{openingOf, openRefusal, areasOpened}
 use Rattle.engine.specs.Promises.{answerOf, areasAfter}
-use Rattle.file_record.specs.Records.{refusalLine}
+use Rattle.lines.specs.Lines.{refusalLine}
 use Rattle.stepfile.specs.Files.{answerLines, endLine, stepAnswers, fileLines}
 use Rattle.stepfile.specs.Promises.{feedAnswer, feedLines, feedAreas}
 use Rattle.stepfile.specs.declared.Progress.{Progress}

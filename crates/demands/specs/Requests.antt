@@ -15,7 +15,7 @@ use Rattle.limits.specs.Files.{fileRecordWidth, stepLimit}
 use Rattle.diff.specs.Format.{setWords}
 use Rattle.diff.specs.Reading.{settings}
 use Rattle.diff.specs.Answers.{applyRefusal, applyWords}
-use Rattle.rules.specs.State.{mainframe, Shared, copyOf, dirtyAt, postedOf, State, withShared, own, standing, holder, hasArrived}
+use Rattle.rules.specs.State.{mainframe, Counts, Shared, copyOf, dirtyAt, postedOf, State, withShared, own, standing, holder, hasArrived}
 use Rattle.rules.specs.InOrder.{present, inOrder}
 use Rattle.rules.specs.Lines.{waits}
 use Rattle.rules.specs.Tallies.{tallyTotal, totalAfter}
@@ -28,19 +28,22 @@ use Rattle.rules.specs.Runs.{answers, stateAfter, wordsMoved}
 use Rattle.rules.specs.Order.{Event, events, Took, Before}
 use Rattle.rules.specs.Demand.{Synchronized, valueAt, ReadsJudged}
 use Rattle.rules.specs.Rows.{Addressed, Comes, HoldsOne}
-use Rattle.rules.specs.Noted.{ClosingNotes, outline, withoutStored, refusalsOf}
+use Rattle.rules.specs.Noted.{ClosingNotes, outline, withoutValue, refusalsOf}
 use Rattle.rules.specs.Waiting.{lineIn, eventsIn, WaitsInLine, GoesTo, LinesAsClaimed, InTurn, HandsTo, refusalAt, ServedInTurn}
 use Rattle.rules.specs.TallyTotals.{postedDue, TalliesJudged, takenUp, takenDown}
 use Rattle.rules.specs.Moved.{Skips, StepsMove, EffectsTold}
 use Rattle.rules.specs.LocksFree.{FindsLocksFree}
-use Rattle.rules.specs.Bench.{mainframeWith, answering, accepted, listing, listingAnswers, stepsUnderLock, answersUnderLock, StoredValues, stepsF, equalStores, setToWhatItWas}
+use Rattle.rules.specs.Forecast.{openedFor, Figures, runFigures, forecastFigures}
+use Rattle.rules.specs.Bench.{mainframeWith, answering, accepted, listing, listingAnswers, stepsUnderLock, answersUnderLock, StoredValues, stepsF, equalStores, setToWhatItWas, twoPages, twoPagesFigures}
 use Rattle.step_close.specs.Sequence.{closedInSequence}
 use Rattle.opening.specs.Promises.{openingOf}
-use Rattle.lines.specs.Lines.{wordsLine}
-use Rattle.file_record.specs.Records.{refusalLine}
-use Rattle.stepfile.specs.Files.{answerLines, stepCount, stepAnswers, fileLines}
+use Rattle.lines.specs.Lines.{wordsLine, refusalLine, mostLine}
+use Rattle.step_fields.specs.Records.{stepCount}
+use Rattle.stepfile.specs.Files.{answerLines, stepAnswers, fileLines}
 use Rattle.stepfile.specs.ListingA.{listingBytes, listingLines}
+use Rattle.forecast_file.specs.Files.{forecastLines}
 use Rattle.demands.specs.Answered.{OfAnswers, AnswersAs}
+use Rattle.demands.specs.SideBySide.{printed, heads, largestSum, runRows, forecastRows, wordsBehind, StopsWith, listingRows, cutFile, cutRows}
 
 -- ---- L1. Wait for a held lock
 
@@ -94,10 +97,6 @@ pub record StoringTheSame : Type 0 where
   -- "a store that alters nothing now uses up numbers and records, so 9 and 10 can come sooner": after 63 stores of the 0 that the word has, each
   -- released, 9 comes
   pub sooner : OfAnswers (λ c ts answered. c ≡ mainframeWith 1 1 1 → ts ≡ equalStores → refusalAt answered 190 ≡ 9)
-  -- "since L2 no refusal depends on a stored value" (said in L8): two states alike but for what words, twins and diffs hold, and two lists alike but for what
-  -- they store, are refused alike
-  pub refused-alike : (s s′ : State) (ts ts′ : List Step) → inOrder mainframe s ≡ true → inOrder mainframe s′ ≡ true → outline s ≡ outline s′
-      → map withoutStored ts ≡ map withoutStored ts′ → refusalsOf (answers mainframe s ts) ≡ refusalsOf (answers mainframe s′ ts′)
 
 -- ---- L3. Closing in the thesis's sequence
 
@@ -183,6 +182,44 @@ pub record NoArrivingWithALock : Type 0 where
       → allArrived (atBarrier (stateAfter mainframe (opened mainframe (o .counts)) ts) (t .processor)) ≡ true
       → FindsLocksFree mainframe (stateAfter mainframe (opened mainframe (o .counts)) ts) t
 
+-- ---- L8. Space forecast
+
+pub record SpaceForecast : Type 0 where
+  -- "A second program reads a step file and, keeping no page contents and no values, prints": what it keeps (`Forecast`) has, of every list of steps, the
+  -- figures that the run has, ..
+  pub foretold : (o : Opening) → openingRefusal mainframe o ≡ 0 → (ts : List Step)
+      → forecastFigures mainframe (openedFor mainframe (o .counts)) ts ≡ runFigures mainframe (opened mainframe (o .counts)) ts
+  -- .. and the same of lists that are alike but for their values
+  pub no-values : (c : Counts) (ts ts′ : List Step) → map withoutValue ts ≡ map withoutValue ts′
+      → forecastFigures mainframe (openedFor mainframe c) ts ≡ forecastFigures mainframe (openedFor mainframe c) ts′
+  -- "for each record its number, its refusal, the records standing and the dirty pages after it. These must equal what the run itself has, for every file",
+  -- "It stops where the run stops": line by line the numbers and refusals are those that the run prints; the figures of `forecastRows` are the run's
+  pub side-by-side : (file : List ℕ) → heads (forecastRows file) ≡ heads (runRows file)
+  pub run-lines : (file : List ℕ) → fileLines file ≡ printed (runRows file) ++ wordsBehind file
+  -- "Its last line, always printed, is "most", a space and the largest sum of records and dirty pages on its lines, 0 if all are 0"
+  pub forecast-lines : (file : List ℕ) → forecastLines file ≡ printed (forecastRows file) ++ mostLine (largestSum (forecastRows file))
+  -- its refusals are those of everything that answers
+  pub refusals : OfAnswers (λ c ts answered. refusalsOf answered ≡ map (λ (x : Figures). x .refusal) (forecastFigures mainframe (openedFor mainframe c) ts))
+  -- "since L2 no refusal depends on a stored value": lists alike but for their values are refused alike, ..
+  pub refused-alike : OfAnswers
+      (λ c ts answered. (ts′ : List Step) → map withoutValue ts ≡ map withoutValue ts′ → refusalsOf answered ≡ refusalsOf (answers mainframe (opened mainframe c) ts′))
+  -- .. and also from two states that are alike but for what words, twins and diffs hold
+  pub states-alike : (s s′ : State) (ts ts′ : List Step) → inOrder mainframe s ≡ true → inOrder mainframe s′ ≡ true → outline s ≡ outline s′
+      → map withoutValue ts ≡ map withoutValue ts′ → refusalsOf (answers mainframe s ts) ≡ refusalsOf (answers mainframe s′ ts′)
+  -- "on a line of 2, 15 or 16 both figures are those before it, ..
+  pub at-15 : (file : List ℕ) → fileRecordWidth ≤ length file → openingRefusal mainframe (openingOf (take fileRecordWidth file)) ≡ 0 → stepCount file ≤ stepLimit
+      → (length file % fileRecordWidth ≡ 0 → ⊥) → StopsWith 15 (forecastRows file)
+  pub at-16 : (file : List ℕ) → fileRecordWidth ≤ length file → openingRefusal mainframe (openingOf (take fileRecordWidth file)) ≡ 0 → stepLimit < stepCount file
+      → StopsWith 16 (forecastRows file)
+  -- .. or 0 and 0 before an accepted opening"
+  pub unopened : (file : List ℕ) → length file < fileRecordWidth → forecastLines file ≡ refusalLine 0 15 ++ mostLine 0
+  pub at-2 : (file : List ℕ) → fileRecordWidth ≤ length file → (openingRefusal mainframe (openingOf (take fileRecordWidth file)) ≡ 0 → ⊥)
+      → forecastLines file ≡ refusalLine 0 2 ++ mostLine 0
+  -- Listing A, a file that is cut, and a run on two pages
+  pub listing : forecastRows listingBytes ≡ listingRows
+  pub cut : forecastRows cutFile ≡ cutRows
+  pub two-pages : runFigures mainframe (opened mainframe (mainframeWith 2 2 1)) twoPages ≡ twoPagesFigures
+
 -- ---- all that have landed
 
 pub record Requests : Type 0 where
@@ -193,3 +230,4 @@ pub record Requests : Type 0 where
   pub L5 : NotApplyingReplaced
   pub L6 : WordsTold
   pub L7 : NoArrivingWithALock
+  pub L8 : SpaceForecast

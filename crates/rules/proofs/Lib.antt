@@ -14,6 +14,9 @@ pub mod TallyCases
 pub mod SkippingCases
 pub mod WordsMoved
 pub mod FewWords
+pub mod Foretold
+pub mod NoValues
+pub mod ForecastCases
 pub mod Fetching
 pub mod DemandThree
 pub mod Cases

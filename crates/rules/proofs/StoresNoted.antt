@@ -19,9 +19,9 @@ use Rattle.rules.specs.Runs.{answers, answersInOrder}
 use Rattle.rules.specs.Order.{events, Took}
 use Rattle.rules.specs.Waiting.{refusalAt}
 use Rattle.rules.specs.Bench.{equalStores}
-use Rattle.rules.specs.Noted.{ClosingNotes, outline, withoutStored, refusalsOf}
+use Rattle.rules.specs.Noted.{ClosingNotes, outline, withoutValue, refusalsOf}
 use Rattle.rules.specs.Demand.{lastWritten, Synchronized, valueAt, ReadsJudged}
-use Rattle.rules.proofs.state.Outlines.{refused-alike, next-alike, stored-refused, stored-alike}
+use Rattle.rules.proofs.state.Outlines.{refused-alike, next-alike, value-refused, value-alike}
 use Rattle.rules.proofs.state.Slots.{records-recorded}
 use Rattle.rules.proofs.inorder.Facts.{slots-enough}
 use Rattle.rules.proofs.inorder.Accepted.{present-says}
@@ -85,17 +85,17 @@ written-is-dirty lim s p w v = stored-dirty lim (fetched lim s p (pageOfWord lim
 
 -- ---- "no refusal depends on a stored value"
 
--- the same steps without their stored values, from a state alike
-refusals-without : (lim : Limits) (s s′ : State) (ts : List Step) → outline s ≡ outline s′ → refusalsOf (answersInOrder lim s ts) ≡ refusalsOf (answersInOrder lim s′ (map withoutStored ts))
+-- the same steps without their values, from a state alike
+refusals-without : (lim : Limits) (s s′ : State) (ts : List Step) → outline s ≡ outline s′ → refusalsOf (answersInOrder lim s ts) ≡ refusalsOf (answersInOrder lim s′ (map withoutValue ts))
 unfolding answersInOrder refusalsOf
 refusals-without lim s s′ [] e = refl
 refusals-without lim s s′ (t ∷ ts) e =
-    ap₂ _∷_ (answer-refusal lim s t ∙ refused-alike lim s s′ t e ∙ stored-refused lim s′ t ∙ sym (answer-refusal lim s′ (withoutStored t)))
-    (refusals-without lim (nextInOrder lim s t) (nextInOrder lim s′ (withoutStored t)) ts (next-alike lim s s′ t e ∙ stored-alike lim s′ t))
+    ap₂ _∷_ (answer-refusal lim s t ∙ refused-alike lim s s′ t e ∙ value-refused lim s′ t ∙ sym (answer-refusal lim s′ (withoutValue t)))
+    (refusals-without lim (nextInOrder lim s t) (nextInOrder lim s′ (withoutValue t)) ts (next-alike lim s s′ t e ∙ value-alike lim s′ t))
 
 -- two states in order, alike but for words, twins and diffs, and two lists of steps, alike but for what they store: every step is refused alike
 pub refusals-alike : (lim : Limits) (s s′ : State) (ts ts′ : List Step) → inOrder lim s ≡ true → inOrder lim s′ ≡ true → outline s ≡ outline s′
-    → map withoutStored ts ≡ map withoutStored ts′ → refusalsOf (answers lim s ts) ≡ refusalsOf (answers lim s′ ts′)
+    → map withoutValue ts ≡ map withoutValue ts′ → refusalsOf (answers lim s ts) ≡ refusalsOf (answers lim s′ ts′)
 refusals-alike lim s s′ ts ts′ o o′ e same =
     rw (answers-in-order lim s ts (in-order-says lim s o), answers-in-order lim s′ ts′ (in-order-says lim s′ o′))
     (refusals-without lim s s′ ts e ∙ ap (λ (l : List Step). refusalsOf (answersInOrder lim s′ l)) same ∙ sym (refusals-without lim s′ s′ ts′ refl))

@@ -5,6 +5,7 @@ use mathlib.Core.List.{List, [], _∷_, _++_}
 use Rattle.limits.specs.Limits.{wordValues, intervalLimit}
 use Rattle.rules.specs.State.{Counts}
 use Rattle.rules.specs.Refusals.{Step, Answer}
+use Rattle.rules.specs.Forecast.{Figures}
 
 -- ---- steps: a processor, then the word, lock or tally, then the value
 
@@ -65,6 +66,16 @@ listingAnswers =
     accepted ∷ accepted ∷ accepted ∷ accepted ∷ accepted ∷ answering 7 0 0 ∷ answering 0 700 1 ∷ answering 0 700 0 ∷ accepted ∷ answering 6 0 0 ∷ accepted
     ∷ answering 18 0 0 ∷ []
 
+-- L8: refusal, records standing and dirty pages
+abbrev pub figures : ℕ → ℕ → ℕ → Figures
+figures r n d = record { refusal = r; standing = n; dirty = d }
+
+-- those of lines 1 to 12
+unfoldable pub listingFigures : List Figures
+listingFigures =
+    figures 0 0 0 ∷ figures 0 0 1 ∷ figures 0 0 1 ∷ figures 0 0 1 ∷ figures 0 1 0 ∷ figures 7 1 0 ∷ figures 0 1 0 ∷ figures 0 1 0 ∷ figures 0 1 0 ∷ figures 6 1 0
+    ∷ figures 0 1 0 ∷ figures 18 1 0 ∷ []
+
 -- ---- bench cases
 
 -- steps n times over
@@ -100,3 +111,14 @@ equalStores = repeated intervalLimit stepsF ++ acquires 1 0 ∷ writes 1 0 0 ∷
 -- L6, "A word that is set to the value it had counts": 1 and 3 store equal values in a race, so each sets the other's word to the value it had
 unfoldable pub setToWhatItWas : List Step
 setToWhatItWas = writes 1 0 7 ∷ writes 3 0 7 ∷ arrives 1 ∷ arrives 2 ∷ arrives 3 ∷ reads 3 0 ∷ reads 1 0 ∷ reads 2 0 ∷ []
+
+-- L8: two processors, two pages and a lock; 2 takes the lock before 1, which waits with two dirty pages and later collects
+unfoldable pub twoPages : List Step
+twoPages =
+    writes 1 0 0 ∷ writes 1 1 0 ∷ writes 1 32 9 ∷ acquires 2 0 ∷ acquires 1 0 ∷ writes 1 0 3 ∷ releases 2 0 ∷ wants 1 ∷ writes 1 5 1 ∷ releases 1 0 ∷ arrives 1
+    ∷ writes 1 0 1 ∷ arrives 2 ∷ writes 2 0 1 ∷ []
+
+unfoldable pub twoPagesFigures : List Figures
+twoPagesFigures =
+    figures 0 0 1 ∷ figures 0 0 1 ∷ figures 0 0 2 ∷ figures 0 0 2 ∷ figures 0 2 0 ∷ figures 17 2 0 ∷ figures 0 2 0 ∷ figures 0 2 0 ∷ figures 0 2 1 ∷ figures 0 3 0
+    ∷ figures 0 3 0 ∷ figures 6 3 0 ∷ figures 0 0 0 ∷ figures 0 0 1 ∷ []

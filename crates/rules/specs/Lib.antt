@@ -16,4 +16,5 @@ pub mod Waiting
 pub mod TallyTotals
 pub mod Moved
 pub mod LocksFree
+pub mod Forecast
 pub mod Bench

@@ -4,11 +4,10 @@ use Prim.Native.Nat.{ℕ, zero, suc, _+_}
 use mathlib.Core.Path.{_≡_}
 use mathlib.Core.Bool.{cond}
 use mathlib.Core.List.{List, [], _∷_, _++_}
-use lib.Dec.{eqb}
 use Rattle.rules.specs.State.{Counts, Clocks, Marks, copyOf, twinOf, dirtyAt, Record, State, own, standing}
 use Rattle.rules.specs.InOrder.{dirtyPages}
 use Rattle.rules.specs.Close.{anyDirty, newRecord, closed}
-use Rattle.rules.specs.Refusals.{Step, Answer}
+use Rattle.rules.specs.Refusals.{Step, usesValue, Answer}
 
 -- ---- what a closing notes
 
@@ -42,9 +41,9 @@ pub record Outline : Type 0 where
 unfoldable pub outline : State → Outline
 outline s = record { counts = s .counts; clocks = s .clocks; dirty = s .pages .dirty; standing = s .records .standing; marks = s .marks }
 
--- a step without the value that it stores
-unfoldable pub withoutStored : Step → Step
-withoutStored t = record { kind = t .kind; processor = t .processor; object = t .object; value = cond (eqb (t .kind) 2) 0 (t .value) }
+-- a step without the value that its kind uses: what it stores, or adds to a tally
+unfoldable pub withoutValue : Step → Step
+withoutValue t = record { kind = t .kind; processor = t .processor; object = t .object; value = cond (usesValue (t .kind)) 0 (t .value) }
 
 -- the refusals of a list of answers
 unfoldable pub refusalsOf : List Answer → List ℕ

@@ -17,12 +17,12 @@ use Rattle.rules.proofs.runs.Listing.{start}
 use Rattle.rules.proofs.runs.FromStart.{listing-a}
 use Rattle.layout.specs.Areas.{clockRows, wordPlaces, wordRows, markPlaces, sizesRight, Areas, areas, rightSizes}
 use Rattle.opening.specs.Promises.{openingOf, openRefusal, areasOpened}
-use Rattle.step_record.specs.Records.{stepFrom, stepsIn}
+use Rattle.step_fields.specs.Records.{stepFrom, stepsIn, stepCount}
 use Rattle.lines.specs.Decimal.{digitsWithin, digits}
-use Rattle.lines.specs.Lines.{lineBytes, wordsLine}
-use Rattle.file_record.specs.Records.{refusalLine, openingTaken, recordTaken}
+use Rattle.lines.specs.Lines.{lineBytes, wordsLine, refusalLine}
+use Rattle.file_record.specs.Records.{openingTaken, recordTaken}
 use Rattle.file_chunk.specs.Bytes.{heldOn, byteTaken, bytesTaken}
-use Rattle.stepfile.specs.Files.{answerLines, stepCount, endLine, openedBy, stepAnswers, stepLines, fileLines}
+use Rattle.stepfile.specs.Files.{answerLines, endLine, openedBy, stepAnswers, stepLines, fileLines}
 use Rattle.stepfile.specs.ListingA.{listingBytes, listingLines}
 use Rattle.stepfile.specs.Feeding.{begun, after, lastLine}
 use Rattle.stepfile.specs.Promises.{progressOf, finishLine}
@@ -116,7 +116,7 @@ listing-state : openedBy listingBytes ≡ start 2 1 1
 unfolding openedBy openingOf listingBytes start
 listing-state = refl
 
-listing-steps : stepsIn (min (stepCount listingBytes) stepLimit) (drop fileRecordWidth listingBytes) ≡ listing
+pub listing-steps : stepsIn (min (stepCount listingBytes) stepLimit) (drop fileRecordWidth listingBytes) ≡ listing
 unfolding stepsIn stepFrom stepCount listingBytes listing
 listing-steps = refl
 
