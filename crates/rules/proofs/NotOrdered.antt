@@ -8,12 +8,14 @@ use Rattle.rules.specs.State.{mainframe, Counts}
 use Rattle.rules.specs.InOrder.{inRange, countsInRange}
 use Rattle.rules.specs.Opening.{openingRefusal, opened}
 use Rattle.rules.specs.Refusals.{Step, Answer}
+use Rattle.rules.specs.Steps.{placeBehind, freePlace, enqueue, dequeue}
 use Rattle.rules.specs.Runs.{answers, answersInOrder}
 use Rattle.rules.specs.Order.{events, Before}
 use Rattle.rules.proofs.InOrderRuns.{answers-in-order}
 use Rattle.rules.proofs.inorder.OpenedInOrder.{opened-in-order}
 use Rattle.rules.proofs.order.Edges.{apart, apart-not-before, alone, alone-not-before}
 use Rattle.rules.proofs.runs.Listing.{reads, writes, acquires, releases, arrives, start, answering}
+use Rattle.rules.proofs.QueueCases.{enqueues, dequeues}
 use Rattle.rules.proofs.runs.StoredCases.{accepted}
 use Rattle.rules.proofs.runs.JudgedRuns.{counting, openingWith, in-range-accepted, eventsFrom, allAccepted}
 
@@ -79,6 +81,12 @@ pub record NothingMore : Type 0 where
   -- "the release precedes the waiter's next step": 1 frees lock 0, and 2 is served by the release of lock 1
   pub other-lock-granted : NotBefore (counting 3 2) (acquires 1 0 ∷ acquires 3 1 ∷ acquires 2 1 ∷ writes 1 0 5 ∷ releases 1 0 ∷ releases 3 1 ∷ reads 2 0 ∷ [])
       (accepted ∷ accepted ∷ accepted ∷ accepted ∷ accepted ∷ accepted ∷ accepted ∷ []) 3 6
+  -- L9: "precedes the dequeue that returns its job, and of itself no other": 1 stores between its two jobs, and 2 dequeues the first
+  pub other-job : NotBefore (counting 2 1) (enqueues 1 41 ∷ writes 1 0 5 ∷ enqueues 1 42 ∷ dequeues 2 ∷ reads 2 0 ∷ [])
+      (accepted ∷ accepted ∷ accepted ∷ answering 0 41 0 ∷ accepted ∷ []) 1 4
+  -- 3 has dequeued the job, and 2 reads
+  pub other-dequeue : NotBefore (counting 3 1) (writes 1 0 5 ∷ enqueues 1 41 ∷ dequeues 3 ∷ reads 2 0 ∷ [])
+      (accepted ∷ accepted ∷ answering 0 41 0 ∷ accepted ∷ []) 0 3
   -- of the waiters the one that it serves: 1 frees lock 0 for 2, and 3 waits behind it. In this one and the next three, no run has these steps
   -- accepted in this order; it is said of the lists alone
   pub other-waiter : Before 3 (allAccepted (acquires 1 0 ∷ writes 1 0 5 ∷ acquires 2 0 ∷ acquires 3 0 ∷ releases 1 0 ∷ reads 3 0 ∷ [])) 1 5 → ⊥
@@ -88,7 +96,7 @@ pub record NothingMore : Type 0 where
   pub release-release : Before 2 (allAccepted (writes 1 0 5 ∷ releases 1 0 ∷ releases 2 0 ∷ reads 2 0 ∷ [])) 0 3 → ⊥
 
 pub nothing-more : NothingMore
-unfolding start events apart alone allAccepted countsInRange inRange
+unfolding start events apart alone allAccepted countsInRange inRange placeBehind freePlace enqueue dequeue
 nothing-more =
     record {
       other-lock = shown refl refl refl;
@@ -100,6 +108,8 @@ nothing-more =
       round-before = shown refl refl refl;
       last-arrival = shown refl refl refl;
       other-lock-granted = shown-alone refl refl refl;
+      other-job = shown refl refl refl;
+      other-dequeue = shown refl refl refl;
       other-waiter = apart-not-before 3 (allAccepted (acquires 1 0 ∷ writes 1 0 5 ∷ acquires 2 0 ∷ acquires 3 0 ∷ releases 1 0 ∷ reads 3 0 ∷ [])) 1 5 refl;
       acquire-acquire = apart-not-before 2 (allAccepted (writes 1 0 5 ∷ acquires 1 0 ∷ acquires 2 0 ∷ reads 2 0 ∷ [])) 0 3 refl;
       acquire-release = apart-not-before 2 (allAccepted (writes 1 0 5 ∷ acquires 1 0 ∷ releases 2 0 ∷ reads 2 0 ∷ [])) 0 3 refl;

@@ -73,7 +73,7 @@ holder-refused = answers-from-start 2 1 2 refl holderRows ∙ computed-holder
 
 -- limits with room for one record and one interval, and pages of one word
 unfoldable pub tight : Limits
-tight = record { processors = 2; pages = 2; words = 1; locks = 1; records = 1; intervals = 1; tallies = 1 }
+tight = record { processors = 2; pages = 2; words = 1; locks = 1; records = 1; intervals = 1; tallies = 1; jobs = 4 }
 
 -- 1 stores in page 0 and takes a lock, so that its one interval is made and the one record stands; it stores in page 1, which is clean (rows 9, 10);
 -- 2, with its interval left, stores there (10), waits for the lock and stores once more (17, 10); 1 frees the lock, arrives and stores once more (6, 9, 10)

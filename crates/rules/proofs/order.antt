@@ -14,4 +14,6 @@ pub mod TalliesAfter
 pub mod NumbersAfter
 pub mod Numbers
 pub mod Carrying
+pub mod Ring
+pub mod Jobs
 pub mod NumbersFollow

@@ -1,13 +1,13 @@
 -- Document 01, "Steps": what each kind of step does when it is accepted. Assumes nothing.
-use Prim.Native.Nat.{ℕ, zero, suc, _+_, _/_, _%_}
+use Prim.Native.Nat.{ℕ, zero, suc, _+_, _-_, _/_, _%_}
 use mathlib.Core.Bool.{Bool, cond, not}
 use mathlib.Core.List.{[], map}
 use lib.ListN.{getD, set}
-use lib.Dec.{eqb}
+use lib.Dec.{eqb, ltb}
 use Rattle.lists.specs.Tables.{put, putCell, every}
 use Rattle.limits.specs.Limits.{wordValues}
 use Rattle.clock.specs.Clocks.{joined}
-use Rattle.rules.specs.State.{Limits, Holder, Processor, Lock, Barrier, Clocks, clockOf, withClock, cleared, Pages, copyOf, dirtyAt, withArrived, withWanted, State, withClocks, withPages, withRecords, withMarks, withShared, holder, hasArrived}
+use Rattle.rules.specs.State.{Limits, Holder, Processor, Lock, Barrier, Job, Clocks, clockOf, withClock, cleared, Pages, copyOf, dirtyAt, withArrived, withWanted, withQueue, State, withClocks, withPages, withRecords, withMarks, withShared, holder, hasArrived}
 use Rattle.rules.specs.Lines.{firstInLine, lockAsked, lockHanded}
 use Rattle.rules.specs.Close.{closed}
 use Rattle.rules.specs.Fetch.{withCopy, fetched, fetchCount, fetchWords}
@@ -157,6 +157,7 @@ allCleared c =
       barrier = cleared (c .barrier);
       applied = map (map cleared) (c .applied);
       intervals = map (map cleared) (c .intervals);
+      jobs = map cleared (c .jobs);
     }
 
 -- "then records go, all clocks become zeros, and the wish clears"
@@ -199,3 +200,31 @@ tallyAdd s p t v = withShared s (tallyAdded (s .shared) p t v)
 -- a read: it changes nothing, and brings nothing
 abbrev pub tallyRead : State → ℕ → ℕ → Effect
 tallyRead s p t = record { after = s; value = tallyTotal (s .shared) p t; count = 0; words = 0 }
+
+-- ---- 10 and 11: the queue (L9). Its places are a ring: "space is used again after each removal"
+
+-- the place behind another
+unfoldable pub placeBehind : Limits → ℕ → ℕ
+placeBehind lim k = cond (eqb (suc k) (lim .jobs)) 0 (suc k)
+
+-- the place for the next job: as far behind the oldest one's as there are jobs
+unfoldable pub freePlace : Limits → State → ℕ
+freePlace lim s =
+    let k = s .marks .first + s .marks .jobs in cond (ltb k (lim .jobs)) k (k - lim .jobs)
+
+-- "closes the card's interval and adds the value with the card's clock"
+unfoldable pub enqueue : Limits → State → ℕ → ℕ → State
+enqueue lim s p v =
+    let s₁ = closed s p in
+    let k = freePlace lim s₁ in
+    let s₂ = withShared s₁ (record { posted = s₁ .shared .posted; adds = s₁ .shared .adds; values = put 0 (s₁ .shared .values) k (v % wordValues) }) in
+    let s₃ = withClocks s₂ (withClock (s₁ .clocks) (Job k) (clockOf (s₁ .clocks) (Processor p))) in
+    withMarks s₃ (withQueue (s₁ .marks) (s₁ .marks .first) (s₁ .marks .jobs + 1))
+
+-- "closes, removes the oldest job, learns its clock and answers its value"
+unfoldable pub dequeue : Limits → State → ℕ → Effect
+dequeue lim s p =
+    let s₁ = closed s p in
+    let k = s₁ .marks .first in
+    let s₂ = withClocks s₁ (learned (s₁ .clocks) (Processor p) (Job k)) in
+    record { after = withMarks s₂ (withQueue (s₁ .marks) (placeBehind lim k) (s₁ .marks .jobs - 1)); value = getD (s₁ .shared .values) k 0; count = 0; words = 0 }

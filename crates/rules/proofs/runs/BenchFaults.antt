@@ -143,7 +143,7 @@ fetch-leaves-twins lim s p g = refl
 
 -- limits with room for two records, and pages of one word
 unfoldable pub narrow : Limits
-narrow = record { processors = 1; pages = 3; words = 1; locks = 1; records = 2; intervals = 1; tallies = 1 }
+narrow = record { processors = 1; pages = 3; words = 1; locks = 1; records = 2; intervals = 1; tallies = 1; jobs = 4 }
 
 -- 1 stores in three pages, and once more in the second
 unfoldable pub fillingUp : List Step

@@ -16,7 +16,7 @@ use Rattle.diff.proofs.Words.{words-read, below-cons}
 use Rattle.rules.specs.State.{mainframe, Clocks, copyOf, twinOf, dirtyAt, Records, appended, State, withClocks, withPages, withRecords, own}
 use Rattle.rules.specs.Close.{anyDirty, ticked, newRecord, recorded, cleaned, closed}
 use Rattle.rules.specs.Steps.{acquire, release, atBarrier, arrive}
-use Rattle.rules.specs.Refusals.{Step, Action, Read, Write, Acquire, Release, Arrive, Want, TallyAdd, TallyRead, Unknown, actionOf, fits, refusalInOrder, effect, answerInOrder, nextInOrder}
+use Rattle.rules.specs.Refusals.{Step, Action, Read, Write, Acquire, Release, Arrive, Want, TallyAdd, TallyRead, Enqueue, Dequeue, Unknown, actionOf, fits, refusalInOrder, effect, answerInOrder, nextInOrder}
 use Rattle.rules.specs.Runs.{answersInOrder}
 use Rattle.rules.specs.Demand.{valueField}
 use Rattle.rules.proofs.runs.Listing.{start}
@@ -90,6 +90,8 @@ closes Arrive = true
 closes Want = false
 closes (TallyAdd j x) = false
 closes (TallyRead j) = false
+closes (Enqueue j) = false
+closes Dequeue = false
 closes Unknown = false
 
 -- their effect comes from the closed state
@@ -103,6 +105,8 @@ effect-of-closed s s' p Arrive c e = rw e
 effect-of-closed s s' p Want c e = absurd (false≢true c)
 effect-of-closed s s' p (TallyAdd j x) c e = absurd (false≢true c)
 effect-of-closed s s' p (TallyRead j) c e = absurd (false≢true c)
+effect-of-closed s s' p (Enqueue j) c e = absurd (false≢true c)
+effect-of-closed s s' p Dequeue c e = absurd (false≢true c)
 effect-of-closed s s' p Unknown c e = absurd (false≢true c)
 
 -- a step that closes answers, and the steps after it too, as if the processor had closed before it; that the step is accepted and that a
