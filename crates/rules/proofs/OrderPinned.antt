@@ -15,14 +15,12 @@ use Rattle.rules.specs.State.{mainframe, Counts}
 use Rattle.rules.specs.InOrder.{inRange, countsInRange}
 use Rattle.rules.specs.Opening.{openingRefusal, opened}
 use Rattle.rules.specs.Refusals.{Step, Read, Write, Acquire, Release, Arrive, Enqueue, Dequeue}
-use Rattle.rules.specs.Steps.{placeBehind, freePlace, enqueue, dequeue}
 use Rattle.rules.specs.Runs.{answers, answersInOrder}
 use Rattle.rules.specs.Order.{Event, events, eventAt, Took, Before, program, lock, round, granted, job, chain}
 use Rattle.rules.specs.Demand.{isWriteTo, lastWritten, EarlierWrite, Synchronized, Judged, valueAt}
 use Rattle.rules.proofs.order.ActionKinds.{writesTo, took-write}
 use Rattle.rules.proofs.order.Edges.{Edge, ByProgram, ByLock, ByRound, ByGrant, ByJob, ByChain, just, has, joins, closedUnder, only-by, only-chained}
-use Rattle.rules.proofs.runs.Listing.{reads, writes, acquires, releases, arrives, start}
-use Rattle.rules.proofs.QueueCases.{enqueues, dequeues}
+use Rattle.rules.proofs.runs.Listing.{reads, writes, acquires, releases, arrives, enqueues, dequeues, start}
 use Rattle.rules.proofs.runs.BenchFaults.{stepsC}
 use Rattle.rules.proofs.runs.JudgedRuns.{synchronized, openingWith, in-range-accepted, eventsFrom, events-computed, read-judged, allAccepted, taken, counting}
 use Rattle.rules.proofs.PremisesMet.{read-taken, read-is-synchronized, computed-events}
@@ -278,7 +276,7 @@ job-shown =
     }
 
 job-pinned : Pinned ByJob (counting 3 1) stepsJob 0 6 3 6
-unfolding start stepsJob events allAccepted countsInRange inRange placeBehind freePlace enqueue dequeue
+unfolding start stepsJob events allAccepted countsInRange inRange
 job-pinned = pinned (allAccepted stepsJob) refl refl job-shown (λ e. omega (arith, e))
 
 -- ---- "and what follows by chaining"
