@@ -207,9 +207,13 @@ tallyRead s p t = record { after = s; value = tallyTotal (s .shared) p t; count 
 unfoldable pub placeBehind : Limits → ℕ → ℕ
 placeBehind lim k = cond (eqb (suc k) (lim .jobs)) 0 (suc k)
 
--- the place for the next job: as many places behind the oldest job's as there are jobs
+-- the place of the job that has k others before it: k places behind the oldest job's
+abbrev pub placeAt : Limits → State → ℕ → ℕ
+placeAt lim s k = let x = s .marks .first + k in cond (ltb x (lim .jobs)) x (x - lim .jobs)
+
+-- the place for the next job: all that wait are before it
 unfoldable pub freePlace : Limits → State → ℕ
-freePlace lim s = let k = s .marks .first + s .marks .jobs in cond (ltb k (lim .jobs)) k (k - lim .jobs)
+freePlace lim s = placeAt lim s (s .marks .jobs)
 
 -- one job more, behind the others
 abbrev pub jobAdded : Marks → Marks
