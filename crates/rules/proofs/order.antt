@@ -12,6 +12,7 @@ pub mod Grants
 pub mod Served
 pub mod Rounds
 pub mod TalliesAfter
+pub mod QueueAfter
 pub mod NumbersAfter
 pub mod Numbers
 pub mod Carrying

@@ -11,17 +11,12 @@ use Rattle.rules.specs.Close.{closed, ticked, anyDirty}
 use Rattle.rules.specs.Steps.{learned, placeBehind, freePlace, enqueue, dequeue}
 use Rattle.rules.specs.Refusals.{Enqueue, Dequeue, effect}
 use Rattle.rules.proofs.state.Holders.{job-carries}
-use Rattle.rules.proofs.order.Ghosts.{Ghost, learnedNumbers, withNumber, closedGhost, ghostPlace, ghostAfter}
+use Rattle.rules.proofs.order.Ghosts.{Ghost, learnedNumbers, withNumber, closedGhost, ghost-place, ghostAfter}
 use Rattle.rules.proofs.order.MarksAfter.{restsIn}
 use Rattle.rules.proofs.invariant.Invariant.{Inv}
 use Rattle.rules.proofs.invariant.InvMoves.{withKnown, clean-carrier, hand-keeps, learn-keeps}
 use Rattle.rules.proofs.invariant.InvSame.{shared-aside}
 use Rattle.rules.proofs.invariant.InvLocks.{clean-closer}
-
--- the free place is the one of the ghost
-pub ghost-place : (lim : Limits) (s : State) → length (s .clocks .jobs) ≡ lim .jobs → ghostPlace s ≡ freePlace lim s
-unfolding ghostPlace freePlace
-ghost-place lim s e = ap (λ (m : ℕ). cond (ltb (s .marks .first + s .marks .jobs) m) (s .marks .first + s .marks .jobs) (s .marks .first + s .marks .jobs - m)) e
 
 module _ (lim : Limits) (g o : ℕ) (s : State) (γ : Ghost) (p : ℕ) (from : 1 ≤ p) (to : p ≤ s .counts .processors)
     (closing : Inv (lim .words) g o (closed s p) (closedGhost γ p)) (few : (h : Holder) → γ .known h ≤ γ .writes) (size : length (s .clocks .jobs) ≡ lim .jobs) where
