@@ -13,6 +13,7 @@ pub mod TallyReads
 pub mod TallyCases
 pub mod FirstOut
 pub mod QueueSpace
+pub mod QueueSteps
 pub mod QueueCases
 pub mod SkippingCases
 pub mod WordsMoved

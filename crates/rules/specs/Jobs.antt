@@ -4,7 +4,7 @@ use Prim.Native.Nat.{ℕ, suc, _-_, _≤_, _<_}
 use mathlib.Core.Path.{_≡_}
 use mathlib.Core.Bool.{true}
 use mathlib.Core.Logic.{_↔_}
-use mathlib.Core.List.{List, [], _∷_, _++_}
+use mathlib.Core.List.{List, [], _∷_, _++_, map}
 use lib.ListN.{length, take}
 use Rattle.lists.specs.Tables.{tabulate}
 use Rattle.clock.specs.Clocks.{joined, entryOf}
@@ -12,7 +12,7 @@ use Rattle.rules.specs.State.{Limits, Counts, Job, clockOf, cleared, job
 use Rattle.rules.specs.Opening.{opened}
 use Rattle.rules.specs.Close.{closed}
 use Rattle.rules.specs.Steps.{atBarrier, allArrived, wantsCollection, placeAt, freePlace}
-use Rattle.rules.specs.Refusals.{Step, Arrive, Enqueue, Dequeue, actionOf, Answer, answer, next}
+use Rattle.rules.specs.Refusals.{Step, Arrive, Enqueue, Dequeue, actionOf, Answer, refusal, answer, next}
 use Rattle.rules.specs.Rows.{Comes}
 use Rattle.rules.specs.Runs.{stateAfter}
 use Rattle.rules.specs.Order.{Event, events, eventAt, Took, counted, isEnqueue, isDequeue, Returns}
@@ -47,10 +47,10 @@ pub record ClosesOnly (lim : Limits) (s : State) (t : Step) : Type 0 where
   pub records : next lim s t .records ≡ closed s (t .processor) .records
 
 -- "Kind 10 closes the card's interval and adds the value with the card's clock"
-pub record AddsJob (lim : Limits) (s : State) (t : Step) : Type 0 where
+pub record AddsJob (lim : Limits) (s : State) (t : Step) (v : ℕ) : Type 0 where
   pub closes : ClosesOnly lim s t
   -- behind the others
-  pub adds : queueIn lim (next lim s t) ≡ queueIn lim s ++ record { value = valueField (t .value); clock = clock (closed s (t .processor)) (t .processor) } ∷ []
+  pub adds : queueIn lim (next lim s t) ≡ queueIn lim s ++ record { value = valueField v; clock = clock (closed s (t .processor)) (t .processor) } ∷ []
   -- and nobody learns anything
   pub learns-none : (q : ℕ) → clock (next lim s t) q ≡ clock (closed s (t .processor)) q
 
@@ -61,14 +61,19 @@ pub record RemovesJob (lim : Limits) (s : State) (t : Step) (job : Queued) (rest
   pub learns : clock (next lim s t) (t .processor) ≡ joined (clock (closed s (t .processor)) (t .processor)) (job .clock)
   pub answers : answer lim s t ≡ record { refusal = 0; value = job .value; count = 0; words = 0 }
 
--- a job whose clock is zeros
-unfoldable pub forgotten : Queued → Queued
-forgotten job = record { value = job .value; clock = cleared (job .clock) }
-
 -- an arrival that completes a collecting round
 pub record Collects (s : State) (p : ℕ) : Type 0 where
   pub last : allArrived (atBarrier s p) ≡ true
   pub wanted : wantsCollection (atBarrier s p) ≡ true
+
+-- a job whose clock is zeros
+unfoldable pub forgotten : Queued → Queued
+forgotten job = record { value = job .value; clock = cleared (job .clock) }
+
+-- what a step of another kind leaves: "A collecting round sets the clocks of queued jobs to zeros", and nothing else changes a job
+pub record LeavesJobs (lim : Limits) (s : State) (t : Step) : Type 0 where
+  pub kept : (refusal lim s t ≡ 0 → actionOf t ≡ Arrive → Collects s (t .processor) → ⊥) → queueIn lim (next lim s t) ≡ queueIn lim s
+  pub zeros : refusal lim s t ≡ 0 → actionOf t ≡ Arrive → Collects s (t .processor) → queueIn lim (next lim s t) ≡ map forgotten (queueIn lim s)
 
 -- ---- from the list and its answers alone
 

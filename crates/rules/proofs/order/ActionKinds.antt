@@ -172,11 +172,11 @@ module _ (t : Step) where
   kind-releases l = by-action (λ k a. (eqb k 4 && eqb (t .object) l) ≡ releasesLock l a) t refl refl refl refl refl refl refl refl refl refl (λ k u. rw (unknown-differs 4 refl k u))
 
   -- L9: a job is added by kind 10 and removed by kind 11
-  kind-adds-job : eqb (t .kind) 10 ≡ addsJob (actionOf t)
+  pub kind-adds-job : eqb (t .kind) 10 ≡ addsJob (actionOf t)
   unfolding addsJob knownKind
   kind-adds-job = by-action (λ k a. eqb k 10 ≡ addsJob a) t refl refl refl refl refl refl refl refl refl refl (unknown-differs 10 refl)
 
-  kind-removes-job : eqb (t .kind) 11 ≡ removesJob (actionOf t)
+  pub kind-removes-job : eqb (t .kind) 11 ≡ removesJob (actionOf t)
   unfolding removesJob knownKind
   kind-removes-job = by-action (λ k a. eqb k 11 ≡ removesJob a) t refl refl refl refl refl refl refl refl refl refl (unknown-differs 11 refl)
 

@@ -14,6 +14,7 @@ use Rattle.rules.specs.Close.{anyDirty, ticked, closed}
 use Rattle.rules.specs.Fetch.{fetched}
 use Rattle.rules.specs.Steps.{read, write, learned, acquire, lockTold, waiterTold, release, atBarrier, allArrived, allLearned, roundDone, allFetched, noneFetched, allCleared, emptied, collected, wantsCollection, arrive, want, placeBehind, freePlace, enqueue, dequeue}
 use Rattle.rules.specs.Refusals.{Action, Read, Write, Acquire, Release, Arrive, Want, TallyAdd, TallyRead, Enqueue, Dequeue, Unknown, effect}
+use Rattle.rules.specs.Jobs.{Collects}
 use Rattle.rules.proofs.state.Fetches.{all-fetched-keep}
 use Rattle.rules.proofs.order.ActionKinds.{addsJob, removesJob}
 use Rattle.rules.proofs.order.Ghosts.{completes}
@@ -57,6 +58,21 @@ queue-after lim s p (TallyRead j) = refl
 queue-after lim s p (Enqueue v) = refl
 queue-after lim s p Dequeue = refl
 queue-after lim s p Unknown = refl
+
+-- they stay, but where a job is added or removed
+pub queue-stays : (lim : Limits) (m : Marks) (a : Action) → addsJob a ≡ false → removesJob a ≡ false → queueAfter lim m a ≡ queueOf m
+unfolding queueAfter addsJob removesJob
+queue-stays lim m (Read x) e d = refl
+queue-stays lim m (Write x v) e d = refl
+queue-stays lim m (Acquire l) e d = refl
+queue-stays lim m (Release l) e d = refl
+queue-stays lim m Arrive e d = refl
+queue-stays lim m Want e d = refl
+queue-stays lim m (TallyAdd j x) e d = refl
+queue-stays lim m (TallyRead j) e d = refl
+queue-stays lim m (Enqueue v) e d = absurd (false≢true (sym e))
+queue-stays lim m Dequeue e d = absurd (false≢true (sym d))
+queue-stays lim m Unknown e d = refl
 
 -- ---- the values
 
@@ -161,3 +177,33 @@ jobs-after lim s p (TallyRead j) = refl
 jobs-after lim s p (Enqueue v) = unfold enqueue freePlace closed clock in ap (λ (l : List (List ℕ)). put [] l (freePlace lim s) (clock (closed s p) p)) (closed-jobs s p)
 jobs-after lim s p Dequeue = unfold dequeue learned in closed-jobs s p
 jobs-after lim s p Unknown = refl
+
+-- they stay, but where a job is added or a round collects
+pub jobs-stay : (lim : Limits) (s : State) (p : ℕ) (a : Action) → addsJob a ≡ false → (a ≡ Arrive → jobsArrived s p ≡ s .clocks .jobs) → jobsAfter lim s p a ≡ s .clocks .jobs
+unfolding jobsAfter addsJob
+jobs-stay lim s p (Read x) e c = refl
+jobs-stay lim s p (Write x v) e c = refl
+jobs-stay lim s p (Acquire l) e c = refl
+jobs-stay lim s p (Release l) e c = refl
+jobs-stay lim s p Arrive e c = c refl
+jobs-stay lim s p Want e c = refl
+jobs-stay lim s p (TallyAdd j x) e c = refl
+jobs-stay lim s p (TallyRead j) e c = refl
+jobs-stay lim s p (Enqueue v) e c = absurd (false≢true (sym e))
+jobs-stay lim s p Dequeue e c = refl
+jobs-stay lim s p Unknown e c = refl
+
+-- an arrival leaves them unless it completes a collecting round
+pub arrival-leaves : (s : State) (p : ℕ) → (Collects s p → ⊥) → jobsArrived s p ≡ s .clocks .jobs
+unfolding jobsArrived
+arrival-leaves s p none = go (allArrived (atBarrier s p)) (wantsCollection (atBarrier s p)) refl refl
+  where
+    go : (a b : Bool) → allArrived (atBarrier s p) ≡ a → wantsCollection (atBarrier s p) ≡ b → cond a (cond b (map cleared (s .clocks .jobs)) (s .clocks .jobs)) (s .clocks .jobs) ≡ s .clocks .jobs
+    go true true x y = absurd (none (record { last = x; wanted = y }))
+    go true false x y = refl
+    go false b x y = refl
+
+-- and then clears them
+pub arrival-clears : (s : State) (p : ℕ) → Collects s p → jobsArrived s p ≡ map cleared (s .clocks .jobs)
+unfolding jobsArrived
+arrival-clears s p h = rw (h .last, h .wanted)
