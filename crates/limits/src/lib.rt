@@ -16,6 +16,8 @@ pub const LOCK_LIMIT: usize = 16;
 pub const RECORD_LIMIT: usize = 128;
 
 pub const TALLY_LIMIT: usize = 16;
+
+pub const JOB_LIMIT: usize = 32;
 // The intervals of a processor.
 pub const INTERVAL_LIMIT: usize = 63;
 // The same as a byte, as clocks have it.

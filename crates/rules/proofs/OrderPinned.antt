@@ -14,13 +14,13 @@ use Rattle.lists.proofs.Conditions.{conjoined, conjoined-at}
 use Rattle.rules.specs.State.{mainframe, Counts}
 use Rattle.rules.specs.InOrder.{inRange, countsInRange}
 use Rattle.rules.specs.Opening.{openingRefusal, opened}
-use Rattle.rules.specs.Refusals.{Step, Read, Write, Acquire, Release, Arrive}
+use Rattle.rules.specs.Refusals.{Step, Read, Write, Acquire, Release, Arrive, Enqueue, Dequeue}
 use Rattle.rules.specs.Runs.{answers, answersInOrder}
-use Rattle.rules.specs.Order.{Event, events, eventAt, Took, Before, program, lock, round, granted, chain}
+use Rattle.rules.specs.Order.{Event, events, eventAt, Took, Before, program, lock, round, granted, job, chain}
 use Rattle.rules.specs.Demand.{isWriteTo, lastWritten, EarlierWrite, Synchronized, Judged, valueAt}
 use Rattle.rules.proofs.order.ActionKinds.{writesTo, took-write}
-use Rattle.rules.proofs.order.Edges.{Edge, ByProgram, ByLock, ByRound, ByGrant, ByChain, just, has, joins, closedUnder, only-by, only-chained}
-use Rattle.rules.proofs.runs.Listing.{reads, writes, acquires, releases, arrives, start}
+use Rattle.rules.proofs.order.Edges.{Edge, ByProgram, ByLock, ByRound, ByGrant, ByJob, ByChain, just, has, joins, closedUnder, only-by, only-chained}
+use Rattle.rules.proofs.runs.Listing.{reads, writes, acquires, releases, arrives, enqueues, dequeues, start}
 use Rattle.rules.proofs.runs.BenchFaults.{stepsC}
 use Rattle.rules.proofs.runs.JudgedRuns.{synchronized, openingWith, in-range-accepted, eventsFrom, events-computed, read-judged, allAccepted, taken, counting}
 use Rattle.rules.proofs.PremisesMet.{read-taken, read-is-synchronized, computed-events}
@@ -97,7 +97,7 @@ module _ (n : ℕ) (es : List Event) (w j : ℕ) where
           only-by n es i j e (inside i) (conjoined-at tests 0 h) (conjoined-at tests 1 h) (not-true (inside i j) (conjoined-at tests 2 h))
 
   unjoinedTests : ℕ → List Bool
-  unjoinedTests i = not (joins ByProgram n es i j) ∷ not (joins ByLock n es i j) ∷ not (joins ByRound n es i j) ∷ not (joins ByGrant n es i j) ∷ []
+  unjoinedTests i = not (joins ByProgram n es i j) ∷ not (joins ByLock n es i j) ∷ not (joins ByRound n es i j) ∷ not (joins ByGrant n es i j) ∷ not (joins ByJob n es i j) ∷ []
 
   -- no edge by itself joins a write to the read
   unfoldable pub unjoined : ℕ → Bool
@@ -111,7 +111,7 @@ module _ (n : ℕ) (es : List Event) (w j : ℕ) where
       go : (i : ℕ) → conjoined (unjoinedTests i) ≡ true → (x : Before n es i j) → has (just ByChain) x ≡ true
       go i h =
           let at = conjoined-at (unjoinedTests i) in
-          only-chained n es i j (not-true (joins ByProgram n es i j) (at 0 h)) (not-true (joins ByLock n es i j) (at 1 h)) (not-true (joins ByRound n es i j) (at 2 h)) (not-true (joins ByGrant n es i j) (at 3 h))
+          only-chained n es i j (not-true (joins ByProgram n es i j) (at 0 h)) (not-true (joins ByLock n es i j) (at 1 h)) (not-true (joins ByRound n es i j) (at 2 h)) (not-true (joins ByGrant n es i j) (at 3 h)) (not-true (joins ByJob n es i j) (at 4 h))
 
 -- a place by itself, and the places of its processor: where a write can lead without the edge of a run
 abbrev itself : ℕ → ℕ → Bool
@@ -246,6 +246,39 @@ grant-pinned : Pinned ByGrant (counting 3 1) stepsGrant 0 8 3 6
 unfolding start stepsGrant events allAccepted countsInRange inRange
 grant-pinned = pinned (allAccepted stepsGrant) refl refl grant-shown (λ e. omega (arith, e))
 
+-- ---- L9: an accepted enqueue "precedes the dequeue that returns its job"
+
+-- 1 stores 5 in word 0 and enqueues a job; 2 dequeues it, stores 6 and enqueues another, which 3 dequeues and then reads. There is no lock and nobody
+-- arrives, so without jobs a store leads to its processor's own steps alone
+unfoldable pub stepsJob : List Step
+stepsJob = writes 1 0 5 ∷ enqueues 1 41 ∷ dequeues 2 ∷ writes 2 0 6 ∷ enqueues 2 42 ∷ dequeues 3 ∷ reads 3 0 ∷ []
+
+job-shown : Shown ByJob 3 (allAccepted stepsJob) 0 6 3 6
+unfolding stepsJob allAccepted everyWrite cutOff
+job-shown =
+    let es = allAccepted stepsJob in
+    record {
+      read = taken refl refl refl;
+      premise =
+          synchronized 3 es 0 6 (3 ∷ 0 ∷ []) refl (
+            chain 4 (program 2 (Write 0 6) (Enqueue 42) (taken refl refl refl) (taken refl refl refl) (omega arith))
+                (chain 5 (job 2 42 3 (record { enqueue = taken refl refl refl; dequeue = taken refl refl refl; waited = omega arith; same = refl }))
+                (program 3 Dequeue (Read 0) (taken refl refl refl) (taken refl refl refl) (omega arith))),
+            (
+              chain 1 (program 1 (Write 0 5) (Enqueue 41) (taken refl refl refl) (taken refl refl refl) (omega arith))
+                  (chain 2 (job 1 41 2 (record { enqueue = taken refl refl refl; dequeue = taken refl refl refl; waited = omega arith; same = refl }))
+                  (program 2 Dequeue (Write 0 6) (taken refl refl refl) (taken refl refl refl) (omega arith))),
+              tt,
+            ),
+          );
+      only = only-cut-off 3 es 0 6 ByJob (ownSteps es) refl;
+      last = refl;
+    }
+
+job-pinned : Pinned ByJob (counting 3 1) stepsJob 0 6 3 6
+unfolding start stepsJob events allAccepted countsInRange inRange
+job-pinned = pinned (allAccepted stepsJob) refl refl job-shown (λ e. omega (arith, e))
+
 -- ---- "and what follows by chaining"
 
 -- Bench case C: 1 stores 5 under lock 0, 2 takes lock 0 and then lock 1, 3 takes lock 1 and reads. No edge by itself joins 1's store to 3's
@@ -277,8 +310,10 @@ pub record OrderPinned : Type 0 where
   pub by-round : Pinned ByRound (counting 3 1) stepsRound 0 8 3 6
   -- "the release precedes the waiter's next step": 1 stores while 2 and 3 wait for its lock, 2 stores when it has it, and 3, served last, reads 2's store
   pub by-grant : Pinned ByGrant (counting 3 1) stepsGrant 0 8 3 6
+  -- "precedes the dequeue that returns its job": 1 stores and enqueues, 2 dequeues, stores and enqueues, 3 dequeues and reads 2's store
+  pub by-job : Pinned ByJob (counting 3 1) stepsJob 0 6 3 6
   -- "and what follows by chaining": 1's store goes through lock 0 to 2 and through lock 1 to 3, which reads it
   pub by-chain : Pinned ByChain (counting 3 2) stepsC 0 8 3 5
 
 pub order-pinned : OrderPinned
-order-pinned = record { by-program = program-pinned; by-lock = lock-pinned; by-round = round-pinned; by-grant = grant-pinned; by-chain = chain-pinned }
+order-pinned = record { by-program = program-pinned; by-lock = lock-pinned; by-round = round-pinned; by-grant = grant-pinned; by-job = job-pinned; by-chain = chain-pinned }

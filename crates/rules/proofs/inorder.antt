@@ -22,5 +22,6 @@ pub mod KeptShared
 pub mod KeptFetch
 pub mod KeptLocks
 pub mod KeptBarrier
+pub mod KeptQueue
 pub mod Kept
 pub mod Standing

@@ -35,6 +35,7 @@ added-in-order lim n h p t v c f a l =
     let b = among-says n p a in
     record {
       posted = f .posted;
+      values = f .values;
       adds = rows-put-cell 0 lim (lim .tallies) (h .adds) p t ((addsOf h p t + v) % wordValues) (f .adds) (b .0) (omega (arith, b .1, c .processors-fit)) l;
       absent-adds = λ q u k z.
           by-put-cell (λ x. x ≡ 0) 0 (h .adds) p t q u ((addsOf h p t + v) % wordValues)
@@ -51,6 +52,7 @@ unfolding posting addsOf
 posted-in-order lim n h k f =
     record {
       posted = length-tabulate (length (h .posted)) (totalAfter h k) ∙ f .posted;
+      values = f .values;
       adds = rows-map-all lim (lim .tallies) (h .adds) (λ add. 0) (f .adds);
       absent-adds = λ q t l z. no-adds-left (h .adds) q t;
     }

@@ -3,7 +3,7 @@ use Prim.Native.Nat.{ℕ, zero, suc, _≤_, _<_}
 use native.Mathlib.Omega.{arith}
 use mathlib.Core.Path.{_≡_, refl, sym, ap, _∙_}
 use mathlib.Core.Bool.{Bool, true, false, cond, not, _&&_, false≢true}
-use mathlib.Core.Logic.{inl}
+use mathlib.Core.Logic.{inl, _⊎_, inr}
 use mathlib.Core.List.{List, [], _∷_}
 use lib.ListN.{length, getD, replicate, length-replicate, getD-replicate}
 use lib.Dec.{eqb}
@@ -12,7 +12,7 @@ use Rattle.lists.proofs.Tables.{total-zero}
 use Rattle.lists.proofs.Conditions.{conjoined-at}
 use Rattle.clock.specs.Clocks.{zeros, entryOf}
 use Rattle.clock.proofs.Laws.{entryOf-zeros}
-use Rattle.rules.specs.State.{postedOf, addsOf, Limits, Counts, Holder, Processor, Lock, Barrier, Applied, Interval, clockOf, copyOf, twinOf, dirtyAt, clock, own, holder, hasArrived}
+use Rattle.rules.specs.State.{postedOf, addsOf, Limits, Counts, Holder, Processor, Lock, Barrier, Applied, Interval, Job, clockOf, copyOf, twinOf, dirtyAt, clock, own, holder, hasArrived}
 use Rattle.rules.specs.Lines.{waits, turnOf}
 use Rattle.rules.specs.InOrder.{slotSize, countsInRange, dirtyPages, inOrder}
 use Rattle.rules.specs.Opening.{zeroShared, Opening, openingRefusal, rows, zeroClocks, zeroPages, zeroMarks, opened}
@@ -79,6 +79,7 @@ opened-entry lim h q = go h
         row : (i : ℕ) → none-yet (getD ([] ∷ replicate (lim .intervals) (zeros (lim .processors))) i [])
         row zero = entry-none q
         row (suc i) = replicated none-yet (lim .intervals) i (zeros (lim .processors)) [] z (entry-none q)
+    go (Job k) = replicated none-yet (lim .jobs) k (zeros (lim .processors)) [] z (entry-none q)
 
 length-zeros : (n : ℕ) → length (zeros n) ≡ n
 unfolding zeros
@@ -96,6 +97,7 @@ opened-clock lim (Interval p zero) w = absurd (omega (arith, w .2))
 opened-clock lim (Interval p (suc i)) w =
     ap (λ (row : List (List ℕ)). getD row (suc i) []) (row-at (lim .processors) ([] ∷ replicate (lim .intervals) (zeros (lim .processors))) p (w .0) (w .1))
     ∙ getD-replicate (lim .intervals) i (zeros (lim .processors)) [] (w .3)
+opened-clock lim (Job k) w = getD-replicate (lim .jobs) k (zeros (lim .processors)) [] w
 
 -- ---- the pages
 
@@ -206,6 +208,7 @@ module _ (lim : Limits) (c : Counts) where
         processors = processors .processors;
         nobody-clock = processors .nobody;
         locks = length-replicate (lim .locks) (zeros (lim .processors));
+        jobs = length-replicate (lim .jobs) (zeros (lim .processors));
         applied = applied .processors;
         nobody-applied = applied .nobody;
         applied-row = applied .row;
@@ -234,12 +237,25 @@ module _ (lim : Limits) (c : Counts) where
         awaited = length-replicate (suc (lim .processors)) 0;
         turns = length-replicate (suc (lim .processors)) 0;
         posted = length-replicate (lim .tallies) 0;
+        values = length-replicate (lim .jobs) 0;
         adds = adds .processors;
         nobody-adds = adds .nobody;
         adds-row = adds .row;
       }
 
   -- counts in range make the opened state one in order
+  opened-first : (lim .jobs ≡ 0) ⊎ (opened lim c .marks .first < lim .jobs)
+  unfolding opened zeroMarks
+  opened-first = go (lim .jobs)
+    where
+      go : (m : ℕ) → (m ≡ 0) ⊎ (0 < m)
+      go zero = inl refl
+      go (suc m) = inr (omega arith)
+
+  opened-few-jobs : opened lim c .marks .jobs ≤ lim .jobs
+  unfolding opened zeroMarks
+  opened-few-jobs = omega arith
+
   pub opened-in-order : countsInRange lim c ≡ true → InOrder lim (opened lim c)
   unfolding opened countsTests
   opened-in-order e = go (λ i. conjoined-at (countsTests lim c) i (sym (counts-tests lim c) ∙ e))
@@ -279,6 +295,8 @@ module _ (lim : Limits) (c : Counts) where
             someone-missing = record { at = 0; below = processors .0; passes = ap not (opened-not-arrived 1) };
             lines = opened-no-lines;
             holder-away = λ l. inl (opened-not-held l);
+            first-there = opened-first;
+            few-jobs = opened-few-jobs;
           }
 
 -- an accepted opening has its counts in range
