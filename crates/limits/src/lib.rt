@@ -83,9 +83,9 @@ pub const FIRST_AWAITED: usize = FIRST_DIRTY + COPY_LIMIT;
 
 pub const FIRST_TURN: usize = FIRST_AWAITED + PROCESSOR_LIMIT;
 
-pub const OLDEST_PLACE: usize = FIRST_TURN + PROCESSOR_LIMIT;
+pub const QUEUE_FIRST: usize = FIRST_TURN + PROCESSOR_LIMIT;
 
-pub const JOBS_PLACE: usize = OLDEST_PLACE + 1;
+pub const QUEUE_JOBS: usize = QUEUE_FIRST + 1;
 
 // The four areas.
 pub const CLOCK_AREA: usize = CLOCK_WIDTH * CLOCK_ROW_LIMIT;
@@ -99,7 +99,7 @@ pub const WORD_AREA: usize = FIRST_JOB_VALUE + JOB_LIMIT;
 
 pub const RECORD_AREA: usize = SLOT_WIDTH * RECORD_LIMIT;
 
-pub const MARK_AREA: usize = JOBS_PLACE + 1;
+pub const MARK_AREA: usize = QUEUE_JOBS + 1;
 
 // A sort key: sum, processor, interval and slot as one number, each below its base.
 pub const SLOT_BASE: u32 = RECORD_LIMIT as u32;

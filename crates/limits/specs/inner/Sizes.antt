@@ -91,13 +91,13 @@ firstAwaited = firstDirty + copyLimit
 abbrev pub firstTurn : ℕ
 firstTurn = firstAwaited + processorLimit
 
--- the place of the oldest job of the queue, behind the turns
-abbrev pub oldestPlace : ℕ
-oldestPlace = firstTurn + processorLimit
+-- the queue's place of its oldest job, behind the turns
+abbrev pub queueFirst : ℕ
+queueFirst = firstTurn + processorLimit
 
--- how many jobs wait
-abbrev pub jobsPlace : ℕ
-jobsPlace = oldestPlace + 1
+-- and how many jobs it has
+abbrev pub queueJobs : ℕ
+queueJobs = queueFirst + 1
 
 -- ---- "its size is the fixed one": the four areas
 
@@ -123,7 +123,7 @@ recordArea = slotWidth * recordLimit
 
 -- the marks
 abbrev pub markArea : ℕ
-markArea = jobsPlace + 1
+markArea = queueJobs + 1
 
 -- ---- a sort key: sum, processor, interval and slot as one number, each below its base
 
