@@ -3,25 +3,23 @@
 use Prim.Native.Nat.{ℕ, zero, suc, _+_, _-_, _*_, _/_, _%_, _≤_, _<_}
 use native.Mathlib.Omega.{arith}
 use native.Mathlib.Nat.{div-add-mod'}
-use mathlib.Core.Path.{_≡_, refl, sym, ap, _∙_}
-use mathlib.Core.List.{List, [], _∷_, _++_}
-use lib.ListN.{length, getD, take, drop, length-append, length-drop, List·getD-append}
-use lib.Seq.{getD-drop}
+use mathlib.Core.Path.{_≡_, sym, ap, _∙_}
+use mathlib.Core.List.{List, [], _++_}
+use lib.ListN.{length, getD, take, drop, length-append, List·getD-append}
 use Rattle.lists.specs.Tables.{cell, tabulate}
-use Rattle.limits.specs.Limits.{jobLimit, lockLimit, pageLimit, pageWidth, processorLimit, recordLimit, tallyLimit}
-use Rattle.limits.specs.Places.{firstArrived}
-use Rattle.limits.specs.inner.Sizes.{copyLimit, firstAwaited, firstDirty, firstHolder, firstJobValue, firstTally, firstTurn, markArea, queueFirst, recordArea, slotWidth, wordArea, wordLimit}
+use Rattle.limits.specs.Limits.{jobLimit, pageLimit, pageWidth, processorLimit, recordLimit, tallyLimit}
+use Rattle.limits.specs.inner.Sizes.{copyLimit, firstJobValue, firstTally, recordArea, slotWidth, wordArea, wordLimit}
 use Rattle.rules.specs.InOrder.{slotSize}
 use Rattle.rules.specs.State.{mainframe, copyOf, twinOf, State}
 use Rattle.rules.proofs.inorder.Facts.{Sized}
 use Rattle.rules.proofs.order.Nobody.{NobodyMarked}
 use Rattle.layout.specs.Layout.{rowOf, joinRows}
-use Rattle.layout.specs.Areas.{copyRow, twinRow, tallyPlace, valuePlace, arrivedPlace, holderPlace, dirtyPlace, awaitedPlace, turnPlace, firstPlace, jobsPlace, pagesIn, recordsIn, marksIn, sharedIn, stateIn, clockBytes, areaWords, recordBytes, markBytes, standingCount}
+use Rattle.layout.specs.Areas.{copyRow, twinRow, tallyPlace, valuePlace, pagesIn, recordsIn, marksIn, sharedIn, stateIn, clockBytes, areaWords, recordBytes, markBytes, standingCount}
 use Rattle.layout.specs.inner.Needed.{Lent}
 use Rattle.lists.proofs.Tabulated.{tabulate-same, tabulate-get}
 use Rattle.layout.proofs.RowLaws.{page-table-same}
 use Rattle.layout.proofs.TallyLaws.{tally-at, value-at}
-use Rattle.layout.proofs.Cuts.{part-before, part-behind, get-behind, length-joined, joined-row, joined-get, first-and-rest, table-joined, table-of-elements, length-pages, page-cut}
+use Rattle.layout.proofs.Cuts.{part-before, part-behind, get-behind, length-joined, joined-row, joined-get, table-joined, table-of-elements, length-pages, page-cut}
 use Rattle.layout.proofs.DecodingClocks.{clock-size, clocks-again}
 use Rattle.layout.proofs.DecodingMarks.{marks-of, holders-again, arrived-again, awaited-again, turns-again, first-again, jobs-again, dirty-again}
 

@@ -11,7 +11,7 @@ use lib.Dec.{eqb}
 use borrow.Author.Tests.{eqb-true, eq-eqb}
 use Rattle.limits.specs.Limits.{intervalLimit, jobLimit, lockLimit, pageLimit, pageWidth, processorLimit, recordLimit, tallyLimit}
 use Rattle.limits.specs.Places.{firstArrived, standingHigh, standingPlace}
-use Rattle.limits.specs.inner.Sizes.{clockArea, clockWidth, copyLimit, firstAwaited, firstDirty, firstHolder, firstJobValue, firstTally, firstTurn, markArea, queueFirst, queueJobs, recordArea, slotWidth, wordArea, wordLimit}
+use Rattle.limits.specs.inner.Sizes.{clockArea, clockWidth, copyLimit, firstAwaited, firstDirty, firstHolder, firstJobValue, firstTally, firstTurn, markArea, queueFirst, recordArea, slotWidth, wordArea, wordLimit}
 use Rattle.diff.specs.Reading.{applied}
 use Rattle.rules.specs.InOrder.{slotSize}
 use Rattle.rules.specs.State.{mainframe, Processor, Lock, Applied, Interval, Job, State, clockOf}

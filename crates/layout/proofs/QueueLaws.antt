@@ -1,8 +1,8 @@
 -- The queue of the mainframe in its areas: the value of the job at each place, the place of the oldest job and how many wait; and the state after one of
 -- them is stored anew. Assumes nothing.
-use Prim.Native.Nat.{ℕ, _+_, _≤_, _<_}
+use Prim.Native.Nat.{ℕ, _<_}
 use native.Mathlib.Omega.{arith}
-use mathlib.Core.Path.{_≡_, refl, ap, _∙_}
+use mathlib.Core.Path.{_≡_, refl, _∙_}
 use mathlib.Core.List.{List}
 use lib.ListN.{length, getD, set, length-set}
 use lib.Seq.{getD-set-same, getD-set-other}
@@ -15,7 +15,7 @@ use Rattle.rules.specs.State.{mainframe, withMarks, withQueue, withShared}
 use Rattle.layout.specs.Areas.{tallyPlace, valuePlace, firstPlace, jobsPlace, marksIn, sharedIn, stateIn}
 use Rattle.layout.specs.inner.Marks.{firstMark, jobsMark}
 use Rattle.layout.proofs.RowLaws.{page-table-same}
-use Rattle.layout.proofs.TallyLaws.{tally-at, value-at, value-behind, shared-written}
+use Rattle.layout.proofs.TallyLaws.{value-at, value-behind, shared-written}
 use Rattle.layout.proofs.MarksKept.{wanted-kept, arrived-kept, holders-kept, awaited-kept, turns-kept, first-kept, jobs-kept, marks-alone, agree-below, agree-above}
 use Rattle.layout.proofs.MarkLaws.{stored-by-place}
 

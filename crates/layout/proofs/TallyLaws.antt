@@ -1,19 +1,18 @@
 -- The tallies of the mainframe in the area of words: where they stand, that pages and tallies leave each other alone, and what a stored add, and a round's
 -- posting, come to. Assumes nothing.
-use Prim.Native.Nat.{ℕ, zero, suc, _+_, _-_, _*_, _%_, _≤_, _<_}
+use Prim.Native.Nat.{ℕ, _+_, _-_, _*_, _≤_, _<_}
 use native.Mathlib.Omega.{arith}
 use mathlib.Core.Path.{_≡_, sym, ap, _∙_, fun-ext}
 use mathlib.Core.Bool.{Bool, cond, _&&_}
-use mathlib.Core.List.{List, [], map}
-use lib.ListN.{length, getD, set, length-set}
+use mathlib.Core.List.{List}
+use lib.ListN.{length, getD, set}
 use lib.Seq.{ext-getD, sets, getD-set-other}
 use lib.Dec.{eqb}
-use Rattle.lists.specs.Tables.{putCell, tabulate, total}
-use Rattle.lists.proofs.Tables.{total-same}
+use Rattle.lists.specs.Tables.{putCell, tabulate}
 use Rattle.lists.proofs.Tabulated.{length-tabulate, get-tabulate, tabulate-same, map-tabulate}
 use Rattle.limits.specs.Limits.{processorLimit, pageLimit, pageWidth, tallyLimit, jobLimit}
 use Rattle.limits.specs.inner.Sizes.{firstTally, firstJobValue, wordArea}
-use Rattle.rules.specs.State.{mainframe, Pages, Shared, postedOf, addsOf, State, withPages, withShared}
+use Rattle.rules.specs.State.{mainframe, Shared, postedOf, addsOf, withShared}
 use Rattle.rules.specs.Tallies.{totalAfter, posting}
 use Rattle.layout.specs.Areas.{copyRow, twinRow, wordRows, tallyPlace, valuePlace, pagesIn, sharedIn, stateIn}
 use Rattle.layout.specs.Layout.{rowOf, perProcessor}
