@@ -1,23 +1,26 @@
-//! The benchmark of the run program: `bench RUN MODEL FLOOR DIR`. Makes the
-//! step files in DIR, checks that RUN and MODEL print the same lines, runs RUN,
-//! MODEL and FLOOR in turn on each, and prints the table.
+//! The benchmark of the programs: `bench RUN FORECAST MODEL FLOOR DIR`. Makes
+//! the step files in DIR, checks that RUN and FORECAST print what MODEL does,
+//! runs RUN, FORECAST, MODEL and FLOOR in turn on each, and prints the table.
 
 #![forbid(unsafe_code)]
 
+mod content;
+mod table;
+
+use content::{same, Content};
 use std::env;
 use std::fs::{self, File};
 use std::path::{Path, PathBuf};
 use std::process::{Command, ExitCode, Stdio};
 use std::time::{Duration, Instant};
+use table::{head, row, Times};
 
 const STEPS: &str = "1000000";
 const ROUNDS: usize = 5;
-/// How many times as fast as the model the run program must be.
-const OVER_MODEL: f64 = 5.0;
 
 /// A step file: a profile of the model's generator, its seed, and how many
 /// times the floor's time the run program may take on it.
-struct Case {
+pub struct Case {
     profile: &'static str,
     seed: &'static str,
     most: f64,
@@ -45,28 +48,26 @@ struct Program(Vec<String>);
 
 struct Bench {
     run: Program,
+    forecast: Program,
     model: Program,
+    /// The model's forecast, which is not measured.
+    model_forecast: Program,
     floor: Program,
     dir: PathBuf,
 }
 
-/// The best time of each program on one file.
-struct Times {
-    run: Duration,
-    model: Duration,
-    floor: Duration,
-}
-
 fn main() -> ExitCode {
     let args: Vec<String> = env::args().skip(1).collect();
-    let [run, model, floor, dir] = &args[..] else {
-        eprintln!("bench RUN MODEL FLOOR DIR");
+    let [run, forecast, model, floor, dir] = &args[..] else {
+        eprintln!("bench RUN FORECAST MODEL FLOOR DIR");
         return ExitCode::FAILURE;
     };
     let program = |words: &[&str]| Program(words.iter().map(|w| w.to_string()).collect());
     let bench = Bench {
         run: program(&[run]),
+        forecast: program(&[forecast]),
         model: program(&[model, "run"]),
+        model_forecast: program(&[model, "forecast"]),
         floor: program(&[floor]),
         dir: PathBuf::from(dir),
     };
@@ -87,17 +88,17 @@ impl Bench {
         for case in &CASES {
             self.make_file(generator, case)?;
             let content = self.check(case)?;
-            println!("{}", content.text(case));
+            println!("{} {}: {}", case.profile, case.seed, content.text());
             contents.push(content);
         }
-        println!("run prints the model's lines on every file\n");
+        println!("run and forecast print what the model does on every file\n");
         println!("best of {ROUNDS}, in ms; load of the machine {}\n", load());
         println!("{}", head());
         let mut met = true;
         for (case, content) in CASES.iter().zip(&contents) {
             let times = self.best_times(case)?;
             println!("{}", row(case, content, &times));
-            met &= case.floor_met(&times) && model_met(&times);
+            met &= times.met(case);
         }
         println!("\nall targets {}", if met { "met" } else { "NOT met" });
         Ok(met)
@@ -115,31 +116,33 @@ impl Bench {
         Program(words).go(Stdio::null(), out.into()).map(|_| ())
     }
 
-    /// Compares the lines of run and model; gives what the file holds.
-    fn check(&self, case: &Case) -> Result<Content, String> {
-        let lines = |program: &Program, ending: &str| {
-            let (steps, out) = (self.place(case, "steps"), self.place(case, ending));
-            program.go(open(&steps)?.into(), create(&out)?.into())?;
-            fs::read(&out).map_err(|e| format!("{}: {e}", out.display()))
-        };
-        let run = lines(&self.run, "run")?;
-        let model = lines(&self.model, "model")?;
-        match first_difference(&run, &model) {
-            Some(wrong) => Err(format!("{}: {wrong}", case.profile)),
-            None => Ok(Content::of(&model)),
-        }
+    /// What a program prints for the file, which is kept beside it.
+    fn printed(&self, case: &Case, program: &Program, ending: &str) -> Result<Vec<u8>, String> {
+        let (steps, out) = (self.place(case, "steps"), self.place(case, ending));
+        program.go(open(&steps)?.into(), create(&out)?.into())?;
+        fs::read(&out).map_err(|e| format!("{}: {e}", out.display()))
     }
 
-    /// Runs the three programs in turn, five rounds.
+    /// Compares what run and forecast print with what the model does; gives what
+    /// the file holds.
+    fn check(&self, case: &Case) -> Result<Content, String> {
+        let name = |wrong| format!("{}: {wrong}", case.profile);
+        let run = self.printed(case, &self.run, "run")?;
+        let model = self.printed(case, &self.model, "model")?;
+        same("run", &run, &model).map_err(name)?;
+        let forecast = self.printed(case, &self.forecast, "forecast")?;
+        let due = self.printed(case, &self.model_forecast, "model-forecast")?;
+        same("forecast", &forecast, &due).map_err(name)?;
+        Ok(Content::of(&model))
+    }
+
+    /// Runs the four programs in turn, five rounds.
     fn best_times(&self, case: &Case) -> Result<Times, String> {
-        let mut best = Times {
-            run: Duration::MAX,
-            model: Duration::MAX,
-            floor: Duration::MAX,
-        };
+        let mut best = Times::WORST;
         let steps = self.place(case, "steps");
         for _ in 0..ROUNDS {
             best.run = best.run.min(self.run.time(&steps)?);
+            best.forecast = best.forecast.min(self.forecast.time(&steps)?);
             best.model = best.model.min(self.model.time(&steps)?);
             best.floor = best.floor.min(self.floor.time(&steps)?);
         }
@@ -179,143 +182,9 @@ fn create(path: &Path) -> Result<File, String> {
     File::create(path).map_err(|e| format!("{}: {e}", path.display()))
 }
 
-// What the files hold.
-
-/// The first line in which the two differ, or nothing if no byte does.
-fn first_difference(run: &[u8], model: &[u8]) -> Option<String> {
-    if run == model {
-        return None;
-    }
-    let (mut ours, mut theirs) = (run.split(newline), model.split(newline));
-    loop {
-        let (a, b) = (ours.next(), theirs.next());
-        if a != b {
-            let text =
-                |line: Option<&[u8]>| String::from_utf8_lossy(line.unwrap_or(b"")).into_owned();
-            return Some(format!("run prints `{}`, model `{}`", text(a), text(b)));
-        }
-    }
-}
-
-fn newline(byte: &u8) -> bool {
-    *byte == b'\n'
-}
-
-/// How many steps of a file are accepted and refused, how many records they
-/// apply, and how many words these set.
-#[derive(Default)]
-struct Content {
-    accepted: u64,
-    refused: u64,
-    applied: u64,
-    words: u64,
-}
-
-impl Content {
-    /// Four numbers for each record, then "words" and their total.
-    fn of(lines: &[u8]) -> Content {
-        let mut content = Content::default();
-        for line in lines.split(newline).skip(1) {
-            let text = String::from_utf8_lossy(line);
-            let parts: Vec<&str> = text.split(' ').collect();
-            let number = |part: &str| part.parse().unwrap_or(0);
-            match parts[..] {
-                [_, "0", _, count] => {
-                    content.accepted += 1;
-                    content.applied += number(count);
-                }
-                [_, _, _, _] => content.refused += 1,
-                ["words", total] => content.words = number(total),
-                _ => {}
-            }
-        }
-        content
-    }
-
-    /// "mixed 1: 774006 accepted, 225994 refused, 1033596 records applied, of
-    /// 1437015 words"
-    fn text(&self, case: &Case) -> String {
-        let Case { profile, seed, .. } = case;
-        let Content {
-            accepted,
-            refused,
-            applied,
-            words,
-        } = self;
-        let steps = format!("{accepted} accepted, {refused} refused");
-        format!("{profile} {seed}: {steps}, {applied} records applied, of {words} words")
-    }
-
-    /// Accepted steps of 100.
-    fn share(&self) -> f64 {
-        100.0 * self.accepted as f64 / (self.accepted + self.refused) as f64
-    }
-}
-
-// The table.
-
 /// What else the machine did in the last minute; above 1, the times are not
 /// to be trusted.
 fn load() -> String {
     let loads = fs::read_to_string("/proc/loadavg").unwrap_or_default();
     loads.split(' ').next().unwrap_or_default().to_string()
-}
-
-fn head() -> String {
-    format!(
-        "{:<7} {:>9} {:>9} {:>9} {:>9} {:>10} {:>6} {:>10} {:>6}  {}",
-        "file",
-        "accepted",
-        "run",
-        "model",
-        "floor",
-        "run/floor",
-        "most",
-        "model/run",
-        "least",
-        "target"
-    )
-}
-
-fn row(case: &Case, content: &Content, times: &Times) -> String {
-    let met = match (case.floor_met(times), model_met(times)) {
-        (true, true) => "met",
-        (false, true) => "NOT met: floor",
-        (true, false) => "NOT met: model",
-        (false, false) => "NOT met: floor, model",
-    };
-    format!(
-        "{:<7} {:>7.1} % {:>9.1} {:>9.1} {:>9.1} {:>10.2} {:>6.1} {:>10.2} {:>6.1}  {met}",
-        case.profile,
-        content.share(),
-        millis(times.run),
-        millis(times.model),
-        millis(times.floor),
-        over_floor(times),
-        case.most,
-        over_run(times),
-        OVER_MODEL,
-    )
-}
-
-impl Case {
-    fn floor_met(&self, times: &Times) -> bool {
-        over_floor(times) <= self.most
-    }
-}
-
-fn model_met(times: &Times) -> bool {
-    over_run(times) >= OVER_MODEL
-}
-
-fn millis(time: Duration) -> f64 {
-    1000.0 * time.as_secs_f64()
-}
-
-fn over_floor(times: &Times) -> f64 {
-    times.run.as_secs_f64() / times.floor.as_secs_f64()
-}
-
-fn over_run(times: &Times) -> f64 {
-    times.model.as_secs_f64() / times.run.as_secs_f64()
 }

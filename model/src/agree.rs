@@ -21,10 +21,9 @@ pub fn agrees(due: &[u8], ran: &Ran) -> Result<(), String> {
     }
 }
 
-/// The same with the lines that stand beside a named file.
-pub fn agrees_with_stored(steps: &Path, ran: &Ran) -> Result<(), String> {
-    let lines = steps.with_extension("lines");
-    let due = fs::read(&lines).map_err(|e| format!("{}: {e}", lines.display()))?;
+/// The same with what is stored.
+pub fn agrees_with_stored(path: &Path, ran: &Ran) -> Result<(), String> {
+    let due = fs::read(path).map_err(|e| format!("{}: {e}", path.display()))?;
     agrees(&due, ran)
 }
 

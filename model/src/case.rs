@@ -1,9 +1,11 @@
 //! A named step file with the answers it should get, written by hand, and so the
-//! lines it should print.
+//! lines it should print; where its figures are set down, its forecast too.
 
+use crate::forecast_lines::{Forecast, Line};
 use crate::model::{Answer, Step, ACQUIRE, ARRIVE, READ, RELEASE, WANT, WRITE};
 use crate::model::{TALLY_ADD, TALLY_READ};
 use crate::moved::Moved;
+use crate::space_figures::figures;
 use crate::stepfile::Printed;
 
 pub struct Case {
@@ -83,6 +85,20 @@ impl Case {
     /// What the file should print.
     pub fn printed(&self) -> Printed {
         Printed::of(&self.answers)
+    }
+
+    /// What a forecast of the file should print, if its figures are set down: as
+    /// many as there are answers.
+    pub fn forecast(&self) -> Option<Forecast> {
+        let figures = figures(&self.name)?;
+        assert_eq!(figures.len(), self.answers.len(), "{}", self.name);
+        let lines = self.answers.iter().zip(figures).enumerate();
+        let line = |(number, (answer, figures)): (usize, (&Answer, _))| Line {
+            number,
+            refusal: answer.refusal,
+            figures,
+        };
+        Some(Forecast::of(lines.map(line).collect()))
     }
 
     fn put(&mut self, step: Step, answer: Answer) {

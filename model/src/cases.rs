@@ -1,15 +1,17 @@
 //! The files of tests/files; those of cards that wait are in `wait_cases.rs`,
 //! those of stores that alter nothing in `equal_cases.rs`, those of tallies in
 //! `tally_cases.rs`, those of skipped records in `skip_cases.rs`, those of words
-//! set in `words_cases.rs`, those of holders that arrive in `holder_cases.rs`. Each expected answer is written by hand from documents
-//! 01 and 02; `model make-files` refuses to write a file whose lines the model
-//! does not print.
+//! set in `words_cases.rs`, those of holders that arrive in `holder_cases.rs`,
+//! those of the space forecast in `space_cases.rs`. Each expected answer is written
+//! by hand from documents 01 and 02; `model make-files` refuses to write a file
+//! whose lines the model does not print.
 
 use crate::case::{acquire, any, arrive, read, release, want, write, Case};
 use crate::equal_cases::equal_cases;
 use crate::holder_cases::holder_cases;
 use crate::model::Step;
 use crate::skip_cases::skip_cases;
+use crate::space_cases::space_cases;
 use crate::tally_cases::tally_cases;
 use crate::wait_cases::wait_cases;
 use crate::words_cases::words_cases;
@@ -27,6 +29,7 @@ pub fn all_cases() -> Vec<Case> {
     cases.extend(skip_cases());
     cases.extend(words_cases());
     cases.extend(holder_cases());
+    cases.extend(space_cases());
     cases
 }
 

@@ -1,9 +1,10 @@
 //! `model compare PROGRAM`: what a run program prints against the model's
-//! lines, byte for byte, and the judge over what it prints.
+//! lines, byte for byte, and the judge over what it prints. What is asked of a
+//! forecast program is in `compare_forecast.rs`.
 
 use crate::agree::{agrees, agrees_with_stored, judged};
 use crate::options::Options;
-use crate::plan::{plan, Source};
+use crate::plan::{plan, space_plan, Source};
 use crate::program::{run, Input, Limits, Ran};
 use crate::stepfile;
 use std::fs;
@@ -18,15 +19,50 @@ use std::time::Instant;
 const MOST_REPORTS: usize = 10;
 /// After so many runs that did not start or did not end in time the program
 /// is not run again, and what is left has failed. The three files of a million
-/// steps alone do not come to that.
+/// steps alone do not come to that; the fourth, of a forecast, is the last file.
 const MOST_HOPELESS: usize = 4;
 /// How many files are tried at the same time.
 const WORKERS: usize = 2;
 /// How many bytes more than due a program may print before it is stopped.
-const SURPLUS: usize = 1 << 16;
+pub const SURPLUS: usize = 1 << 16;
 /// Bytes at a time for a file that is fed in pieces: records are torn apart
 /// at each of their bytes.
 const PIECE: usize = 13;
+
+/// Which program is tried.
+#[derive(Clone, Copy)]
+pub enum Subject {
+    Run,
+    Forecast,
+}
+
+impl Subject {
+    /// The command that tries it.
+    pub fn command(self) -> &'static str {
+        match self {
+            Subject::Run => "compare",
+            Subject::Forecast => "compare-forecast",
+        }
+    }
+
+    fn plan(self, options: &Options) -> Result<Vec<Source>, String> {
+        let Options {
+            dir, files, seed, ..
+        } = options;
+        match self {
+            Subject::Run => plan(dir, *files, *seed),
+            Subject::Forecast => space_plan(dir, *files, *seed),
+        }
+    }
+
+    /// How many checks a file has.
+    fn checks(self, source: &Source) -> usize {
+        match self {
+            Subject::Run => 2 + usize::from(source.lines().is_some()),
+            Subject::Forecast => 3 + usize::from(source.forecast().is_some()),
+        }
+    }
+}
 
 /// Each comparison and each judged file counts as one.
 #[derive(Clone, Copy, Default)]
@@ -39,13 +75,13 @@ pub struct Tally {
 /// What came of one file: how many checks passed, and by which others what
 /// is wrong.
 #[derive(Default)]
-struct Checks {
-    passed: usize,
-    wrong: Vec<(&'static str, String)>,
+pub struct Checks {
+    pub passed: usize,
+    pub wrong: Vec<(&'static str, String)>,
 }
 
 impl Checks {
-    fn add(&mut self, by: &'static str, result: Result<(), String>) {
+    pub fn add(&mut self, by: &'static str, result: Result<(), String>) {
         match result {
             Ok(()) => self.passed += 1,
             Err(wrong) => self.wrong.push((by, wrong)),
@@ -63,9 +99,10 @@ impl Checks {
 }
 
 /// A file, the lines due and what was printed, with their endings.
-type Texts<'a> = [(&'static str, &'a [u8]); 3];
+pub type Texts<'a> = [(&'static str, &'a [u8]); 3];
 
 pub struct Comparison<'a> {
+    subject: Subject,
     program: &'a Path,
     options: &'a Options,
     /// Where the files with a difference are kept.
@@ -76,23 +113,30 @@ pub struct Comparison<'a> {
 }
 
 /// Compares on all files of the plan; reports are printed on the way.
-pub fn compare(program: &Path, options: &Options) -> Result<Tally, String> {
+pub fn compare(subject: Subject, program: &Path, options: &Options) -> Result<Tally, String> {
     let begun = Instant::now();
-    let plan = plan(&options.dir, options.files, options.seed)?;
-    let comparison = Comparison::new(program, options, Path::new("target/compare"))?;
+    let plan = subject.plan(options)?;
+    let command = subject.command();
+    let keep = Path::new("target").join(command);
+    let comparison = Comparison::new(subject, program, options, &keep)?;
     let tally = comparison.over(&plan);
     if comparison.given_up() {
-        println!("compare: given up after {MOST_HOPELESS} runs that did not start or end");
+        println!("{command}: given up after {MOST_HOPELESS} runs that did not start or end");
     }
     let seconds = begun.elapsed().as_secs_f32();
     let (program, files) = (program.display(), plan.len());
-    println!("compare: {program} on {files} files in {seconds:.1} s");
+    println!("{command}: {program} on {files} files in {seconds:.1} s");
     Ok(tally)
 }
 
 impl<'a> Comparison<'a> {
     /// Files that an earlier comparison kept go.
-    pub fn new(program: &'a Path, options: &'a Options, keep: &Path) -> Result<Self, String> {
+    pub fn new(
+        subject: Subject,
+        program: &'a Path,
+        options: &'a Options,
+        keep: &Path,
+    ) -> Result<Self, String> {
         match fs::remove_dir_all(keep) {
             Err(e) if e.kind() != io::ErrorKind::NotFound => {
                 return Err(format!("{}: {e}", keep.display()));
@@ -100,6 +144,7 @@ impl<'a> Comparison<'a> {
             _ => {}
         }
         Ok(Comparison {
+            subject,
             program,
             options,
             keep: keep.to_path_buf(),
@@ -134,12 +179,13 @@ impl<'a> Comparison<'a> {
 
     fn take(&self, source: &Source) {
         if self.given_up() {
-            self.tally().failed += if source.is_named() { 3 } else { 2 };
+            self.tally().failed += self.subject.checks(source);
             return;
         }
-        match source.bytes() {
-            Ok(file) => self.try_file(source, &file),
-            Err(wrong) => {
+        match (source.bytes(), self.subject) {
+            (Ok(file), Subject::Run) => self.try_run(source, &file),
+            (Ok(file), Subject::Forecast) => self.try_forecast(source, &file),
+            (Err(wrong), _) => {
                 let mut checks = Checks::default();
                 checks.add("the file", Err(wrong));
                 self.count(source, checks, None);
@@ -147,12 +193,12 @@ impl<'a> Comparison<'a> {
         }
     }
 
-    fn try_file(&self, source: &Source, file: &[u8]) {
+    fn try_run(&self, source: &Source, file: &[u8]) {
         let due = stepfile::run(file, None).text().into_bytes();
-        let ran = self.run(source, file, due.len() + SURPLUS);
+        let ran = self.run(input(source, file), due.len() + SURPLUS);
         let mut checks = Checks::default();
-        if let Source::Named(path) = source {
-            checks.add("by its .lines", agrees_with_stored(path, &ran));
+        if let Some(stored) = source.lines() {
+            checks.add("by its .lines", agrees_with_stored(&stored, &ran));
         }
         checks.add("by the model", agrees(&due, &ran));
         checks.add("by the judge", judged(file, &ran));
@@ -160,12 +206,12 @@ impl<'a> Comparison<'a> {
         self.count(source, checks, Some(texts));
     }
 
-    fn run(&self, source: &Source, file: &[u8], most: usize) -> Ran {
+    pub fn run(&self, input: Input, most: usize) -> Ran {
         let limits = Limits {
             output: most,
             time: self.options.patience,
         };
-        let ran = run(self.program, input(source, file), limits);
+        let ran = run(self.program, input, limits);
         if ran.ending.is_hopeless() {
             self.hopeless.fetch_add(1, Ordering::Relaxed);
         }
@@ -173,7 +219,7 @@ impl<'a> Comparison<'a> {
     }
 
     /// Counts a file's checks; reports and keeps it if one of them failed.
-    fn count(&self, source: &Source, checks: Checks, texts: Option<Texts>) {
+    pub fn count(&self, source: &Source, checks: Checks, texts: Option<Texts>) {
         let mut tally = self.tally();
         tally.passed += checks.passed;
         tally.failed += checks.wrong.len();
@@ -181,7 +227,7 @@ impl<'a> Comparison<'a> {
             return;
         }
         tally.reported += 1;
-        println!("compare: {}", source.name());
+        println!("{}: {}", self.subject.command(), source.name());
         checks.print();
         if let Some(texts) = texts {
             println!("  {}", self.keep_texts(&source.stem(), texts));
@@ -206,7 +252,7 @@ impl<'a> Comparison<'a> {
 
 /// Named files as files; of the others every second one in small pieces, so
 /// that a program which takes a short read for the end of the file is found.
-fn input<'a>(source: &'a Source, file: &'a [u8]) -> Input<'a> {
+pub fn input<'a>(source: &'a Source, file: &'a [u8]) -> Input<'a> {
     let piece = match source {
         Source::Named(path) => return Input::File(path),
         Source::Generated(recipe) if recipe.seed % 2 == 1 => PIECE,

@@ -3,7 +3,7 @@
 
 use crate::agree::first_difference;
 use crate::blend::{blend, quiet};
-use crate::compare::Comparison;
+use crate::compare::{Comparison, Subject};
 use crate::coverage::Seen;
 use crate::judge::judge;
 use crate::options::Options;
@@ -17,10 +17,10 @@ use std::path::{Path, PathBuf};
 use std::time::Duration;
 
 /// A directory for one test, empty at first and gone in the end.
-struct Room(PathBuf);
+pub struct Room(pub PathBuf);
 
 impl Room {
-    fn new(name: &str) -> Room {
+    pub fn new(name: &str) -> Room {
         let name = format!("model-{name}-{}", std::process::id());
         let room = Room(std::env::temp_dir().join(name));
         fs::create_dir_all(&room.0).expect("a directory");
@@ -28,7 +28,7 @@ impl Room {
     }
 
     /// A program that is a shell script.
-    fn script(&self, body: &str) -> PathBuf {
+    pub fn script(&self, body: &str) -> PathBuf {
         let path = self.0.join("script");
         fs::write(&path, format!("#!/bin/sh\n{body}\n")).expect("a script");
         fs::set_permissions(&path, fs::Permissions::from_mode(0o755)).expect("a mode");
@@ -132,7 +132,8 @@ fn a_comparison_counts_and_keeps() {
     let kept = room.0.join("kept");
     let count = |program: &Path| {
         let options = Options::usual();
-        let comparison = Comparison::new(program, &options, &kept).expect("a comparison");
+        let comparison = Comparison::new(Subject::Run, program, &options, &kept);
+        let comparison = comparison.expect("a comparison");
         let tally = comparison.over(&files);
         (tally.passed, tally.failed)
     };

@@ -1,14 +1,17 @@
 //! `make-files DIR`, `check-files DIR` and `faults DIR`.
 
+use crate::agree::first_difference as first_in_bytes;
 use crate::case::Case;
 use crate::cases::all_cases;
 use crate::fault::{Fault, FAULTS};
+use crate::forecast::forecast;
 use crate::judge::judge;
 use crate::stepfile::{run, Printed};
 use std::fs;
 use std::path::{Path, PathBuf};
 
-/// Writes NAME.steps, NAME.lines and README.md.
+/// Writes NAME.steps, NAME.lines, NAME.forecast where it is set down, and
+/// README.md.
 pub fn make_files(dir: &Path) -> Result<String, String> {
     let cases = all_cases();
     for case in &cases {
@@ -25,7 +28,20 @@ fn write_case(dir: &Path, case: &Case) -> Result<(), String> {
     }
     put(&dir.join(format!("{}.steps", case.name)), &case.file)?;
     let lines = due.text();
-    put(&dir.join(format!("{}.lines", case.name)), lines.as_bytes())
+    put(&dir.join(format!("{}.lines", case.name)), lines.as_bytes())?;
+    write_forecast(dir, case)
+}
+
+fn write_forecast(dir: &Path, case: &Case) -> Result<(), String> {
+    let Some(due) = case.forecast() else {
+        return Ok(());
+    };
+    let due = due.text();
+    let found = forecast(&case.file, None).text();
+    match first_in_bytes(due.as_bytes(), found.as_bytes()) {
+        Some(wrong) => Err(format!("{}, its forecast: {wrong}", case.name)),
+        None => put(&dir.join(format!("{}.forecast", case.name)), due.as_bytes()),
+    }
 }
 
 fn put(path: &Path, bytes: &[u8]) -> Result<(), String> {
@@ -44,12 +60,14 @@ fn readme(cases: &[Case]) -> String {
 const README_HEAD: &str = "# Step files and their lines
 
 NAME.steps is a step file, NAME.lines what the run program prints for it,
-NAME.txt the file in words. The last line, `words` and a total, is there unless
-the run stopped at 2, 15 or 16. The texts are written by `tests/steps/store`, the
-others by `model make-files`; each line was set down by hand
-from documents 01 and 02 (model/src/cases.rs, wait_cases.rs, equal_cases.rs,
-tally_cases.rs, skip_cases.rs, words_cases.rs, holder_cases.rs) and agrees with
-the second model.
+NAME.forecast what the forecast prints, where it is stored, NAME.txt the file in
+words. The last line of a run, `words` and a total, is there unless the run
+stopped at 2, 15 or 16; that of a forecast, `most` and a number, always. The
+texts are written by `tests/steps/store`, the others by `model make-files`; each
+line was set down by hand from documents 01 and 02 (model/src/cases.rs,
+wait_cases.rs, equal_cases.rs, tally_cases.rs, skip_cases.rs, words_cases.rs,
+holder_cases.rs, space_cases.rs, and space_figures.rs for the forecasts) and
+agrees with the second model.
 
 ";
 
@@ -61,9 +79,11 @@ writes such a file: an opening, 1,000,000 step records and one whole record
 more. Its last two lines are those of records 1000000 (an answer) and
 1000001, `1000001 16 0 0`. With `model gen mixed 1 1000000` the last two lines
 are that of record 1000000 and the words set. With one to seven bytes after that
-file it ends within a record and the last line is `1000001 15 0 0`. `model
-compare PROGRAM` runs such files, and those cut at each byte of the opening and
-of a record, beside the files here.
+file it ends within a record and the last line is `1000001 15 0 0`. The forecast
+has the same numbers and refusals there, each with the figures of record 1000000,
+and ends with `most`. `model compare PROGRAM` and `model compare-forecast PROGRAM`
+run such files, and those cut at each byte of the opening and of a record, beside
+the files here.
 ";
 
 /// The first line in which two runs differ, in words.
@@ -78,12 +98,18 @@ pub fn first_difference(due: &Printed, found: &Printed) -> Option<String> {
 /// A step file: its name, its bytes and its stored lines.
 type Stored = (String, Vec<u8>, Printed);
 
-/// The step files of a directory by name.
-fn stored(dir: &Path) -> Result<Vec<Stored>, String> {
+/// The files of a directory with this ending, by name.
+fn with_ending(dir: &Path, ending: &str) -> Result<Vec<PathBuf>, String> {
     let list = fs::read_dir(dir).map_err(|e| format!("{}: {e}", dir.display()))?;
     let mut paths: Vec<PathBuf> = list.flatten().map(|entry| entry.path()).collect();
-    paths.retain(|path| path.extension().is_some_and(|e| e == "steps"));
+    paths.retain(|path| path.extension().is_some_and(|e| e == ending));
     paths.sort();
+    Ok(paths)
+}
+
+/// The step files of a directory, with their lines.
+fn stored(dir: &Path) -> Result<Vec<Stored>, String> {
+    let paths = with_ending(dir, "steps")?;
     paths.iter().map(|path| stored_one(path)).collect()
 }
 
@@ -96,7 +122,8 @@ fn stored_one(steps: &Path) -> Result<Stored, String> {
     Ok((name.to_string(), file, lines))
 }
 
-/// Runs each stored file and compares; judges the stored lines too.
+/// Runs each stored file and compares; judges the stored lines too, and compares
+/// the forecasts.
 pub fn check_files(dir: &Path) -> Result<String, String> {
     let files = stored(dir)?;
     for (name, file, lines) in &files {
@@ -108,7 +135,23 @@ pub fn check_files(dir: &Path) -> Result<String, String> {
             return Err(format!("{name}: {}", broken.text()));
         }
     }
-    Ok(format!("{} files agree\n", files.len()))
+    let forecasts = check_forecasts(dir)?;
+    let files = files.len();
+    Ok(format!("{files} files agree, and {forecasts} forecasts\n"))
+}
+
+/// How many forecasts there are. Each stands beside its step file.
+fn check_forecasts(dir: &Path) -> Result<usize, String> {
+    let paths = with_ending(dir, "forecast")?;
+    for path in &paths {
+        let read = |path: &Path| fs::read(path).map_err(|e| format!("{}: {e}", path.display()));
+        let (due, file) = (read(path)?, read(&path.with_extension("steps"))?);
+        let found = forecast(&file, None).text();
+        if let Some(wrong) = first_in_bytes(&due, found.as_bytes()) {
+            return Err(format!("{}: {wrong}", path.display()));
+        }
+    }
+    Ok(paths.len())
 }
 
 /// What a fault does to a file: nothing, other lines, or lines that break

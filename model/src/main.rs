@@ -10,6 +10,9 @@ mod case;
 mod cases;
 mod clock;
 mod compare;
+mod compare_forecast;
+#[cfg(test)]
+mod compare_forecast_tests;
 #[cfg(test)]
 mod compare_tests;
 mod coverage;
@@ -19,6 +22,11 @@ mod equal_cases;
 mod equal_tests;
 mod fault;
 mod files;
+mod forecast;
+mod forecast_check;
+mod forecast_lines;
+#[cfg(test)]
+mod forecast_tests;
 mod generate;
 mod holder_cases;
 #[cfg(test)]
@@ -36,6 +44,10 @@ mod skip;
 mod skip_cases;
 #[cfg(test)]
 mod skip_tests;
+mod space;
+mod space_cases;
+mod space_fault;
+mod space_figures;
 mod stepfile;
 mod sweep;
 mod tally_cases;
@@ -52,6 +64,7 @@ mod words_cases;
 #[cfg(test)]
 mod words_tests;
 
+use compare::Subject;
 use options::{number, Options};
 use std::env;
 use std::fs;
@@ -61,6 +74,7 @@ use std::process::ExitCode;
 
 const USAGE: &str = "model run < FILE                      the lines of a step file
 model answers < FILE                  refusal, value, count and words of each record
+model forecast < FILE                 the forecast of a step file
 model judge < FILE                    demand 3, tallies and words, on the model's own lines
 model judge FILE LINES                the same on the lines given
 model gen PROFILE SEED STEPS > FILE   a step file
@@ -71,6 +85,8 @@ model faults DIR                      the named files under each fault
 model sweep SEEDS STEPS               all profiles, run and judged
 model sweep-faults SEEDS STEPS        all profiles under each fault
 model compare PROGRAM [OPTIONS]       a run program against the model
+model compare-forecast PROGRAM [OPTIONS]
+                                      a forecast program against the model
 model coverage [OPTIONS]              what happens in the files compared on
     options: [DIR] [--files N] [--seed S] [--seconds T], else
     tests/files, 2100 generated files, seeds from 1, 60 s for each run
@@ -82,10 +98,17 @@ model change apply PAGE HEX           a page in hex; words set and the page afte
 fn main() -> ExitCode {
     let args: Vec<String> = env::args().skip(1).collect();
     let args: Vec<&str> = args.iter().map(String::as_str).collect();
-    if let ["compare", program, options @ ..] = &args[..] {
-        return compared(program, options);
+    match &args[..] {
+        ["compare", program, options @ ..] => compared(Subject::Run, program, options),
+        ["compare-forecast", program, options @ ..] => {
+            compared(Subject::Forecast, program, options)
+        }
+        _ => commanded(&args),
     }
-    match command(&args) {
+}
+
+fn commanded(args: &[&str]) -> ExitCode {
+    match command(args) {
         Ok(output) => print_out(&output),
         Err(wrong) => {
             eprintln!("{wrong}");
@@ -95,13 +118,14 @@ fn main() -> ExitCode {
 }
 
 /// The last line counts the comparisons, also if none could be made.
-fn compared(program: &str, options: &[&str]) -> ExitCode {
+fn compared(subject: Subject, program: &str, options: &[&str]) -> ExitCode {
     let options = Options::parse(options);
-    let tally = options.and_then(|options| compare::compare(Path::new(program), &options));
+    let program = Path::new(program);
+    let tally = options.and_then(|options| compare::compare(subject, program, &options));
     let (passed, failed) = match tally {
         Ok(tally) => (tally.passed, tally.failed),
         Err(wrong) => {
-            println!("compare: {wrong}");
+            println!("{}: {wrong}", subject.command());
             (0, 1)
         }
     };
@@ -124,6 +148,8 @@ fn command(args: &[&str]) -> Result<Vec<u8>, String> {
         ["run"] => stepfile::run(&input()?, None).text(),
         ["run", "--fault", name] => run_faulty(name)?,
         ["answers"] => answers(&input()?),
+        ["forecast"] => forecast::forecast(&input()?, None).text(),
+        ["forecast", "--fault", name] => forecast_faulty(name)?,
         ["judge"] => judge_own(&input()?)?,
         ["judge", file, lines] => judge_given(file, lines)?,
         ["gen", "--list"] => profile_list(),
@@ -154,6 +180,11 @@ fn input() -> Result<Vec<u8>, String> {
 fn run_faulty(name: &str) -> Result<String, String> {
     let fault = fault::by_name(name).ok_or(format!("no fault {name}"))?;
     Ok(stepfile::run(&input()?, Some(fault)).text())
+}
+
+fn forecast_faulty(name: &str) -> Result<String, String> {
+    let fault = space_fault::by_name(name).ok_or(format!("no fault {name}"))?;
+    Ok(forecast::forecast(&input()?, Some(fault)).text())
 }
 
 /// What a run through the library answers: four numbers for each line that a

@@ -1,5 +1,5 @@
-//! The files on which a run program is compared with the model: the named
-//! ones, those about the ends of a file, and generated ones of all profiles.
+//! The files on which a program is compared with the model: the named ones,
+//! those about the ends of a file, and generated ones of all profiles.
 
 use crate::generate::{generate, PROFILES};
 use crate::rng::Rng;
@@ -8,7 +8,7 @@ use std::fs;
 use std::path::{Path, PathBuf};
 
 pub enum Source {
-    /// NAME.steps, with NAME.lines beside it.
+    /// NAME.steps, with NAME.lines beside it, and some with NAME.forecast.
     Named(PathBuf),
     Generated(Recipe),
     /// A generated file that is very long, cut short or not opened.
@@ -49,8 +49,18 @@ impl Recipe {
 }
 
 impl Source {
-    pub fn is_named(&self) -> bool {
-        matches!(self, Source::Named(_))
+    /// Where the lines of a named file are stored.
+    pub fn lines(&self) -> Option<PathBuf> {
+        match self {
+            Source::Named(steps) => Some(steps.with_extension("lines")),
+            Source::Generated(_) | Source::End(_) => None,
+        }
+    }
+
+    /// Where the forecast of a named file is stored, if it is.
+    pub fn forecast(&self) -> Option<PathBuf> {
+        let forecast = self.lines()?.with_extension("forecast");
+        Some(forecast).filter(|path| path.exists())
     }
 
     pub fn bytes(&self) -> Result<Vec<u8>, String> {
@@ -89,6 +99,13 @@ pub fn plan(dir: &Path, files: usize, seed: u64) -> Result<Vec<Source>, String> 
     let mut plan = named(dir)?;
     plan.extend(ends(seed).into_iter().map(Source::End));
     plan.extend(generated(files, seed).into_iter().map(Source::Generated));
+    Ok(plan)
+}
+
+/// The same for a forecast, and further ends.
+pub fn space_plan(dir: &Path, files: usize, seed: u64) -> Result<Vec<Source>, String> {
+    let mut plan = plan(dir, files, seed)?;
+    plan.extend(space_ends(seed).into_iter().map(Source::End));
     Ok(plan)
 }
 
@@ -144,6 +161,23 @@ pub fn ends(seed: u64) -> Vec<Recipe> {
     ends.extend((0..=8).map(|bytes| file("mixed", 20, Some(bytes))));
     // Each cut within a record in the middle.
     ends.extend((1..=7).map(|part| file("chains", 400, Some(8 * 200 + part))));
+    ends
+}
+
+/// Files that end at 15 or 16 where records stand or pages are dirty.
+pub fn space_ends(seed: u64) -> Vec<Recipe> {
+    let soak = |steps, bytes| Recipe {
+        profile: "soak",
+        seed,
+        steps,
+        bytes: Some(bytes),
+    };
+    // Within the first step, behind it, and within the second.
+    let mut ends: Vec<Recipe> = (9..=17).map(|bytes| soak(20, bytes)).collect();
+    // Within a record in the middle.
+    ends.extend((1..=7).map(|part| soak(200, 8 * 100 + part)));
+    // One step more than a file may have.
+    ends.push(soak(MOST_STEPS + 1, 8 * (MOST_STEPS + 2)));
     ends
 }
 

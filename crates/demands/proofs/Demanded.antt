@@ -1,17 +1,16 @@
 -- The three demands hold. Rests on the theorems that README names. Assumes nothing.
-use Prim.Native.Nat.{ℕ, suc, _+_, _<_}
+use Prim.Native.Nat.{ℕ, _+_, _<_}
 use native.Mathlib.Omega.{arith}
 use mathlib.Core.Path.{_≡_, refl, sym, ap, _∙_}
 use mathlib.Core.Bool.{Bool, true, false, cond, _&&_, false≢true}
 use mathlib.Core.List.{List}
 use mathlib.Core.Option.{Option, none}
 use mathlib.Core.Logic.{_↔_}
-use lib.ListN.{length, getD, take, drop}
+use lib.ListN.{length, getD}
 use lib.Seq.{sets}
 use lib.Dec.{eqb}
 use borrow.Author.Tests.{ne-eqb}
 use Rattle.limits.specs.Limits.{pageWidth, intervalLimit, recordLimit}
-use Rattle.limits.specs.Files.{fileRecordWidth}
 use Rattle.diff.specs.Format.{written}
 use Rattle.diff.specs.Reading.{readRefusal, applied}
 use Rattle.diff.specs.Answers.{applyRefusal, applyWords, pageAfter}
@@ -21,6 +20,7 @@ use Rattle.diff_writer.specs.Answers.{writeRefusal, outAfter}
 use Rattle.rules.specs.Demand.{ReadsJudged, DemandThree}
 use Rattle.rules.specs.InOrder.{dirtyPages, inOrder}
 use Rattle.rules.specs.Opening.{opened}
+use Rattle.rules.specs.Rows.{NoRowApplies}
 use Rattle.rules.specs.Refusals.{Step, actionOf, Answer, acceptedAs, refusedAs, effect, refusalInOrder, answerInOrder, refusal, answer, next}
 use Rattle.rules.specs.State.{mainframe, State, dirtyAt, own}
 use Rattle.rules.specs.Steps.{pageOfWord}
@@ -29,6 +29,7 @@ use Rattle.rules.proofs.InOrderRuns.{refused-leaves-state, refusal-is-not-one}
 use Rattle.rules.proofs.inorder.InOrderSays.{in-order-says}
 use Rattle.rules.proofs.inorder.InOrderWhen.{in-order-when}
 use Rattle.rules.proofs.demand.ListRuns.{answer-refusal}
+use Rattle.rules.proofs.RowsExactly.{accepted-exactly-when}
 use Rattle.rules.proofs.Space.{WriteSoFar, nine-exactly-when, ten-exactly-when}
 use Rattle.layout.specs.Areas.{Areas, areas, heldBy, holding, rightSizes, stateIn, marksIn}
 use Rattle.inorder.specs.Areas.{areasInOrder}
@@ -36,15 +37,13 @@ use Rattle.layout.proofs.Encoding.{holding-is, right-lent}
 use Rattle.opening.specs.Promises.{openingOf, openRefusal, areasOpened}
 use Rattle.opening.proofs.Following.{accepted-opening}
 use Rattle.engine.specs.Promises.{answerOf, areasAfter}
-use Rattle.engine.proofs.CallsJudged.{calls-judged, returned-judged}
 use Rattle.engine.proofs.Carried.{Carried, opened-carried, next-carried, carried-sizes, carried-held}
-use Rattle.step_record.specs.Records.{stepsIn}
-use Rattle.run_list.specs.Runs.{firstRefusal, firstState, runAnswers}
 use Rattle.file_chunk.specs.Bytes.{bytesTaken}
 use Rattle.stepfile.specs.Promises.{feedAt, progressOf, feedable, notTaken, feedAnswer, feedLines, feedAreas}
 use Rattle.stepfile.specs.declared.Progress.{Progress}
-use Rattle.stepfile.proofs.Judged.{file-judged, accepted-lines}
+use Rattle.stepfile.proofs.Judged.{accepted-lines}
 use Rattle.demands.specs.Demands.{Sound, WriteComes, DemandOne, FromPages, DemandTwo, DemandThreeHolds, Demands}
+use Rattle.demands.proofs.Lifted.{lifted}
 
 -- ---- refused answers
 
@@ -182,30 +181,46 @@ refused-areas : (p : Progress) (chunk : List ℕ) (room : ℕ) (a : Areas) → f
 unfolding feedAreas
 refused-areas p chunk room a e = rw (not-fed p chunk room a e) refl
 
+-- a step that is not refused begins in order
+accepted-sound : (a : Areas) (t : Step) → answerOf a t .refusal ≡ 0 → Sound a
+unfolding answerOf answer refusedAs
+accepted-sound a t = go (rightSizes a) (inOrder mainframe (heldBy a)) refl refl
+  where
+    go : (b d : Bool) → rightSizes a ≡ b → inOrder mainframe (heldBy a) ≡ d → cond b (cond d (answerInOrder mainframe (heldBy a) t) (refusedAs 1)) (refusedAs 1) .refusal ≡ 0 → Sound a
+    go true true e f z = record { sizes = e; in-order = f }
+    go true false e f z = absurd (omega (arith, z))
+    go false d e f z = absurd (omega (arith, z))
+
+-- the refusal of a step on areas in order is that of the table
+refused-by-rows : (a : Areas) (t : Step) → Sound a → answerOf a t .refusal ≡ refusalInOrder mainframe (heldBy a) t
+refused-by-rows a t h =
+    ap (λ (x : Answer). x .refusal) (answer-held a t (h .sizes)) ∙ ruled-refusal (heldBy a) t ∙ refusal-is-not-one mainframe (heldBy a) t (h .in-order)
+
+accepted : (a : Areas) (t : Step) → answerOf a t .refusal ≡ 0 ↔ (Sound a × NoRowApplies mainframe (heldBy a) t)
+accepted a t = (
+  λ e.
+      let fine = accepted-sound a t e in
+      (fine, accepted-exactly-when mainframe (heldBy a) t (in-order-says mainframe (heldBy a) (fine .in-order)) .0 (sym (refused-by-rows a t fine) ∙ e)),
+  λ h. refused-by-rows a t (h .0) ∙ accepted-exactly-when mainframe (heldBy a) t (in-order-says mainframe (heldBy a) (h .0 .in-order)) .1 (h .1),
+)
+
 module _ (a : Areas) (t : Step) (w v : ℕ) (h : WriteComes a t w v) where
   -- the same of the state
   so-far : WriteSoFar mainframe (heldBy a) t w v
   unfolding mainframe
   so-far = record { action = h .action; processor-present = h .processor-present; word-present = h .word-present; not-arrived = h .not-arrived; not-waiting = h .not-waiting }
 
-  -- the refusal is that of the table
-  refused-by-table : answerOf a t .refusal ≡ refusalInOrder mainframe (heldBy a) t
-  refused-by-table =
-      ap (λ (x : Answer). x .refusal) (answer-held a t (h .sound .sizes))
-      ∙ ruled-refusal (heldBy a) t
-      ∙ refusal-is-not-one mainframe (heldBy a) t (h .sound .in-order)
-
   nine : answerOf a t .refusal ≡ 9
       ↔ ((dirtyAt (heldBy a .pages) (t .processor) (pageOfWord mainframe w) ≡ false) × (own (heldBy a) (t .processor) ≡ intervalLimit))
   unfolding mainframe
-  nine = rw refused-by-table (nine-exactly-when mainframe (heldBy a) t w v so-far)
+  nine = rw (refused-by-rows a t (h .sound)) (nine-exactly-when mainframe (heldBy a) t w v so-far)
 
   ten : answerOf a t .refusal ≡ 10
       ↔ ((dirtyAt (heldBy a .pages) (t .processor) (pageOfWord mainframe w) ≡ false)
       × (own (heldBy a) (t .processor) ≡ intervalLimit → ⊥)
       × (heldBy a .records .standing + dirtyPages (heldBy a) ≡ recordLimit))
   unfolding mainframe
-  ten = rw refused-by-table (ten-exactly-when mainframe (heldBy a) t w v so-far)
+  ten = rw (refused-by-rows a t (h .sound)) (ten-exactly-when mainframe (heldBy a) t w v so-far)
 
 demand-one : DemandOne
 demand-one =
@@ -218,6 +233,7 @@ demand-one =
       refused-write = refused-write;
       refused-lines = refused-lines;
       refused-areas = refused-areas;
+      accepted = accepted;
       nine = nine;
       ten = ten;
     }
@@ -259,22 +275,11 @@ words-there : 0 < mainframe .words
 unfolding mainframe
 words-there = omega arith
 
--- the answers of `run` behind the opening's
-of-runs : (n : ℕ) (bytes : List ℕ) (a : Areas) → firstRefusal bytes a ≡ 0
-    → ReadsJudged (openingOf (take fileRecordWidth bytes) .counts .processors) (stepsIn n (drop fileRecordWidth bytes)) (drop 1 (runAnswers (suc n) bytes a))
-unfolding runAnswers firstState DemandThree firstRefusal
-of-runs n bytes a e =
-    rw e
-    (demand-three mainframe (openingOf (take fileRecordWidth bytes)) words-there (accepted-opening (take fileRecordWidth bytes) a e) (stepsIn n (drop fileRecordWidth bytes)))
-
 demand-three-holds : DemandThreeHolds
+unfolding DemandThree
 demand-three-holds =
     record {
-      of-lists = λ o e ts. demand-three mainframe o words-there e ts;
-      of-calls = calls-judged;
-      of-outcomes = returned-judged;
-      of-runs = of-runs;
-      of-files = file-judged;
+      judged = lifted (λ c ts answered. ReadsJudged (c .processors) ts answered) (λ o e ts. demand-three mainframe o words-there e ts);
       file-lines = accepted-lines;
     }
 

@@ -1,1 +1,4 @@
+pub mod Lifted
 pub mod Demanded
+pub mod SideBySide
+pub mod Requested

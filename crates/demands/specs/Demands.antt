@@ -5,40 +5,38 @@
 --   `open_mainframe`   openRefusal, areasOpened          `apply`   applyRefusal, pageAfter
 --   `step`             answerOf, areasAfter              `write`   writeRefusal, written, outAfter
 --   `run`              runAnswers, runAreas              `feed`    feedAnswer, feedLines, feedAreas
--- What is demanded of these definitions stands here, in plain words above each field. proofs/Demanded.antt proves all of it.
+-- What is demanded of these definitions stands here, in plain words above each field. proofs/Demanded.antt proves all of it. What the requests of
+-- document 02 claim beyond it stands in Requests.antt.
 -- Assumes nothing.
-use Prim.Native.Nat.{ℕ, suc, _+_, _*_, _≤_, _<_, min}
+use Prim.Native.Nat.{ℕ, _+_, _*_, _≤_, _<_}
 use mathlib.Core.Path.{_≡_}
 use mathlib.Core.Bool.{true, false}
-use mathlib.Core.List.{List, _++_, map}
+use mathlib.Core.List.{List, _++_}
 use mathlib.Core.Logic.{_↔_}
-use lib.ListN.{length, take, drop}
+use lib.ListN.{length, take}
 use Rattle.limits.specs.Limits.{pageWidth, intervalLimit, recordLimit, wordValues}
-use Rattle.limits.specs.Files.{fileRecordWidth, stepLimit}
+use Rattle.limits.specs.Files.{fileRecordWidth}
 use Rattle.diff.specs.Format.{Below, written}
 use Rattle.diff.specs.Reading.{readRefusal, settings, applied}
 use Rattle.diff.specs.Answers.{applyRefusal, applyWords, pageAfter}
 use Rattle.diff_writer.specs.Answers.{writeRefusal, outAfter}
-use Rattle.rules.specs.Demand.{ReadsJudged, DemandThree}
+use Rattle.rules.specs.Demand.{ReadsJudged}
 use Rattle.rules.specs.InOrder.{present, dirtyPages, inOrder}
-use Rattle.rules.specs.Opening.{Opening, openingRefusal, opened}
+use Rattle.rules.specs.Opening.{openingRefusal, opened}
 use Rattle.rules.specs.Refusals.{Step, Write, actionOf, refusedAs, answer, next}
+use Rattle.rules.specs.Rows.{NoRowApplies}
 use Rattle.rules.specs.Runs.{wordsMoved}
 use Rattle.rules.specs.Lines.{waits}
 use Rattle.rules.specs.State.{mainframe, dirtyAt, own, hasArrived}
 use Rattle.rules.specs.Steps.{pageOfWord}
 use Rattle.layout.specs.Areas.{Areas, heldBy, rightSizes}
 use Rattle.opening.specs.Promises.{openingOf, openRefusal, areasOpened}
-use Rattle.step_act.specs.Telling.{told}
-use Rattle.step_act.specs.declared.Outcome.{Outcome}
 use Rattle.engine.specs.Promises.{answerOf, areasAfter}
-use Rattle.engine.specs.Calls.{answersOfCalls, Returned}
-use Rattle.step_record.specs.Records.{stepsIn}
-use Rattle.run_list.specs.Runs.{firstRefusal, runAnswers}
-use Rattle.file_record.specs.Records.{refusalLine}
-use Rattle.stepfile.specs.Files.{answerLines, stepCount, endLine, stepAnswers, fileLines}
+use Rattle.lines.specs.Lines.{refusalLine}
+use Rattle.stepfile.specs.Files.{answerLines, endLine, stepAnswers, fileLines}
 use Rattle.stepfile.specs.Promises.{feedAnswer, feedLines, feedAreas}
 use Rattle.stepfile.specs.declared.Progress.{Progress}
+use Rattle.demands.specs.Answered.{OfAnswers}
 
 -- the areas have their sizes and hold a state in order
 pub record Sound (a : Areas) : Type 0 where
@@ -72,6 +70,8 @@ pub record DemandOne : Type 0 where
   -- a chunk of a file that is not fed leaves the bytes lent for lines and every area as they were
   pub refused-lines : (p : Progress) (chunk out : List ℕ) (a : Areas) → feedAnswer p chunk (length out) a .fed ≡ false → feedLines p chunk out a ≡ out
   pub refused-areas : (p : Progress) (chunk : List ℕ) (room : ℕ) (a : Areas) → feedAnswer p chunk room a .fed ≡ false → feedAreas p chunk room a ≡ a
+  -- "the first that applies is given, and only then": a step is accepted exactly when the areas are in order and no other row of the table applies
+  pub accepted : (a : Areas) (t : Step) → answerOf a t .refusal ≡ 0 ↔ (Sound a × NoRowApplies mainframe (heldBy a) t)
   -- 9 exactly when the page is clean and the processor has made all its intervals
   pub nine : (a : Areas) (t : Step) (w v : ℕ) → WriteComes a t w v
       → answerOf a t .refusal ≡ 9
@@ -119,21 +119,9 @@ pub record DemandTwo : Type 0 where
 -- ---- demand 3: "For every list of steps from an accepted opening: happens-before-1, made from the accepted steps alone, judges every accepted read"
 
 pub record DemandThreeHolds : Type 0 where
-  -- of every list of steps by the rules
-  pub of-lists : (o : Opening) → openingRefusal mainframe o ≡ 0 → (ts : List Step) → DemandThree mainframe (o .counts) ts
-  -- of every list of calls of `step`, with any fields, on areas that an accepted opening left and that nobody else writes
-  pub of-calls : (bytes : List ℕ) (a : Areas) → openRefusal bytes a ≡ 0 → (ts : List Step)
-      → ReadsJudged (openingOf bytes .counts .processors) ts (answersOfCalls (areasOpened bytes a) ts)
-  -- and of the outcomes that calls which keep their contract have returned
-  pub of-outcomes : (bytes : List ℕ) (a : Areas) → openRefusal bytes a ≡ 0 → (ts : List Step) (os : List Outcome) → Returned (areasOpened bytes a) ts os
-      → ReadsJudged (openingOf bytes .counts .processors) ts (map told os)
-  -- of the answers of `run` over an opening and n records behind it
-  pub of-runs : (n : ℕ) (bytes : List ℕ) (a : Areas) → firstRefusal bytes a ≡ 0
-      → ReadsJudged (openingOf (take fileRecordWidth bytes) .counts .processors) (stepsIn n (drop fileRecordWidth bytes)) (drop 1 (runAnswers (suc n) bytes a))
-  -- of every file whose opening is accepted: of the answers that its lines print
-  pub of-files : (file : List ℕ) → fileRecordWidth ≤ length file → openingRefusal mainframe (openingOf (take fileRecordWidth file)) ≡ 0
-      → ReadsJudged (openingOf (take fileRecordWidth file) .counts .processors) (stepsIn (min (stepCount file) stepLimit) (drop fileRecordWidth file))
-      (stepAnswers file)
+  -- of every list of steps by the rules, of every list of calls of `step`, of `run` and of every file
+  pub judged : OfAnswers (λ c ts answered. ReadsJudged (c .processors) ts answered)
+  -- and the answers of a file are those that its lines print
   pub file-lines : (file : List ℕ) → fileRecordWidth ≤ length file → openingRefusal mainframe (openingOf (take fileRecordWidth file)) ≡ 0
       → fileLines file
       ≡ refusalLine 0 0 ++ (answerLines 1 (stepAnswers file) ++ endLine file (wordsMoved (stepAnswers file)))

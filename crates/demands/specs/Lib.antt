@@ -1,1 +1,4 @@
+pub mod Answered
 pub mod Demands
+pub mod SideBySide
+pub mod Requests

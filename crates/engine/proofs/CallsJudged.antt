@@ -50,7 +50,7 @@ calls-leave s (t ∷ ts) h =
     ap (λ (b : Areas). areasAfterCalls b ts) (carried-after s h t) ∙ calls-leave (next mainframe s t) ts (next-carried s t h)
 
 -- what the calls returned tells what they answer
-returned-tells : (a : Areas) (ts : List Step) (os : List Outcome) → Returned a ts os → map told os ≡ answersOfCalls a ts
+pub returned-tells : (a : Areas) (ts : List Step) (os : List Outcome) → Returned a ts os → map told os ≡ answersOfCalls a ts
 unfolding Returned answersOfCalls
 returned-tells a [] [] h = refl
 returned-tells a [] (o ∷ os) h = absurd h

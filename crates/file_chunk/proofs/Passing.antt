@@ -6,41 +6,18 @@ use mathlib.Core.Path.{_∙_, _≡_, ap, refl, sym}
 use mathlib.Core.Bool.{false, true, true≢false}
 use mathlib.Core.List.{List}
 use lib.ListN.{drop, length, length-drop, take}
-use lib.Seq.{drop-drop}
 use borrow.Author.Needs.{needs}
 use Rattle.limits.specs.Files.{fileRecordWidth, lineLimit}
 use Rattle.layout.specs.Areas.{areas}
 use Rattle.lines.specs.inner.Needed.{Room}
 use Rattle.file_record.specs.Records.{Feed, openingTaken, recordTaken}
 use Rattle.file_record.specs.declared.Stand.{Stand}
-use Rattle.file_record.specs.inner.Needed.{RestKept, StoppedAt, Takeable, RecordTaken, standsAt}
+use Rattle.file_record.specs.inner.Needed.{StoppedAt, Takeable, RecordTaken, standsAt}
+use Rattle.file_lines.proofs.Placing.{rest-kept-all, rest-kept-again}
 use Rattle.file_chunk.specs.Bytes.{bytesTaken}
 use Rattle.file_chunk.specs.inner.Needed.{FirstTaken, LastPassable, LastTaken, Passable, AllPassed, Passing, StepsTaken}
 use Rattle.file_chunk.proofs.Bytes.{eight-taken}
 use Rattle.file_chunk.proofs.Records.{opening-record, too-many-record}
-
--- ---- what is written stays
-
--- nothing is written yet
-pub rest-kept-all : (out : List ℕ) (at : ℕ) → at ≤ length out → RestKept out at out at
-rest-kept-all out at h = record { on = omega arith; within = h; long = refl; rest = refl }
-
--- written twice
-pub rest-kept-again : (out : List ℕ) (at : ℕ) (out₁ : List ℕ) (at₁ : ℕ) (out₂ : List ℕ) (at₂ : ℕ) → RestKept out at out₁ at₁ → RestKept out₁ at₁ out₂ at₂ → RestKept out at out₂ at₂
-rest-kept-again out at out₁ at₁ out₂ at₂ h k =
-    record {
-      on = omega (arith, h .on, k .on);
-      within = omega (arith, k .within, h .long);
-      long = k .long ∙ h .long;
-      rest = k .rest ∙ further;
-    }
-  where
-    further : drop at₂ out₁ ≡ drop at₂ out
-    further =
-        let e : at₁ + (at₂ - at₁) ≡ at₂ = omega (arith, k .on) in
-        ap (λ (n : ℕ). drop n out₁) (sym e) ∙ sym (drop-drop (at₂ - at₁) at₁ out₁)
-        ∙ ap (λ (l : List ℕ). drop (at₂ - at₁) l) (h .rest)
-        ∙ drop-drop (at₂ - at₁) at₁ out ∙ ap (λ (n : ℕ). drop n out) e
 
 -- ---- records taken
 

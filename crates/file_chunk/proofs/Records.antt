@@ -6,7 +6,6 @@ use mathlib.Core.Path.{_∙_, _≡_, ap, refl, sym}
 use mathlib.Core.Bool.{Bool, false, true}
 use mathlib.Core.List.{List, _++_}
 use lib.ListN.{drop, take}
-use lib.Seq.{getD-take}
 use borrow.Author.Tests.{eq-eqb, le-leb, lt-leb, ne-eqb}
 use Rattle.limits.specs.Files.{fileRecordWidth, stepLimit}
 use Rattle.limits.specs.Limits.{wordValues}
@@ -21,11 +20,13 @@ use Rattle.engine.specs.Promises.{answerOf, areasAfter}
 use Rattle.engine.specs.inner.Needed.{SteppedAs}
 use Rattle.engine.proofs.Answering.{in-order-after, in-order-answered, out-of-order, out-of-order-untouched, ready-when-fine}
 use Rattle.engine.proofs.Stepping.{stepped-ready}
-use Rattle.step_record.specs.Records.{stepFrom}
-use Rattle.lines.specs.Lines.{lineBytes}
-use Rattle.file_record.specs.Records.{openingTaken, recordTaken, refusalLine, stepTaken, tooManyTaken}
+use Rattle.step_fields.specs.Records.{stepFrom}
+use Rattle.step_fields.proofs.Reading.{step-of-eight}
+use Rattle.lines.specs.Lines.{lineBytes, refusalLine}
+use Rattle.file_record.specs.Records.{openingTaken, recordTaken, stepTaken, tooManyTaken}
 use Rattle.file_record.specs.declared.Stand.{Stand}
-use Rattle.file_record.specs.inner.Needed.{LinePut, StoppedAt, Takeable, RecordTaken, WordsAdded, outcomeLine, standsAt}
+use Rattle.file_lines.specs.inner.Needed.{LinePut}
+use Rattle.file_record.specs.inner.Needed.{StoppedAt, Takeable, RecordTaken, WordsAdded, outcomeLine, standsAt}
 use Rattle.file_record.proofs.Taking.{ready-order, stands}
 
 -- ---- the answer of a step
@@ -54,12 +55,6 @@ module _ (t : Step) (c w r m : List ℕ) where
         left = in-order-after c w r m true h refl t o c′ w′ r′ m′ d;
         order = ready-order c′ w′ r′ m′ (stepped-ready c w r m t o c′ w′ r′ m′ (ready-when-fine c w r m true h refl) d);
       }
-
--- the step of a record is that of its eight bytes
-pub step-of-eight : (bytes : List ℕ) → stepFrom (take fileRecordWidth bytes) ≡ stepFrom bytes
-unfolding stepFrom
-step-of-eight bytes =
-    rw (getD-take fileRecordWidth bytes 0 0 (omega arith), getD-take fileRecordWidth bytes 1 0 (omega arith), getD-take fileRecordWidth bytes 2 0 (omega arith), getD-take fileRecordWidth bytes 3 0 (omega arith), getD-take fileRecordWidth bytes 4 0 (omega arith), getD-take fileRecordWidth bytes 5 0 (omega arith), getD-take fileRecordWidth bytes 6 0 (omega arith), getD-take fileRecordWidth bytes 7 0 (omega arith))
 
 -- ---- which record it is
 

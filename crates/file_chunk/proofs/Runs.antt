@@ -21,12 +21,13 @@ use Rattle.step_act.specs.declared.Outcome.{Outcome}
 use Rattle.step_act.specs.declared.Outcome.the-variants.{Refused}
 use Rattle.engine.specs.inner.Needed.{SteppedKept}
 use Rattle.engine.proofs.Answering.{ready-when-fine}
-use Rattle.step_record.specs.Records.{stepFrom}
+use Rattle.step_fields.specs.Records.{stepFrom}
 use Rattle.step_record.specs.inner.Needed.{StepThere}
 use Rattle.lines.specs.Lines.{lineBytes}
 use Rattle.lines.specs.inner.Needed.{Countable, Counted, Room}
 use Rattle.file_record.specs.declared.Stand.{Stand}
-use Rattle.file_record.specs.inner.Needed.{LinePut, TotalThere, WordsAdded, outcomeLine, standsAt, Ahead, AllAhead}
+use Rattle.file_lines.specs.inner.Needed.{LinePut, Ahead, AllAhead}
+use Rattle.file_record.specs.inner.Needed.{TotalThere, WordsAdded, outcomeLine, standsAt}
 use Rattle.file_chunk.specs.Bytes.{bytesTaken}
 use Rattle.file_chunk.specs.inner.Needed.{Passing, RoomForSteps, Runnable, StepsPassable, StepsRefused, StepsTaken}
 use Rattle.file_chunk.proofs.Passing.{passing-begins, passing-on, passing-one}

@@ -117,7 +117,7 @@ fn take_run(
     if stand.number == 0 {
         return Passed { stand, next: from };
     }
-    let end = file_record::run_end(stand.number, from, chunk.len());
+    let end = file_lines::run_end(stand.number, from, chunk.len());
     if !stand.ready {
         return refuse_steps(stand, from, end, lines);
     }
@@ -186,7 +186,7 @@ fn refuse_steps(stand: Stand, from: usize, end: usize, lines: &mut [u8]) -> Pass
     let mut at = stand.at;
     let mut i = from;
     while i < end {
-        at = file_record::put_record_line(lines, at, number, 1, 0, 0);
+        at = file_lines::put_record_line(lines, at, number, 1, 0, 0);
         number = number + 1;
         i = i + FILE_RECORD_WIDTH;
     }

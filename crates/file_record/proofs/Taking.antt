@@ -1,11 +1,10 @@
--- A line behind those before it, and the opening taken. One law for each way of the code, and `taking-laws`. Assumes nothing.
+-- The line of a step's outcome, and the opening taken. One law for each way of the code, and `taking-laws`. Assumes nothing.
 use Prim.Native.Nat.{_+_, _-_, _≤_, ℕ}
 use native.Mathlib.Omega.{arith}
 use mathlib.Core.Path.{_∙_, _≡_, ap, refl, sym}
 use mathlib.Core.Bool.{Bool, _&&_, false, not, true}
 use mathlib.Core.List.{List, [], _++_}
-use lib.ListN.{drop, length, length-append, take}
-use lib.Seq.{drop-at, length-sets, length-take-le, sets, sets-eq, take-at}
+use lib.ListN.{drop, take}
 use lib.Dec.{eqb}
 use mir.Syntax.{w32, w64}
 use mir.Val.{Fits}
@@ -25,48 +24,14 @@ use Rattle.opening.proofs.Following.{opened-ready}
 use Rattle.step_act.specs.Telling.{outcomeCount, outcomeRefusal, outcomeValue, outcomeWords, told}
 use Rattle.step_act.specs.declared.Outcome.{Outcome}
 use Rattle.step_act.specs.declared.Outcome.the-variants.{Done, Refused}
-use Rattle.lines.specs.Lines.{lineBytes, wordsLine}
+use Rattle.lines.specs.Lines.{lineBytes, refusalLine}
 use Rattle.lines.specs.inner.Needed.{Room}
-use Rattle.lines.proofs.Lines.{at-most-44-bytes, length-words-line}
-use Rattle.file_record.specs.Records.{openingTaken, refusalLine}
+use Rattle.file_record.specs.Records.{openingTaken}
 use Rattle.file_record.specs.declared.Stand.{Stand}
-use Rattle.file_record.specs.inner.Needed.{RestKept, LinePut, OpenedAs, Takeable, RecordTaken, TotalThere, WordsAdded, outcomeLine, standsAt}
+use Rattle.file_lines.specs.inner.Needed.{LinePut}
+use Rattle.file_record.specs.inner.Needed.{OpenedAs, Takeable, RecordTaken, TotalThere, WordsAdded, outcomeLine, standsAt}
 
--- ---- a line behind those before it
-
-module _ (out : List ℕ) (at : ℕ) (line : List ℕ) (h : at + length line ≤ length out) where
-  front-long : length (take at out ++ line) ≡ at + length line
-  front-long = length-append (take at out) line ∙ omega (arith, length-take-le at out (omega (arith, h)))
-
-  line-kept : RestKept out at (sets out at line) (at + length line)
-  line-kept =
-      record {
-        on = omega arith;
-        within = h;
-        long = length-sets out at line;
-        rest =
-            ap (λ (l : List ℕ). drop (at + length line) l) (sets-eq line out at h)
-            ∙ drop-at (take at out ++ line) (drop (at + length line) out) (at + length line) front-long;
-      }
-
-  line-behind : take (at + length line) (sets out at line) ≡ take at out ++ line
-  line-behind =
-      ap (λ (l : List ℕ). take (at + length line) l) (sets-eq line out at h)
-      ∙ take-at (take at out ++ line) (drop (at + length line) out) (at + length line) front-long
-
--- a line stored from a place on
-pub line-put : (out : List ℕ) (at n f v k : ℕ) (out′ : List ℕ) (end : ℕ) → Room out at lineLimit → Fits w32 n → Fits w32 f → Fits w32 v → Fits w32 k
-    → end ≡ at + length (lineBytes n f v k) → out′ ≡ sets out at (lineBytes n f v k)
-    → LinePut out at (lineBytes n f v k) out′ end
-line-put out at n f v k out′ end room fn ff fv fk e s =
-    let short = at-most-44-bytes n f v k (fn .fits) (ff .fits) (fv .fits) (fk .fits) in
-    let fits : at + length (lineBytes n f v k) ≤ length out = omega (arith, short, room .room) in
-    rw (e, s)
-    (record {
-      kept = line-kept out at (lineBytes n f v k) fits;
-      near = omega (arith, short);
-      lines = line-behind out at (lineBytes n f v k) fits;
-    })
+-- ---- the line of an outcome
 
 module _ (out : List ℕ) (at number : ℕ) (out′ : List ℕ) (end : ℕ) where
   -- the line of a step that was done
@@ -80,14 +45,6 @@ module _ (out : List ℕ) (at number : ℕ) (out′ : List ℕ) (end : ℕ) wher
       → LinePut out at (outcomeLine number o) out′ end
   unfolding outcomeLine told outcomeRefusal outcomeValue outcomeCount
   refused-line o refusal n e f h = rw (e, ← f .0) h
-
--- the last line stored from a place on
-pub last-line-put : (out : List ℕ) (at n : ℕ) (out′ : List ℕ) (end : ℕ) → Room out at lineLimit → Fits w64 n
-    → end ≡ at + length (wordsLine n) → out′ ≡ sets out at (wordsLine n) → LinePut out at (wordsLine n) out′ end
-last-line-put out at n out′ end room fn e s =
-    let short = length-words-line n (fn .fits) in
-    let fits : at + length (wordsLine n) ≤ length out = omega (arith, short, room .room) in
-    rw (e, s) (record { kept = line-kept out at (wordsLine n) fits; near = omega (arith, short); lines = line-behind out at (wordsLine n) fits })
 
 -- ---- the words of a step
 
@@ -197,4 +154,4 @@ opened-as bytes from c w r m n c′ w′ r′ m′ e f =
       laid = f ∙ ap (λ (j : ℕ). areasOpened (take j (drop from bytes)) (areas c w r m)) k;
     }
 
-pub ruleset taking-laws = (line-put, done-line, refused-line, last-line-put, words-done, words-refused, total-fits, words-added, refused-opening-taken, accepted-opening-taken, room-for-line, opened-as, needs)
+pub ruleset taking-laws = (done-line, refused-line, words-done, words-refused, total-fits, words-added, refused-opening-taken, accepted-opening-taken, room-for-line, opened-as, needs)

@@ -7,12 +7,8 @@ use Rattle.limits.specs.Files.{stepLimit}
 use Rattle.layout.specs.Areas.{Areas}
 use Rattle.opening.specs.Promises.{openRefusal, areasOpened}
 use Rattle.engine.specs.Promises.{answerOf, areasAfter}
-use Rattle.step_record.specs.Records.{stepFrom}
-use Rattle.lines.specs.Lines.{lineBytes}
-
--- the line of record n with a refusal (0 for an accepted opening): "Value 0, count 0"
-unfoldable pub refusalLine : ℕ → ℕ → List ℕ
-refusalLine n refusal = lineBytes n refusal 0 0
+use Rattle.step_fields.specs.Records.{stepFrom}
+use Rattle.lines.specs.Lines.{lineBytes, refusalLine}
 
 -- what stands after some bytes of a file
 pub record Feed : Type 0 where

@@ -3,14 +3,12 @@ ghost use mathlib.Core.Path.{_≡_};
 ghost use Prim.Native.Nat.{_+_, _≤_};
 ghost use lib.ListN.{length, take, drop};
 ghost use Rattle.limits.specs.Files.{fileRecordWidth, lineLimit};
-ghost use Rattle.limits.specs.inner.Sizes.{fileRecordLimit};
 ghost use Rattle.layout.specs.Areas.{areas};
 ghost use Rattle.step_act.specs.Telling.{told};
-ghost use Rattle.lines.specs.Lines.{lineBytes, wordsLine};
 ghost use Rattle.lines.specs.inner.Needed.{Room, Counted};
 ghost use Rattle.file_record.specs.Records.{openingTaken};
-ghost use Rattle.file_record.specs.inner.Needed.{LinePut, outcomeLine, standsAt, Takeable, StoppedAt, RecordTaken, TotalThere, WordsAdded, OpenedAs, AllAhead};
-use limits::FILE_RECORD_LIMIT;
+ghost use Rattle.file_lines.specs.inner.Needed.{LinePut};
+ghost use Rattle.file_record.specs.inner.Needed.{outcomeLine, standsAt, Takeable, StoppedAt, RecordTaken, TotalThere, WordsAdded, OpenedAs};
 use limits::FILE_RECORD_WIDTH;
 use step_act::Outcome;
 
@@ -39,7 +37,7 @@ pub fn take_opening(
     ensures { λ r. ⌜ RecordTaken (openingTaken (standsAt stand (now (lines .entry)) (areas (now (clocks .entry)) (now (words .entry)) (now (records .entry)) (now (marks .entry)))) (take fileRecordWidth (drop from (now (bytes .entry))))) stand (now (lines .entry)) r (now (lines .exit)) (now (clocks .exit)) (now (words .exit)) (now (records .exit)) (now (marks .exit)) ⌝ }
 {
     let refusal = open_at(bytes, from, clocks, words, records, marks);
-    let at = put_record_line(lines, stand.at, 0, wide(refusal), 0, 0);
+    let at = file_lines::put_record_line(lines, stand.at, 0, wide(refusal), 0, 0);
     let number = 1;
     if refusal != 0 {
         return Stand {
@@ -64,7 +62,7 @@ pub fn too_many(stand: Stand, lines: &mut [u8]) -> Stand
     requires { ⌜ Room (now lines) (stand .at) lineLimit ⌝ }
     ensures { λ r. ⌜ StoppedAt stand (now (lines .entry)) r (now (lines .exit)) ⌝ }
 {
-    let at = put_record_line(lines, stand.at, stand.number, 16, 0, 0);
+    let at = file_lines::put_record_line(lines, stand.at, stand.number, 16, 0, 0);
     Stand {
         number: stand.number,
         stopped: true,
@@ -92,8 +90,17 @@ pub fn put_next(
             value,
             count,
             words: _,
-        } => put_counted(out, at, digits, len, number, 0, value, count),
-        Outcome::Refused(refusal) => put_counted(out, at, digits, len, number, wide(refusal), 0, 0),
+        } => file_lines::put_counted_line(out, at, digits, len, number, 0, value, count),
+        Outcome::Refused(refusal) => file_lines::put_counted_line(
+            out,
+            at,
+            digits,
+            len,
+            number,
+            wide(refusal),
+            0,
+            0,
+        ),
     }
 }
 
@@ -120,29 +127,6 @@ fn words_of(outcome: Outcome) -> u32
     }
 }
 
-// Writes the last line of a run, how many words have moved, from a place on, and says the place behind it.
-pub fn put_last_line(out: &mut [u8], at: usize, words: u64) -> usize
-    requires { ⌜ Room (now out) at lineLimit ⌝ }
-    ensures { λ r. ⌜ LinePut (now (out .entry)) at (wordsLine words) (now (out .exit)) r ⌝ }
-{
-    lines::put_words_line(out, at, words)
-}
-
-// Writes a line from a place on, and says the place behind it. `LinePut` says so in one record, by which lines are put behind one another.
-pub fn put_record_line(
-    out: &mut [u8],
-    at: usize,
-    number: u32,
-    refusal: u32,
-    value: u32,
-    count: u32,
-) -> usize
-    requires { ⌜ Room (now out) at lineLimit ⌝ }
-    ensures { λ r. ⌜ LinePut (now (out .entry)) at (lineBytes number refusal value count) (now (out .exit)) r ⌝ }
-{
-    lines::put_line(out, at, number, refusal, value, count)
-}
-
 // Opens a mainframe by the eight bytes from a place on.
 fn open_at(
     bytes: &[u8],
@@ -159,39 +143,8 @@ fn open_at(
     opening::open_mainframe(&bytes[from..end], clocks, words, records, marks)
 }
 
-// Writes a line from a place on where the digits of its number are at hand, and says the place behind it.
-fn put_counted(
-    out: &mut [u8],
-    at: usize,
-    digits: [u8; 8],
-    len: usize,
-    number: u32,
-    refusal: u32,
-    value: u32,
-    count: u32,
-) -> usize
-    requires { ⌜ Room (now out) at lineLimit ⌝ }
-    requires { ⌜ Counted digits len number ⌝ }
-    ensures { λ r. ⌜ LinePut (now (out .entry)) at (lineBytes number refusal value count) (now (out .exit)) r ⌝ }
-{
-    lines::put_counted(out, at, digits, len, number, refusal, value, count)
-}
-
 fn wide(x: u8) -> u32
     ensures { λ r. ⌜ (r ≡ x) × (r ≤ 255) ⌝ }
 {
     x as u32
-}
-
-// The place behind the steps from a place on: behind the last record that lies whole in a chunk of so many bytes, or the 1,000,000th step.
-pub fn run_end(number: u32, from: usize, chunk: usize) -> usize
-    requires { ⌜ (number ≤ fileRecordLimit) × (from ≤ chunk) ⌝ }
-    ensures { λ r. ⌜ AllAhead number from r chunk ⌝ }
-{
-    let whole = (chunk - from) / FILE_RECORD_WIDTH;
-    let numbers = (FILE_RECORD_LIMIT - number) as usize;
-    if whole < numbers {
-        return from + FILE_RECORD_WIDTH * whole;
-    }
-    from + FILE_RECORD_WIDTH * numbers
 }

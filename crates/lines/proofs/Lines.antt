@@ -6,7 +6,7 @@ use mathlib.Core.List.{[], _∷_, _++_, append-assoc}
 use lib.ListN.{length, length-append}
 use Rattle.limits.specs.Files.{lineLimit}
 use Rattle.lines.specs.Decimal.{digitsWithin, digits}
-use Rattle.lines.specs.Lines.{lineBytes, wordsLine}
+use Rattle.lines.specs.Lines.{lineBytes, wordsLine, mostLine}
 use Rattle.lines.specs.inner.Needed.{fieldBytes, halfBytes}
 use Rattle.lines.proofs.Digits.{at-most-ten-digits, at-most-twenty-digits}
 
@@ -25,6 +25,11 @@ length-line number refusal value count = simp length-append (omega arith)
 pub length-words-line : (n : ℕ) → n < 18446744073709551616 → length (wordsLine n) ≤ lineLimit
 unfolding wordsLine
 length-words-line n h = omega (arith, length-append (digits n) (10 ∷ []), at-most-twenty-digits n h)
+
+-- so does the line of the most that stands
+pub length-most-line : (n : ℕ) → n < 2 ^ 32 → length (mostLine n) ≤ lineLimit
+unfolding mostLine
+length-most-line n h = omega (arith, length-append (digits n) (10 ∷ []), at-most-ten-digits n h)
 
 -- a line of numbers of 32 bits has at most 44 bytes
 pub at-most-44-bytes : (number refusal value count : ℕ) → number < 2 ^ 32 → refusal < 2 ^ 32 → value < 2 ^ 32 → count < 2 ^ 32

@@ -1,18 +1,19 @@
--- The last line, the words that a run moved: how many digits a total of 64 bits has, its digits stored one by one, and the line around
--- them. One law for each way of the code, and `total-laws`. Rests on Digits, Lines and Writing. Assumes nothing.
+-- The last lines: a text, and a total of 64 bits behind it; how many digits it has, and its digits stored one by one. One law for each way of the code, and `total-laws`. Rests on Digits, Lines and Writing. Assumes nothing.
 use Prim.Native.Nat.{ℕ, suc, _+_, _-_, _/_, _%_, _≤_, _<_}
 use native.Mathlib.Omega.{arith}
 use mathlib.Core.Path.{_≡_, refl, sym, ap, _∙_}
 use mathlib.Core.List.{List, [], _∷_, _++_}
-use lib.ListN.{length, set, length-append, length-set}
-use lib.Seq.{sets}
+use native.Mathlib.Nat.{add-zero}
+use native.Mathlib.Numerals.{add-one}
+use lib.ListN.{length, getD, set, drop, length-append, length-set, drop-of-length-le}
+use lib.Seq.{sets, drop-cons}
 use mir.Syntax.{w64}
 use mir.Val.{Fits}
 use borrow.Author.Needs.{needs}
 use Rattle.lists.proofs.Stores.{sets-append, sets-last-first}
 use Rattle.limits.specs.Files.{lineLimit}
 use Rattle.lines.specs.Decimal.{digits}
-use Rattle.lines.specs.Lines.{wordsLine}
+use Rattle.lines.specs.Lines.{wordsLine, mostLine}
 use Rattle.lines.specs.inner.Needed.{Room, DigitsFit, fieldBytes}
 use Rattle.lines.proofs.Digits.{digits-one, digits-more, length-more, some-digit, at-most-twenty-digits}
 use Rattle.lines.proofs.Writing.{Storing, storing-begins, room-for-first-digit, first-digit-stored, sets-keep-length}
@@ -98,49 +99,75 @@ module _ (out out′ : List ℕ) (at total len : ℕ) (s : out′ ≡ sets out a
   pub total-keeps-length : (k v : ℕ) → length (set out′ k v) ≡ length out
   total-keeps-length k v = length-set out′ k v ∙ sets-keep-length out out′ at (digits total) s
 
--- ---- the line
+-- ---- a text, and a total behind it
 
-module _ (out : List ℕ) (at : ℕ) where
-  -- "words" and a space, stored byte by byte
-  six-stored : (a b c d e : ℕ) → a ≡ suc at → b ≡ suc a → c ≡ suc b → d ≡ suc c → e ≡ suc d
-      → set (set (set (set (set (set out at 119) a 111) b 114) c 100) d 115) e 32 ≡ sets out at (119 ∷ 111 ∷ 114 ∷ 100 ∷ 115 ∷ 32 ∷ [])
-  six-stored a b c d e ea eb ec ed ee = cc
+-- the first i bytes of a text are stored
+pub record Texting (out₀ out text : List ℕ) (at i : ℕ) : Type 0 where
+  pub upto : i ≤ length text
+  pub room : at + length text ≤ length out
+  pub as-long : length out ≡ length out₀
+  pub same : sets out (at + i) (drop i text) ≡ sets out₀ at text
 
-  -- that is the same as stored at once
-  word-stored : set (set (set (set (set (set out at 119) (at + 1) 111) (at + 2) 114) (at + 3) 100) (at + 4) 115) (at + 5) 32
-      ≡ sets out at (119 ∷ 111 ∷ 114 ∷ 100 ∷ 115 ∷ 32 ∷ [])
-  word-stored = six-stored (at + 1) (at + 2) (at + 3) (at + 4) (at + 5) (omega arith) (omega arith) (omega arith) (omega arith) (omega arith)
+pub texting-begins : (out text : List ℕ) (at : ℕ) → Room out at (length text) → Texting out out text at 0
+texting-begins out text at p = record { upto = omega arith; room = p .room; as-long = refl; same = rw (add-zero at) }
 
-  -- the total has room behind the word
-  pub room-for-total : Room out at lineLimit
-      → Room (set (set (set (set (set (set out at 119) (at + 1) 111) (at + 2) 114) (at + 3) 100) (at + 4) 115) (at + 5) 32) (at + 6) 21
-  room-for-total p = record { room = simp length-set (omega (arith, p .room)) }
+module _ (out₀ out text : List ℕ) (at i : ℕ) (p : Texting out₀ out text at i) where
+  pub text-place : i < length text → at + i < length out
+  text-place h = omega (arith, h, p .room)
+
+  pub texting-more : i < length text → Texting out₀ (set out (at + i) (getD text i 0)) text at (i + 1)
+  texting-more h =
+      record {
+        upto = omega (arith, h);
+        room = omega (arith, p .room, length-set out (at + i) (getD text i 0));
+        as-long = length-set out (at + i) (getD text i 0) ∙ p .as-long;
+        same =
+            ap (λ (k : ℕ). sets (set out (at + i) (getD text i 0)) k (drop (i + 1) text)) (omega arith)
+            ∙ ap (λ (k : ℕ). sets (set out (at + i) (getD text i 0)) (suc (at + i)) (drop k text)) (add-one i)
+            ∙ sym (ap (λ (l : List ℕ). sets out (at + i) l) (drop-cons text i 0 h))
+            ∙ p .same;
+      }
+
+  pub texted : length text ≤ i → out ≡ sets out₀ at text
+  texted h = sym (ap (λ (l : List ℕ). sets out (at + i) l) (drop-of-length-le text {i = i} h)) ∙ p .same
+
+module _ (out : List ℕ) (at : ℕ) (text : List ℕ) (out₁ : List ℕ) (stored : out₁ ≡ sets out at text) where
+  -- the total has room behind the text
+  pub room-for-total : (n : ℕ) → Room out at lineLimit → n + 21 ≤ lineLimit → Room out₁ (at + n) 21
+  room-for-total n p h = record { room = omega (arith, p .room, h, sets-keep-length out out₁ at text stored) }
 
   -- the memory is as long as before
-  pub words-line-keeps-length : (out′ vs : List ℕ) (k : ℕ) → out′ ≡ sets (set (set (set (set (set (set out at 119) (at + 1) 111) (at + 2) 114) (at + 3) 100) (at + 4) 115) (at + 5) 32) k vs
-      → length out′ ≡ length out
-  words-line-keeps-length out′ vs k e =
-      sets-keep-length (set (set (set (set (set (set out at 119) (at + 1) 111) (at + 2) 114) (at + 3) 100) (at + 4) 115) (at + 5) 32) out′ k vs e ∙ simp length-set
+  pub text-keeps-length : (out′ vs : List ℕ) (k : ℕ) → out′ ≡ sets out₁ k vs → length out′ ≡ length out
+  text-keeps-length out′ vs k e = sets-keep-length out₁ out′ k vs e ∙ sets-keep-length out out₁ at text stored
 
-  module _ (total : ℕ) where
-    -- the line is the word and the total
-    word-and-total : (119 ∷ 111 ∷ 114 ∷ 100 ∷ 115 ∷ 32 ∷ []) ++ fieldBytes total 10 ≡ wordsLine total
-    unfolding fieldBytes wordsLine
-    word-and-total = refl
+  -- the text and the total behind it
+  line-stored : (total : ℕ) (line out′ : List ℕ) → text ++ fieldBytes total 10 ≡ line → out′ ≡ sets out₁ (at + length text) (fieldBytes total 10) → out′ ≡ sets out at line
+  line-stored total line out′ whole e =
+      e ∙ ap (λ (l : List ℕ). sets l (at + length text) (fieldBytes total 10)) stored
+      ∙ sym (sets-append out at text (fieldBytes total 10))
+      ∙ ap (λ (l : List ℕ). sets out at l) whole
 
-    -- the place behind the line
-    pub words-line-end : (end : ℕ) → end ≡ at + 6 + length (fieldBytes total 10) → end ≡ at + length (wordsLine total)
-    words-line-end end e =
-        omega (arith, ap length word-and-total, length-append (119 ∷ 111 ∷ 114 ∷ 100 ∷ 115 ∷ 32 ∷ []) (fieldBytes total 10))
+-- "words", a space and the total
+words-whole : (total : ℕ) → (119 ∷ 111 ∷ 114 ∷ 100 ∷ 115 ∷ 32 ∷ []) ++ fieldBytes total 10 ≡ wordsLine total
+unfolding fieldBytes wordsLine
+words-whole total = refl
 
-    -- the line is stored
-    pub words-line-stored : (out′ : List ℕ)
-        → out′ ≡ sets (set (set (set (set (set (set out at 119) (at + 1) 111) (at + 2) 114) (at + 3) 100) (at + 4) 115) (at + 5) 32) (at + 6) (fieldBytes total 10)
-        → out′ ≡ sets out at (wordsLine total)
-    words-line-stored out′ e =
-        e
-        ∙ ap (λ (l : List ℕ). sets l (at + 6) (fieldBytes total 10)) word-stored
-        ∙ sym (sets-append out at (119 ∷ 111 ∷ 114 ∷ 100 ∷ 115 ∷ 32 ∷ []) (fieldBytes total 10))
-        ∙ ap (λ (l : List ℕ). sets out at l) word-and-total
+-- "most", a space and the largest sum
+most-whole : (most : ℕ) → (109 ∷ 111 ∷ 115 ∷ 116 ∷ 32 ∷ []) ++ fieldBytes most 10 ≡ mostLine most
+unfolding fieldBytes mostLine
+most-whole most = refl
 
-pub ruleset total-laws = (widening-begins, width-stays-small, widening-more, widened, storing-begins, digit-before, room-for-digit, storing-digit, room-for-first-digit, first-digit-stored, room-for-total-digits, total-end, total-stored, room-for-line-end, total-keeps-length, room-for-total, words-line-keeps-length, words-line-end, words-line-stored, sets-keep-length, needs)
+module _ (out : List ℕ) (at total : ℕ) (out₁ out′ : List ℕ) where
+  pub words-line-end : (end : ℕ) → end ≡ at + 6 + length (fieldBytes total 10) → end ≡ at + length (wordsLine total)
+  words-line-end end e = omega (arith, ap length (words-whole total), length-append (119 ∷ 111 ∷ 114 ∷ 100 ∷ 115 ∷ 32 ∷ []) (fieldBytes total 10))
+
+  pub words-line-stored : out₁ ≡ sets out at (119 ∷ 111 ∷ 114 ∷ 100 ∷ 115 ∷ 32 ∷ []) → out′ ≡ sets out₁ (at + 6) (fieldBytes total 10) → out′ ≡ sets out at (wordsLine total)
+  words-line-stored s e = line-stored out at (119 ∷ 111 ∷ 114 ∷ 100 ∷ 115 ∷ 32 ∷ []) out₁ s total (wordsLine total) out′ (words-whole total) e
+
+  pub most-line-end : (end : ℕ) → end ≡ at + 5 + length (fieldBytes total 10) → end ≡ at + length (mostLine total)
+  most-line-end end e = omega (arith, ap length (most-whole total), length-append (109 ∷ 111 ∷ 115 ∷ 116 ∷ 32 ∷ []) (fieldBytes total 10))
+
+  pub most-line-stored : out₁ ≡ sets out at (109 ∷ 111 ∷ 115 ∷ 116 ∷ 32 ∷ []) → out′ ≡ sets out₁ (at + 5) (fieldBytes total 10) → out′ ≡ sets out at (mostLine total)
+  most-line-stored s e = line-stored out at (109 ∷ 111 ∷ 115 ∷ 116 ∷ 32 ∷ []) out₁ s total (mostLine total) out′ (most-whole total) e
+
+pub ruleset total-laws = (widening-begins, width-stays-small, widening-more, widened, storing-begins, digit-before, room-for-digit, storing-digit, room-for-first-digit, first-digit-stored, room-for-total-digits, total-end, total-stored, room-for-line-end, total-keeps-length, texting-begins, text-place, texting-more, texted, room-for-total, text-keeps-length, words-line-end, words-line-stored, most-line-end, most-line-stored, sets-keep-length, needs)

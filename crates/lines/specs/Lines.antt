@@ -15,9 +15,17 @@ use Rattle.lines.specs.declared.Placed.the-variants.{End, NoRoom}
 unfoldable pub lineBytes : ℕ → ℕ → ℕ → ℕ → List ℕ
 lineBytes number refusal value count = digits number ++ 32 ∷ digits refusal ++ 32 ∷ digits value ++ 32 ∷ digits count ++ 10 ∷ []
 
+-- the line of record n with a refusal (0 for an accepted opening): "Value 0, count 0"
+unfoldable pub refusalLine : ℕ → ℕ → List ℕ
+refusalLine n refusal = lineBytes n refusal 0 0
+
 -- L6: "one extra line, "words", a space and the total", and the line end
 unfoldable pub wordsLine : ℕ → List ℕ
 wordsLine total = 119 ∷ 111 ∷ 114 ∷ 100 ∷ 115 ∷ 32 ∷ digits total ++ 10 ∷ []
+
+-- L8: "Its last line .. is "most", a space and the largest sum", and the line end
+unfoldable pub mostLine : ℕ → List ℕ
+mostLine most = 109 ∷ 111 ∷ 115 ∷ 116 ∷ 32 ∷ digits most ++ 10 ∷ []
 
 -- whether the longest line, of 44 bytes, fits from a place on into memory of so many bytes
 unfoldable pub lineFits : ℕ → ℕ → Bool

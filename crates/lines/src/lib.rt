@@ -1,11 +1,12 @@
-// The lines of the run program: four numbers in base ten, each with a space or the line end behind it, and the last line, the words moved.
+// The lines of the programs: four numbers in base ten, each with a space or the line end behind it, and the last lines: the words moved, the most
+// that stands.
 ghost use mathlib.Core.Path.{_≡_};
 ghost use Prim.Native.Nat.{_+_, _≤_, _<_};
 ghost use lib.ListN.{length};
 ghost use lib.Seq.{sets};
 ghost use Rattle.limits.specs.Files.{lineLimit};
 ghost use Rattle.lines.specs.Decimal.{digits};
-ghost use Rattle.lines.specs.Lines.{lineBytes, wordsLine, lineFits, lineAnswer, placeSaid, lineLeft};
+ghost use Rattle.lines.specs.Lines.{lineBytes, wordsLine, mostLine, lineFits, lineAnswer, placeSaid, lineLeft};
 ghost use Rattle.lines.specs.inner.Needed.{Room, DigitsFit, PairFits, Put, digitPair, fieldBytes, halfBytes, Eight, Counted, Countable, EightFit, ShortFits, behindNumber};
 use limits::LINE_LIMIT;
 
@@ -161,7 +162,7 @@ pub fn put_number(out: &mut [u8], at: usize, n: u32) -> usize
     at + len
 }
 
-// ---- the last line: how many words moved
+// ---- the last lines
 
 // Writes the line of the words that a run moved from a place on, and says the place behind it. It is written once a run, digit by digit.
 pub fn put_words_line(out: &mut [u8], at: usize, total: u64) -> usize
@@ -169,13 +170,30 @@ pub fn put_words_line(out: &mut [u8], at: usize, total: u64) -> usize
     ensures { λ r. ⌜ r ≡ at + length (wordsLine total) ⌝ }
     ensures { λ r. ⌜ now (out .exit) ≡ sets (now (out .entry)) at (wordsLine total) ⌝ }
 {
-    out[at] = 119;
-    out[at + 1] = 111;
-    out[at + 2] = 114;
-    out[at + 3] = 100;
-    out[at + 4] = 115;
-    out[at + 5] = 32;
+    put_text(out, at, b"words ");
     put_total(out, at + 6, total)
+}
+
+// Writes the line of the most that stands in a forecast.
+pub fn put_most_line(out: &mut [u8], at: usize, most: u32) -> usize
+    requires { ⌜ Room (now out) at lineLimit ⌝ }
+    ensures { λ r. ⌜ r ≡ at + length (mostLine most) ⌝ }
+    ensures { λ r. ⌜ now (out .exit) ≡ sets (now (out .entry)) at (mostLine most) ⌝ }
+{
+    put_text(out, at, b"most ");
+    put_total(out, at + 5, most as u64)
+}
+
+// Writes some bytes from a place on.
+pub fn put_text(out: &mut [u8], at: usize, text: &[u8])
+    requires { ⌜ Room (now out) at (length (now text)) ⌝ }
+    ensures { λ _. ⌜ now (out .exit) ≡ sets (now (out .entry)) at (now (text .entry)) ⌝ }
+{
+    let mut i: usize = 0;
+    while i < text.len() {
+        out[at + i] = text[i];
+        i = i + 1;
+    }
 }
 
 // Writes a total with a line end behind, and says the place behind both.

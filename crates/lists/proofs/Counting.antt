@@ -3,11 +3,11 @@
 use Prim.Native.Nat.{ℕ, zero, suc, _+_, _≤_, _<_}
 use native.Mathlib.Omega.{arith}
 use native.Mathlib.Decide.{decLe, ℕ-discrete}
-use mathlib.Core.Path.{_≡_, refl, sym, _∙_}
-use mathlib.Core.Bool.{Bool, true, false, cond, false≢true}
+use mathlib.Core.Path.{_≡_, refl, sym, ap, _∙_}
+use mathlib.Core.Bool.{Bool, true, false, cond, not, _||_, or-true, or-false, false≢true}
 use lib.Dec.{eqb}
 use borrow.Author.Tests.{eqb-true, eqb-false, ne-eqb}
-use Rattle.lists.specs.Tables.{total, firstOf}
+use Rattle.lists.specs.Tables.{any, total, firstOf}
 
 -- ---- sums
 
@@ -26,6 +26,16 @@ total-some (suc n) f h = go (decLe 1 (f n)) (total-some n f)
     go : Dec (1 ≤ f n) → (1 ≤ total n f → Some n f) → Some (suc n) f
     go (yes e) r = record { at = n; below = omega arith; some = e }
     go (no e) r = let s = r (omega (arith, h, e)) in record { at = s .at; below = omega (arith, s .below); some = s .some }
+
+-- a test passes somewhere exactly if those that pass are not 0 in number
+pub any-counted : (n : ℕ) (t : ℕ → Bool) → any n t ≡ not (eqb (total n (λ i. cond (t i) 1 0)) 0)
+unfolding any total
+any-counted zero t = refl
+any-counted (suc n) t = go (total n (λ i. cond (t i) 1 0)) (t n) (any-counted n t)
+  where
+    go : (sum : ℕ) (b : Bool) → any n t ≡ not (eqb sum 0) → (any n t || b) ≡ not (eqb (sum + cond b 1 0) 0)
+    go sum true e = or-true (any n t) ∙ ap not (sym (ne-eqb (sum + 1) 0 (λ z. omega (arith, z))))
+    go sum false e = let same : sum + 0 ≡ sum = omega arith in or-false (any n t) ∙ e ∙ ap (λ (k : ℕ). not (eqb k 0)) (sym same)
 
 -- smaller summands give no larger sum
 pub total-at-most : (n : ℕ) (f h : ℕ → ℕ) → ((j : ℕ) → j < n → f j ≤ h j) → total n f ≤ total n h

@@ -6,3 +6,4 @@ pub mod Selected
 pub mod Sorting
 pub mod Passing
 pub mod Stores
+pub mod Parts

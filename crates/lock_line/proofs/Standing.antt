@@ -14,12 +14,16 @@ use Rattle.limits.specs.Limits.{processorLimit}
 use Rattle.lists.specs.Tables.{total, firstOf}
 use Rattle.lists.proofs.Counting.{first-stays}
 use Rattle.rules.specs.State.{mainframe}
-use Rattle.rules.specs.Lines.{waitsFor, turnOf, inLine, waiterAt, firstInLine}
+use Rattle.rules.specs.InOrder.{present}
+use Rattle.rules.specs.Lines.{waits, waitsFor, turnOf, inLine, waiterAt, firstInLine}
+use Rattle.rules.proofs.inorder.Accepted.{present-says}
+use Rattle.rules.proofs.inorder.Facts.{LinesInOrder}
+use Rattle.rules.proofs.state.Waiters.{awake-says, no-first}
 use Rattle.layout.specs.Areas.{marksIn, stateIn}
 use Rattle.layout.specs.inner.Marks.{processorCount, awaitedMark, turnMark}
 use Rattle.layout.specs.inner.Needed.{MarksOf}
 use Rattle.layout.proofs.MarkLaws.{awaited-read, turn-read}
-use Rattle.lock_line.specs.inner.Needed.{LineThere, InLine}
+use Rattle.lock_line.specs.inner.Needed.{LineThere, InLine, Hands}
 
 -- ---- one processor
 
@@ -175,3 +179,19 @@ module _ (m : List ℕ) (l n k : ℕ) (h : NoneFirst m l n k) where
   nobody-found b =
       let e : k ≡ processorCount m = omega (arith, b, h .upto, h .all .0) in
       sym (h .none) ∙ ap (λ (j : ℕ). firstOf j (first m l)) e
+
+-- ---- the marks of a state in order
+
+-- where nobody stands first nobody waits
+pub hands-in-order : (c w r m : List ℕ) (l : ℕ) → LineThere m l → LinesInOrder (stateIn mainframe c w r m .counts) (stateIn mainframe c w r m .marks)
+    → ((p : ℕ) → 1 ≤ p → present (stateIn mainframe c w r m) p ≡ false → waits (stateIn mainframe c w r m .marks) p ≡ false) → Hands m l
+unfolding stateIn
+hands-in-order c w r m l there lines awake = record { line = there; nobody = λ z k b e. go z k b e (present (stateIn mainframe c w r m) (suc k)) refl }
+  where
+    reads : (k : ℕ) → k < processorLimit → getD (marksIn mainframe m .awaited) (suc k) 0 ≡ awaitedMark m (suc k)
+    reads k b = awaited-read c w r m (suc k) (omega arith) (omega (arith, b))
+
+    go : firstInLine (processorCount m) (marksIn mainframe m) l ≡ 0 → (k : ℕ) → k < processorLimit → awaitedMark m (suc k) ≡ suc l → (b : Bool)
+        → present (stateIn mainframe c w r m) (suc k) ≡ b → ⊥
+    go z k b e true t = no-first (processorCount m) (marksIn mainframe m) l (lines .lines) z k (present-says (stateIn mainframe c w r m) (suc k) t .1) (reads k b ∙ e)
+    go z k b e false t = omega (arith, e, reads k b, awake-says (marksIn mainframe m) k (awake (suc k) (omega arith) t))

@@ -16,7 +16,7 @@ use Rattle.step_act.specs.Telling.{outcomeRefusal, outcomeValue, outcomeCount, 
 use Rattle.step_act.specs.declared.Outcome.{Outcome}
 use Rattle.step_act.specs.declared.Outcome.the-variants.{Done, Refused}
 use Rattle.engine.specs.Promises.{answerOf, areasAfter}
-use Rattle.step_record.specs.Records.{answerWords}
+use Rattle.step_record.specs.Answers.{answerWords}
 use Rattle.lughtsavi.specs.Numbers.{slices, stepReturn, slicesAfter, applyReturn}
 use Rattle.lughtsavi.specs.inner.Needed.{ToldAs}
 

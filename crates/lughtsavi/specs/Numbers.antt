@@ -11,7 +11,7 @@ use Rattle.diff_writer.specs.Answers.{WriteAnswer}
 use Rattle.rules.specs.Refusals.{Step}
 use Rattle.layout.specs.Areas.{Areas}
 use Rattle.engine.specs.Promises.{answerOf, areasAfter}
-use Rattle.step_record.specs.Records.{answerWords}
+use Rattle.step_record.specs.Answers.{answerWords}
 
 -- ---- a step
 

@@ -75,7 +75,7 @@ fn right_sizes(clocks: &[u8], words: &[u32], records: &[u8], marks: &[u8]) -> bo
 }
 
 // Whether an opening is eight bytes that row 2 does not refuse.
-fn opening_fits(opening: &[u8]) -> bool
+pub fn opening_fits(opening: &[u8]) -> bool
     ensures { λ r. ⌜ OpeningIs r (now (opening .entry)) ⌝ }
 {
     if opening.len() != FILE_RECORD_WIDTH {
@@ -200,7 +200,7 @@ fn put_copy(words: &mut [u32], part: usize, copy: [u32; WORD_LIMIT])
 }
 
 // The three counts laid before zeros.
-fn lay_marks(opening: &[u8], marks: &mut [u8])
+pub fn lay_marks(opening: &[u8], marks: &mut [u8])
     requires { ⌜ MarksOpenable (now opening) (now marks) ⌝ }
     ensures { λ _. ⌜ now (marks .exit) ≡ openedMarks (now (opening .entry)) ⌝ }
 {

@@ -75,7 +75,8 @@ module _ (m : List ℕ) where
     no-processor i g l =
         ap (λ (t : Bool). cond t 1 0) (h .absent-clean .clean (suc i) g (rw (lt-leb (suc i) (processorCount m) (omega arith), and-false (leb 1 (suc i)))))
 
-    marks-of-processor : (i : ℕ) → i < processorLimit → total pageLimit (λ g. markAt m (i * pageLimit + g)) ≡ total (pageCount m) (dirty i)
+    -- the marks of a processor that are set are as many as its dirty pages
+    pub marks-of-processor : (i : ℕ) → i < processorLimit → total pageLimit (λ g. markAt m (i * pageLimit + g)) ≡ total (pageCount m) (dirty i)
     marks-of-processor i a =
         total-same pageLimit (λ g. markAt m (i * pageLimit + g)) (dirty i) (λ g b. mark-of-page i g a b)
         ∙ total-of-fewer (pageCount m) pageLimit (dirty i) (h .pages) (λ g l b. no-page i g l)

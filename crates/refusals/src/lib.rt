@@ -354,7 +354,7 @@ fn records_to_come(marks: &[u8]) -> usize
 
 // The dirty pages of all processors: every mark is looked at, those of absent processors and pages too, which are 0. One loop without a
 // branch, and a byte as its sum, so that it becomes vector code.
-fn dirty_pages(marks: &[u8]) -> usize
+pub fn dirty_pages(marks: &[u8]) -> usize
     requires { ⌜ MarksCountable (now marks) ⌝ }
     ensures { λ r. ⌜ r ≡ dirtyPages (seen (now (marks .entry))) ⌝ }
     ensures { λ r. ⌜ r ≤ copyLimit ⌝ }

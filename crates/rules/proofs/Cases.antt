@@ -17,20 +17,17 @@ use Rattle.rules.specs.Fetch.{fetched}
 use Rattle.rules.specs.Steps.{pageOfWord, wordOf, write}
 use Rattle.rules.specs.Refusals.{Step, Answer, actionOf, effect, refusalInOrder, nextInOrder, refusal, next}
 use Rattle.rules.specs.Runs.{answers, stateAfter, answersInOrder, stateInOrder}
+use Rattle.rules.specs.Bench.{StoredValues, stepsUnderLock, answersUnderLock, stepsF}
 use Rattle.rules.specs.Order.{events, eventAt, isArrival, countedOff, groupsBefore, rounds}
 use Rattle.rules.proofs.inorder.Facts.{InOrder}
 use Rattle.rules.proofs.inorder.InOrderSays.{in-order-says}
 use Rattle.rules.proofs.inorder.InOrderWhen.{in-order-when}
 use Rattle.rules.proofs.InOrderRuns.{refusal-is-not-one, state-in-order}
-use Rattle.rules.proofs.runs.Listing.{writes, acquires, releases, arrives, start, answering}
+use Rattle.rules.proofs.runs.Listing.{writes, releases, arrives, start, answering}
 use Rattle.rules.proofs.runs.BenchFaults.{stepsC, computed-C, computed-clock-of-3}
 use Rattle.rules.proofs.runs.FromStart.{answers-from-start, state-from-start}
 use Rattle.rules.proofs.runs.OneInterval.{NoInterval, OneInterval, pageFetched, pageStored, release-without-store, store-and-release, equal-store}
-use Rattle.rules.proofs.runs.StoredCases.{StoredValues, accepted, stepsB, case-B, stepsUnderLock, answersUnderLock, case-D, case-E}
-
--- "storing 0 over 0 and releasing"
-unfoldable pub stepsF : List Step
-stepsF = acquires 1 0 ∷ writes 1 0 0 ∷ releases 1 0 ∷ []
+use Rattle.rules.proofs.runs.StoredCases.{accepted, stepsB, case-B, case-D, case-E}
 
 -- "C: 1 writes 5 under lock 0; 2 takes and frees lock 0, then lock 1; 3 takes lock 1 and reads 5, count 1. Card 3's clock is 1, 0, 0"
 pub record CaseC : Type 0 where

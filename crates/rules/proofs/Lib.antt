@@ -1,8 +1,11 @@
 -- what a reader opens: the theorems, and the runs that show them
 pub mod Space
+pub mod RowsExactly
 pub mod InOrderRuns
 pub mod StrictOrder
 pub mod WaitsItsTurn
+pub mod WaitingSteps
+pub mod GrantsTold
 pub mod WaitingCases
 pub mod LocksFree
 pub mod StoresNoted
@@ -14,6 +17,9 @@ pub mod QueueCases
 pub mod SkippingCases
 pub mod WordsMoved
 pub mod FewWords
+pub mod Foretold
+pub mod NoValues
+pub mod ForecastCases
 pub mod Fetching
 pub mod DemandThree
 pub mod Cases

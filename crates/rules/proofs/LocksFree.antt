@@ -10,15 +10,16 @@ use mathlib.Core.Bool.{Bool, true, false, cond, false≢true}
 use mathlib.Core.Logic.{_⊎_, inl, inr}
 use mathlib.Core.List.{List, [], _∷_}
 use lib.Dec.{ltb, eqb}
-use borrow.Author.Tests.{eqb-true, eqb-false, eq-eqb, ltb-true, ltb-false}
+use borrow.Author.Tests.{ltb-true, ltb-false}
 use Rattle.lists.proofs.Tables.{every-at, any-holds}
 use Rattle.rules.specs.State.{Limits, State, own, holder, hasArrived}
 use Rattle.rules.specs.Opening.{Opening, openingRefusal, opened}
 use Rattle.rules.specs.InOrder.{inOrder, present}
 use Rattle.rules.specs.Close.{closed}
 use Rattle.rules.specs.Steps.{atBarrier, allArrived}
-use Rattle.rules.specs.Refusals.{Step, Arrive, actionOf, holdsAny, refusalInOrder, effect, nextInOrder, refusal, next}
+use Rattle.rules.specs.Refusals.{Step, Arrive, actionOf, holdsAny, refusal, next}
 use Rattle.rules.specs.Runs.{stateAfter}
+use Rattle.rules.specs.LocksFree.{LocksFree, FindsLocksFree}
 use Rattle.rules.proofs.inorder.Facts.{InOrder}
 use Rattle.rules.proofs.inorder.InOrderSays.{in-order-says}
 use Rattle.rules.proofs.inorder.InOrderWhen.{in-order-when}
@@ -26,13 +27,8 @@ use Rattle.rules.proofs.inorder.OpenedInOrder.{opened-in-order, opening
 use Rattle.rules.proofs.inorder.Outside.{not-held-outside}
 use Rattle.rules.proofs.inorder.Accepted.{Accepted, accepted-says, present-says, late-arrive}
 use Rattle.rules.proofs.InOrderRuns.{step-keeps-order, refusal-is-not-one}
-use Rattle.rules.proofs.order.MarksAfter.{arrived-at-barrier, holder-after, linesAfter}
-use Rattle.rules.proofs.WaitsItsTurn.{lineIn, lines-next, holder-next, round-meets-no-line}
-
--- no lock is held, and no line stands
-pub record LocksFree (s : State) : Type 0 where
-  pub unheld : (l : ℕ) → holder s l ≡ 0
-  pub no-line : (l : ℕ) → lineIn s l ≡ []
+use Rattle.rules.proofs.order.MarksAfter.{arrived-at-barrier, linesAfter}
+use Rattle.rules.proofs.WaitsItsTurn.{lines-next, holder-next, round-meets-no-line}
 
 -- ---- one step, from any state in order
 
@@ -89,17 +85,25 @@ module _ (lim : Limits) (s : State) (t : Step) (ordered : inOrder lim s ≡ true
         no-line = λ l. lines-next lim s t ordered Arrive e is l ∙ round-meets-free-locks .no-line l;
       }
 
+-- ---- "A state that has an arrived card holding a lock is no longer in order"
+
+pub arrived-holder-out : (lim : Limits) (s : State) (l q : ℕ) → 1 ≤ q → holder s l ≡ q → hasArrived s q ≡ true → inOrder lim s ≡ false
+arrived-holder-out lim s l q from holds arrived = go (inOrder lim s) refl
+  where
+    apart : (holder s l ≡ 0) ⊎ (hasArrived s (holder s l) ≡ false) → ⊥
+    apart (inl z) = omega (arith, z, holds, from)
+    apart (inr a) = false≢true (sym a ∙ ap (hasArrived s) holds ∙ arrived)
+
+    go : (b : Bool) → inOrder lim s ≡ b → inOrder lim s ≡ false
+    go true e = absurd (apart (in-order-says lim s e .holder-away l))
+    go false e = e
+
 -- ---- every run
 
 run-in-order : (lim : Limits) (s : State) (ts : List Step) → inOrder lim s ≡ true → inOrder lim (stateAfter lim s ts) ≡ true
 unfolding stateAfter
 run-in-order lim s [] e = e
 run-in-order lim s (t ∷ ts) e = run-in-order lim (next lim s t) ts (step-keeps-order lim s t e)
-
--- an arrival that completes a round finds every lock free, and leaves it so
-pub record FindsLocksFree (lim : Limits) (s : State) (t : Step) : Type 0 where
-  pub before : LocksFree s
-  pub after : LocksFree (next lim s t)
 
 pub round-finds-locks-free : (lim : Limits) (o : Opening) → openingRefusal lim o ≡ 0 → (ts : List Step) (t : Step)
     → refusal lim (stateAfter lim (opened lim (o .counts)) ts) t ≡ 0 → actionOf t ≡ Arrive

@@ -14,17 +14,17 @@ use Rattle.lists.proofs.Conditions.{conjoined, conjoined-at}
 use Rattle.rules.specs.State.{mainframe, Counts}
 use Rattle.rules.specs.InOrder.{inRange, countsInRange}
 use Rattle.rules.specs.Opening.{openingRefusal, opened}
-use Rattle.rules.specs.Refusals.{Step, Read, Write}
+use Rattle.rules.specs.Refusals.{Step, Read, Write, Acquire, Release, Arrive, Enqueue, Dequeue}
 use Rattle.rules.specs.Steps.{placeBehind, freePlace, enqueue, dequeue}
 use Rattle.rules.specs.Runs.{answers, answersInOrder}
-use Rattle.rules.specs.Order.{Event, events, eventAt, Took, Before, chain}
+use Rattle.rules.specs.Order.{Event, events, eventAt, Took, Before, program, lock, round, granted, job, chain}
 use Rattle.rules.specs.Demand.{isWriteTo, lastWritten, EarlierWrite, Synchronized, Judged, valueAt}
 use Rattle.rules.proofs.order.ActionKinds.{writesTo, took-write}
-use Rattle.rules.proofs.order.Edges.{Edge, ByProgram, ByLock, ByRound, ByGrant, ByJob, ByChain, just, has, joins, joins-before, closedUnder, only-by, only-chained}
+use Rattle.rules.proofs.order.Edges.{Edge, ByProgram, ByLock, ByRound, ByGrant, ByJob, ByChain, just, has, joins, closedUnder, only-by, only-chained}
 use Rattle.rules.proofs.runs.Listing.{reads, writes, acquires, releases, arrives, start}
 use Rattle.rules.proofs.QueueCases.{enqueues, dequeues}
 use Rattle.rules.proofs.runs.BenchFaults.{stepsC}
-use Rattle.rules.proofs.runs.JudgedRuns.{synchronized, openingWith, in-range-accepted, eventsFrom, events-computed, read-judged, allAccepted, counting}
+use Rattle.rules.proofs.runs.JudgedRuns.{synchronized, openingWith, in-range-accepted, eventsFrom, events-computed, read-judged, allAccepted, taken, counting}
 use Rattle.rules.proofs.PremisesMet.{read-taken, read-is-synchronized, computed-events}
 
 -- ---- what a run shows of an edge
@@ -122,53 +122,65 @@ itself i k = eqb i k
 abbrev ownSteps : List Event → ℕ → ℕ → Bool
 ownSteps es i k = eqb (eventAt es i .step .processor) (eventAt es k .step .processor)
 
+-- In each run below the edges are named one by one, with their processors, actions and locks. What an edge asks of its two places is left to
+-- arithmetic: an edge that asks for more than document 01 does fails in the run where it is missing.
+
 -- ---- "a card's steps in their order"
 
--- 1 stores 5 in word 0, then 6, and reads it. Nobody takes or frees a lock or arrives, so there is no other edge in this run
+-- 1 stores 5 in word 0, then 6, and reads it, and 2 reads another word between the stores. Nobody takes or frees a lock or arrives, so there is no
+-- other edge in this run
 unfoldable pub stepsProgram : List Step
-stepsProgram = writes 1 0 5 ∷ writes 1 0 6 ∷ reads 1 0 ∷ []
+stepsProgram = writes 1 0 5 ∷ reads 2 1 ∷ writes 1 0 6 ∷ reads 1 0 ∷ []
 
-program-shown : Shown ByProgram 2 (allAccepted stepsProgram) 0 2 1 6
+program-shown : Shown ByProgram 2 (allAccepted stepsProgram) 0 3 1 6
 unfolding stepsProgram allAccepted everyWrite cutOff
 program-shown =
     let es = allAccepted stepsProgram in
     record {
-      read = record { accepted = refl; processor = refl; action = refl };
-      premise = synchronized 2 es 0 2 (1 ∷ 0 ∷ []) refl (joins-before 2 es 1 2 ByProgram refl, (joins-before 2 es 0 1 ByProgram refl, tt));
-      only = only-cut-off 2 es 0 2 ByProgram itself refl;
+      read = taken refl refl refl;
+      premise =
+          synchronized 2 es 0 3 (2 ∷ 0 ∷ []) refl (
+            program 1 (Write 0 6) (Read 0) (taken refl refl refl) (taken refl refl refl) (omega arith),
+            (program 1 (Write 0 5) (Write 0 6) (taken refl refl refl) (taken refl refl refl) (omega arith), tt),
+          );
+      only = only-cut-off 2 es 0 3 ByProgram itself refl;
       last = refl;
     }
 
-program-pinned : Pinned ByProgram (counting 2 1) stepsProgram 0 2 1 6
+program-pinned : Pinned ByProgram (counting 2 1) stepsProgram 0 3 1 6
 unfolding start stepsProgram events allAccepted countsInRange inRange
 program-pinned = pinned (allAccepted stepsProgram) refl refl program-shown (λ e. omega (arith, e))
 
 -- ---- "each release before every later acquire of that lock"
 
--- Under lock 0 processor 1 stores 5 in word 0, then 2 stores 6 there; 3 takes the lock and reads. The stores and the read are by three
--- processors, and nobody arrives: without the lock a store leads to its processor's own steps alone
+-- Under lock 0 processor 1 stores 5 in word 0; 3 reads another word, 2 takes the lock and stores 6 in word 0; 3 takes the lock and reads. The stores
+-- and the read are by three processors, and nobody arrives: without the lock a store leads to its processor's own steps alone
 unfoldable pub stepsLock : List Step
-stepsLock = acquires 1 0 ∷ writes 1 0 5 ∷ releases 1 0 ∷ acquires 2 0 ∷ writes 2 0 6 ∷ releases 2 0 ∷ acquires 3 0 ∷ reads 3 0 ∷ []
+stepsLock = acquires 1 0 ∷ writes 1 0 5 ∷ releases 1 0 ∷ reads 3 1 ∷ acquires 2 0 ∷ writes 2 0 6 ∷ releases 2 0 ∷ acquires 3 0 ∷ reads 3 0 ∷ []
 
-lock-shown : Shown ByLock 3 (allAccepted stepsLock) 0 7 3 6
+lock-shown : Shown ByLock 3 (allAccepted stepsLock) 0 8 3 6
 unfolding stepsLock allAccepted everyWrite cutOff
 lock-shown =
     let es = allAccepted stepsLock in
     record {
-      read = record { accepted = refl; processor = refl; action = refl };
+      read = taken refl refl refl;
       premise =
-          synchronized 3 es 0 7 (4 ∷ 1 ∷ []) refl (
-            chain 5 (joins-before 3 es 4 5 ByProgram refl) (chain 6 (joins-before 3 es 5 6 ByLock refl) (joins-before 3 es 6 7 ByProgram refl)),
+          synchronized 3 es 0 8 (5 ∷ 1 ∷ []) refl (
+            chain 6 (program 2 (Write 0 6) (Release 0) (taken refl refl refl) (taken refl refl refl) (omega arith))
+                (chain 7 (lock 2 3 0 (taken refl refl refl) (taken refl refl refl) (omega arith))
+                (program 3 (Acquire 0) (Read 0) (taken refl refl refl) (taken refl refl refl) (omega arith))),
             (
-              chain 2 (joins-before 3 es 1 2 ByProgram refl) (chain 3 (joins-before 3 es 2 3 ByLock refl) (joins-before 3 es 3 4 ByProgram refl)),
+              chain 2 (program 1 (Write 0 5) (Release 0) (taken refl refl refl) (taken refl refl refl) (omega arith))
+                  (chain 4 (lock 1 2 0 (taken refl refl refl) (taken refl refl refl) (omega arith))
+                  (program 2 (Acquire 0) (Write 0 6) (taken refl refl refl) (taken refl refl refl) (omega arith))),
               tt,
             ),
           );
-      only = only-cut-off 3 es 0 7 ByLock (ownSteps es) refl;
+      only = only-cut-off 3 es 0 8 ByLock (ownSteps es) refl;
       last = refl;
     }
 
-lock-pinned : Pinned ByLock (counting 3 1) stepsLock 0 7 3 6
+lock-pinned : Pinned ByLock (counting 3 1) stepsLock 0 8 3 6
 unfolding start stepsLock events allAccepted countsInRange inRange
 lock-pinned = pinned (allAccepted stepsLock) refl refl lock-shown (λ e. omega (arith, e))
 
@@ -185,12 +197,14 @@ unfolding stepsRound allAccepted everyWrite cutOff
 round-shown =
     let es = allAccepted stepsRound in
     record {
-      read = record { accepted = refl; processor = refl; action = refl };
+      read = taken refl refl refl;
       premise =
           synchronized 3 es 0 8 (4 ∷ 0 ∷ []) refl (
-            chain 7 (joins-before 3 es 4 7 ByProgram refl) (joins-before 3 es 7 8 ByRound refl),
+            chain 7 (program 2 (Write 0 6) Arrive (taken refl refl refl) (taken refl refl refl) (omega arith))
+                (round 2 3 (Read 0) (taken refl refl refl) (taken refl refl refl) (omega arith)),
             (
-              chain 1 (joins-before 3 es 0 1 ByProgram refl) (joins-before 3 es 1 4 ByRound refl),
+              chain 1 (program 1 (Write 0 5) Arrive (taken refl refl refl) (taken refl refl refl) (omega arith))
+                  (round 1 2 (Write 0 6) (taken refl refl refl) (taken refl refl refl) (omega arith)),
               tt,
             ),
           );
@@ -205,30 +219,32 @@ round-pinned = pinned (allAccepted stepsRound) refl refl round-shown (λ e. omeg
 -- ---- L1: "the release precedes the waiter's next step"
 
 -- Processor 1 holds lock 0 and stores 5 in word 0 while 2 and then 3 ask for the lock. 1's release hands it to 2, which stores 6; 2's release hands
--- it to 3, which reads. Both asked before a release, so no release is before their acquires, and without grants a store leads to its processor's own
--- steps alone
+-- it to 3; 1 reads another word, and 3 reads. Both asked before a release, so no release is before their acquires, and without grants a store leads to
+-- its processor's own steps alone
 unfoldable pub stepsGrant : List Step
-stepsGrant = acquires 1 0 ∷ writes 1 0 5 ∷ acquires 2 0 ∷ acquires 3 0 ∷ releases 1 0 ∷ writes 2 0 6 ∷ releases 2 0 ∷ reads 3 0 ∷ []
+stepsGrant = acquires 1 0 ∷ writes 1 0 5 ∷ acquires 2 0 ∷ acquires 3 0 ∷ releases 1 0 ∷ writes 2 0 6 ∷ releases 2 0 ∷ reads 1 1 ∷ reads 3 0 ∷ []
 
-grant-shown : Shown ByGrant 3 (allAccepted stepsGrant) 0 7 3 6
+grant-shown : Shown ByGrant 3 (allAccepted stepsGrant) 0 8 3 6
 unfolding stepsGrant allAccepted everyWrite cutOff
 grant-shown =
     let es = allAccepted stepsGrant in
     record {
-      read = record { accepted = refl; processor = refl; action = refl };
+      read = taken refl refl refl;
       premise =
-          synchronized 3 es 0 7 (5 ∷ 1 ∷ []) refl (
-            chain 6 (joins-before 3 es 5 6 ByProgram refl) (joins-before 3 es 6 7 ByGrant refl),
+          synchronized 3 es 0 8 (5 ∷ 1 ∷ []) refl (
+            chain 6 (program 2 (Write 0 6) (Release 0) (taken refl refl refl) (taken refl refl refl) (omega arith))
+                (granted 2 3 0 3 (Read 0) (record { release = taken refl refl refl; acquire = taken refl refl refl; waited = omega arith; next = refl }) (taken refl refl refl) (omega arith)),
             (
-              chain 4 (joins-before 3 es 1 4 ByProgram refl) (joins-before 3 es 4 5 ByGrant refl),
+              chain 4 (program 1 (Write 0 5) (Release 0) (taken refl refl refl) (taken refl refl refl) (omega arith))
+                  (granted 1 2 0 2 (Write 0 6) (record { release = taken refl refl refl; acquire = taken refl refl refl; waited = omega arith; next = refl }) (taken refl refl refl) (omega arith)),
               tt,
             ),
           );
-      only = only-cut-off 3 es 0 7 ByGrant (ownSteps es) refl;
+      only = only-cut-off 3 es 0 8 ByGrant (ownSteps es) refl;
       last = refl;
     }
 
-grant-pinned : Pinned ByGrant (counting 3 1) stepsGrant 0 7 3 6
+grant-pinned : Pinned ByGrant (counting 3 1) stepsGrant 0 8 3 6
 unfolding start stepsGrant events allAccepted countsInRange inRange
 grant-pinned = pinned (allAccepted stepsGrant) refl refl grant-shown (λ e. omega (arith, e))
 
@@ -244,12 +260,16 @@ unfolding stepsJob allAccepted everyWrite cutOff
 job-shown =
     let es = allAccepted stepsJob in
     record {
-      read = record { accepted = refl; processor = refl; action = refl };
+      read = taken refl refl refl;
       premise =
           synchronized 3 es 0 6 (3 ∷ 0 ∷ []) refl (
-            chain 4 (joins-before 3 es 3 4 ByProgram refl) (chain 5 (joins-before 3 es 4 5 ByJob refl) (joins-before 3 es 5 6 ByProgram refl)),
+            chain 4 (program 2 (Write 0 6) (Enqueue 42) (taken refl refl refl) (taken refl refl refl) (omega arith))
+                (chain 5 (job 2 42 3 (record { enqueue = taken refl refl refl; dequeue = taken refl refl refl; waited = omega arith; same = refl }))
+                (program 3 Dequeue (Read 0) (taken refl refl refl) (taken refl refl refl) (omega arith))),
             (
-              chain 1 (joins-before 3 es 0 1 ByProgram refl) (chain 2 (joins-before 3 es 1 2 ByJob refl) (joins-before 3 es 2 3 ByProgram refl)),
+              chain 1 (program 1 (Write 0 5) (Enqueue 41) (taken refl refl refl) (taken refl refl refl) (omega arith))
+                  (chain 2 (job 1 41 2 (record { enqueue = taken refl refl refl; dequeue = taken refl refl refl; waited = omega arith; same = refl }))
+                  (program 2 Dequeue (Write 0 6) (taken refl refl refl) (taken refl refl refl) (omega arith))),
               tt,
             ),
           );
@@ -284,14 +304,14 @@ chain-pinned = pinned (allAccepted stepsC) refl computed-events chain-shown (λ 
 -- For each edge: processors and locks, a list of steps, the word, the place of the read and its processor, and the value
 pub record OrderPinned : Type 0 where
   -- "a card's steps in their order": 1 reads the last of its own two stores
-  pub by-program : Pinned ByProgram (counting 2 1) stepsProgram 0 2 1 6
+  pub by-program : Pinned ByProgram (counting 2 1) stepsProgram 0 3 1 6
   -- "each release before every later acquire of that lock": 1 and 2 store under one lock, 3 takes it and reads 2's store
-  pub by-lock : Pinned ByLock (counting 3 1) stepsLock 0 7 3 6
+  pub by-lock : Pinned ByLock (counting 3 1) stepsLock 0 8 3 6
   -- "every arrival of a completed round before every step any card takes after that round's last arrival": 1 stores, then a round, 2 stores,
   -- then a round, and 3 reads 2's store
   pub by-round : Pinned ByRound (counting 3 1) stepsRound 0 8 3 6
   -- "the release precedes the waiter's next step": 1 stores while 2 and 3 wait for its lock, 2 stores when it has it, and 3, served last, reads 2's store
-  pub by-grant : Pinned ByGrant (counting 3 1) stepsGrant 0 7 3 6
+  pub by-grant : Pinned ByGrant (counting 3 1) stepsGrant 0 8 3 6
   -- "precedes the dequeue that returns its job": 1 stores and enqueues, 2 dequeues, stores and enqueues, 3 dequeues and reads 2's store
   pub by-job : Pinned ByJob (counting 3 1) stepsJob 0 6 3 6
   -- "and what follows by chaining": 1's store goes through lock 0 to 2 and through lock 1 to 3, which reads it

@@ -48,15 +48,15 @@ rounds-never-fall n es = never-falls (rounds n es) (rounds-step n es)
 
 -- a step is before later ones alone
 pub before-goes-forward : (n : ℕ) (es : List Event) (i j : ℕ) → Before n es i j → i < j
-before-goes-forward n es i j (program p a b from to h) = h
-before-goes-forward n es i j (lock p q l from to h) = h
+before-goes-forward n es i j (program p a b from to h) = omega (arith, h)
+before-goes-forward n es i j (lock p q l from to h) = omega (arith, h)
 before-goes-forward n es i j (round p q b from to h) = go (decLt i j)
   where
     go : Dec (i < j) → i < j
     go (yes k) = k
     go (no k) = absurd (omega (arith, h, rounds-never-fall n es j i (omega (arith, k))))
-before-goes-forward n es i j (granted p q l a b serves to h) = h
-before-goes-forward n es i j (job p v q r) = r .waited
+before-goes-forward n es i j (granted p q l a b serves to h) = omega (arith, h)
+before-goes-forward n es i j (job p v q r) = omega (arith, r .waited)
 before-goes-forward n es i j (chain k a b) = omega (arith, before-goes-forward n es i k a, before-goes-forward n es k j b)
 
 -- no step is before itself

@@ -9,7 +9,7 @@ use Prim.Native.Nat.{ℕ, zero, suc, _+_, _%_, _≤_, _<_}
 use native.Mathlib.Omega.{arith}
 use mathlib.Core.Path.{_≡_, refl, sym, ap, ap₂, _∙_}
 use mathlib.Core.Logic.{_⊎_, inl, inr}
-use mathlib.Core.Bool.{Bool, true, false, cond, _&&_, _||_}
+use mathlib.Core.Bool.{Bool, true, false, cond, _&&_}
 use mathlib.Core.List.{List}
 use lib.ListN.{length, take, getD}
 use lib.Dec.{ltb, eqb}
@@ -22,10 +22,11 @@ use Rattle.rules.specs.Tallies.{tallyAdded, tallyTotal, totalAfter, post
 use Rattle.rules.specs.Opening.{Opening, openingRefusal, opened}
 use Rattle.rules.specs.Steps.{enqueue}
 use Rattle.rules.specs.Close.{closed}
-use Rattle.rules.specs.Refusals.{Step, Action, Read, Write, Acquire, Release, Arrive, Want, TallyAdd, TallyRead, Enqueue, Dequeue, Unknown, actionOf, effect, Answer}
+use Rattle.rules.specs.Refusals.{Step, Action, Read, Write, Acquire, Release, Arrive, Want, TallyAdd, TallyRead, Enqueue, Dequeue, Unknown, actionOf, effect}
 use Rattle.rules.specs.Runs.{answers, stateAfter}
 use Rattle.rules.specs.Order.{Event, events, eventAt, Took, rounds}
-use Rattle.rules.specs.Demand.{valueField, valueAt}
+use Rattle.rules.specs.Demand.{valueField}
+use Rattle.rules.specs.TallyTotals.{isAddTo, countsFor, tallyDue, postedDue, TalliesJudged, takenUp, takenFrom, takenDown}
 use Rattle.rules.proofs.state.WrappedSums.{wrap-first, wrap-second, wrap-both, wrap-onto, addedBefore, addedSince, before-same-round, since-same-round, before-new-round, since-new-round, before-and-since, before-and-all}
 use Rattle.rules.proofs.inorder.OpenedInOrder.{opened-no-adds, opened-none-posted, opened-in-order, opening-counts}
 use Rattle.rules.proofs.InOrderRuns.{answers-in-order, state-in-order}
@@ -39,20 +40,6 @@ use Rattle.rules.proofs.order.TalliesAfter.{sharedAfter, shared-after, 
 use Rattle.rules.proofs.demand.ListRuns.{eventsOf, timeline, state-at, step-answer}
 
 -- ---- "taking the cards downwards gives the same word as taking them upwards"
-
--- the posted total with the adds of processors 1, 2, .., n taken in this order, wrapped after each
-unfoldable pub takenUp : Shared → ℕ → ℕ → ℕ
-takenUp h t zero = postedOf h t % wordValues
-takenUp h t (suc k) = (takenUp h t k + addsOf h (suc k) t) % wordValues
-
--- x with the adds of processors n, n - 1, .., 1 taken in this order, wrapped after each
-unfoldable pub takenFrom : Shared → ℕ → ℕ → ℕ → ℕ
-takenFrom h t zero x = x
-takenFrom h t (suc k) x = takenFrom h t k ((x + addsOf h (suc k) t) % wordValues)
-
--- the posted total with them
-unfoldable pub takenDown : Shared → ℕ → ℕ → ℕ
-takenDown h t n = takenFrom h t n (postedOf h t % wordValues)
 
 up-is-total : (h : Shared) (n t : ℕ) → takenUp h t n ≡ totalAfter h n t
 unfolding takenUp totalAfter total
@@ -78,29 +65,6 @@ posting-any-order h n t = (up-is-total h n t, from-is-total h n t (postedOf h t)
 -- so the two are equal
 pub down-is-up : (h : Shared) (n t : ℕ) → takenDown h t n ≡ takenUp h t n
 down-is-up h n t = posting-any-order h n t .1 ∙ sym (posting-any-order h n t .0)
-
--- ---- what a read of a tally is to answer
-
--- an accepted add to tally t
-unfoldable pub isAddTo : Event → ℕ → Bool
-isAddTo e t = e .accepted && eqb (e .step .kind) 8 && eqb (e .step .object) t
-
--- the add at place i counts for a read by processor p at place j: it was made in a round completed before the read, or by p itself
-unfoldable pub countsFor : ℕ → List Event → ℕ → ℕ → ℕ → Bool
-countsFor n es p j i = ltb (rounds n es i) (rounds n es j) || eqb (eventAt es i .step .processor) p
-
--- "the posted total plus the card's own adds since, wrapped", from the list alone: the sum of the value fields of the adds to t before place j that count
-unfoldable pub tallyDue : ℕ → List Event → ℕ → ℕ → ℕ → ℕ
-tallyDue n es p t j = total j (λ i. cond (isAddTo (eventAt es i) t && countsFor n es p j i) (valueField (eventAt es i .step .value)) 0) % wordValues
-
--- "the sum of all accepted adds of finished rounds": the same of those adds alone
-unfoldable pub postedDue : ℕ → List Event → ℕ → ℕ → ℕ
-postedDue n es t j = total j (λ i. cond (isAddTo (eventAt es i) t && ltb (rounds n es i) (rounds n es j)) (valueField (eventAt es i .step .value)) 0) % wordValues
-
--- every accepted read of a tally answers what is due, for n processors
-pub record TalliesJudged (n : ℕ) (ts : List Step) (answered : List Answer) : Type 0 where
-  -- the value answered at place j is what is due there
-  pub totals : (j p t : ℕ) → Took (events ts answered) j p (TallyRead t) → valueAt answered j ≡ tallyDue n (events ts answered) p t j
 
 -- ---- the run
 

@@ -24,8 +24,9 @@ use Rattle.rules.specs.Lines.{waits, waitsFor, turnOf, inLine, waiterAt,
 use Rattle.rules.specs.InOrder.{inOrder}
 use Rattle.rules.specs.Steps.{atBarrier, allArrived}
 use Rattle.rules.specs.Refusals.{Step, Action, Read, Write, Acquire, Release, Arrive, Want, TallyAdd, TallyRead, Enqueue, Dequeue, Unknown, actionOf, refusalInOrder, effect, nextInOrder, refusal, next}
-use Rattle.rules.specs.Runs.{answers, stateAfter, stateInOrder}
-use Rattle.rules.specs.Order.{Event, events, Took, counted, isReleaseOf}
+use Rattle.rules.specs.Runs.{stateInOrder}
+use Rattle.rules.specs.Order.{counted, isReleaseOf}
+use Rattle.rules.specs.Waiting.{lineIn, InTurn}
 use Rattle.rules.proofs.state.Lines.{waiting, waiting-not}
 use Rattle.rules.proofs.state.Waiters.{awaits, turnAt, holderIn, awake-says, waiter-waits, in-line-is, nobody-leaves, handed-holder}
 use Rattle.rules.proofs.state.LineOf.{in-line-stands, stands-in-line, no-line, asking-appends-at, asking-leaves, handing-takes-first, nobody-first, handing-leaves}
@@ -39,26 +40,7 @@ use Rattle.rules.proofs.order.MarksAfter.{arrived-at-barrier, linesAfte
 use Rattle.rules.proofs.order.Turns.{StandsAt, place-in-line, served-in-turn}
 use Rattle.rules.proofs.demand.ListRuns.{stateBefore, eventsOf, course}
 
--- the line of lock l in a state
-abbrev pub lineIn : State → ℕ → List ℕ
-lineIn s l = lineOf (s .counts .processors) (s .marks) l
-
 -- ---- the theorem over every list
-
--- the steps of a list with what the rules answer from the state s
-abbrev pub eventsIn : Limits → State → List Step → List Event
-eventsIn lim s ts = events ts (answers lim s ts)
-
--- the accepted releases of lock l among the first i steps
-abbrev pub releasesBefore : Limits → State → List Step → ℕ → ℕ → ℕ
-releasesBefore lim s ts l i = counted (isReleaseOf l) (eventsIn lim s ts) i
-
--- processor q, with k waiters before it in the line of l, is served in its turn
-pub record InTurn (lim : Limits) (s : State) (ts : List Step) (q l k : ℕ) : Type 0 where
-  -- after the first i steps, with m ≤ k accepted releases of l among them, it has k - m waiters before it
-  pub moves-up : (i : ℕ) → releasesBefore lim s ts l i ≤ k → getD (lineIn (stateAfter lim s (take i ts)) l) (k - releasesBefore lim s ts l i) 0 ≡ q
-  -- the accepted release of l with k others before it makes it the holder
-  pub served : (i p : ℕ) → Took (eventsIn lim s ts) i p (Release l) → releasesBefore lim s ts l i ≡ k → holder (stateAfter lim s (take (suc i) ts)) l ≡ q
 
 pub waits-its-turn : (lim : Limits) (s : State) → inOrder lim s ≡ true → (q l k : ℕ) → 1 ≤ q → getD (lineIn s l) k 0 ≡ q → (ts : List Step) → InTurn lim s ts q l k
 unfolding stateInOrder counted
@@ -111,7 +93,7 @@ module _ (lim : Limits) (s : State) (t : Step) (ordered : inOrder lim s ≡ true
   o = in-order-says lim s ordered
 
   -- an accepted step has its effect
-  accepted-next : refusal lim s t ≡ 0 → next lim s t ≡ effect lim s (t .processor) (actionOf t) .after
+  pub accepted-next : refusal lim s t ≡ 0 → next lim s t ≡ effect lim s (t .processor) (actionOf t) .after
   unfolding next nextInOrder refusal
   accepted-next e = rw ordered (ap (λ (b : Bool). cond b (effect lim s (t .processor) (actionOf t) .after) s) (eq-eqb (refusalInOrder lim s t) 0 (rw ordered at e)))
 

@@ -1,27 +1,34 @@
 -- Document 02, L6: how many words move. A diff counts the words of the page that it sets, a fetch those of the records that it applies and none of those
 -- that it skips; which steps move words; and the totals of runs, computed. Rests on SkippingCases, StoredCases. Assumes nothing.
-use Prim.Native.Nat.{ℕ, _+_, _*_, _≤_}
+use Prim.Native.Nat.{ℕ, zero, suc, _+_, _*_, _≤_}
 use native.Mathlib.Omega.{arith}
-use mathlib.Core.Path.{_≡_, refl, sym, ap, _∙_}
+use mathlib.Core.Path.{_≡_, refl, ap, ap₂, _∙_}
 use mathlib.Core.Bool.{Bool, true, false, cond}
 use mathlib.Core.List.{List, [], _∷_}
-use lib.ListN.{length}
+use lib.ListN.{length, take}
 use lib.Dec.{eqb}
 use borrow.Author.Tests.{eqb-true}
 use Rattle.diff.specs.Format.{setWords}
 use Rattle.diff.specs.Reading.{readRefusal, wordsSet, settings}
 use Rattle.diff.proofs.Legal.{few-words-set}
 use Rattle.diff.proofs.Theorems.{words-with-a-setting}
+use Rattle.lists.specs.Tables.{total}
 use Rattle.lists.proofs.Selected.{Each}
 use Rattle.rules.specs.State.{Limits, mainframe, Record, State}
 use Rattle.rules.specs.Fetch.{due, replaced, unreplaced, skipped, wordsIn, applying, fetchCount, fetchWords}
 use Rattle.rules.specs.InOrder.{inOrder, inRange, countsInRange}
-use Rattle.rules.specs.Steps.{pageOfWord, read, write}
-use Rattle.rules.specs.Refusals.{Step, Action, Read, Write, Acquire, Release, Want, TallyAdd, TallyRead, actionOf, effect, refusalInOrder, refusal, refusedAs, acceptedAs, Answer, answerInOrder, answer}
+use Rattle.rules.specs.Opening.{Opening, openingRefusal, opened}
+use Rattle.rules.specs.Steps.{read, write, atBarrier, allArrived, roundDone, noneFetched, pagesFetched, allFetched, collected, arrive}
+use Rattle.rules.specs.Refusals.{Step, Arrive, actionOf, effect, refusalInOrder, refusal, refusedAs, acceptedAs, answerInOrder, answer}
 use Rattle.rules.specs.Runs.{answers, wordsMoved, answersInOrder}
-use Rattle.rules.proofs.runs.Listing.{reads, writes, acquires, releases, arrives, start, answering, listing}
+use Rattle.rules.specs.Moved.{BringsNothing, ArrivalBrings, StepsMove, EffectsTold}
+use Rattle.rules.specs.Bench.{listing, listingAnswers, StoredValues, stepsUnderLock, answersUnderLock, setToWhatItWas}
+use Rattle.rules.proofs.inorder.OpenedInOrder.{opened-in-order, opening-counts}
+use Rattle.rules.proofs.InOrderRuns.{answers-in-order, state-in-order}
+use Rattle.rules.proofs.demand.ListRuns.{state-at, step-effect, refused-answer-of}
+use Rattle.rules.proofs.runs.Listing.{reads, writes, acquires, releases, start, answering}
 use Rattle.rules.proofs.runs.FromStart.{answers-from-start, listing-a}
-use Rattle.rules.proofs.runs.StoredCases.{StoredValues, accepted, stepsUnderLock, answersUnderLock, case-D}
+use Rattle.rules.proofs.runs.StoredCases.{accepted, case-D}
 use Rattle.rules.proofs.SkippingCases.{partly, together, inCollection, skipping-cases}
 
 -- ---- "the number of words it set"
@@ -55,27 +62,64 @@ at-most-a-page-each w (r ∷ rs) h = omega (arith, few-words-set w (r .diff) (h 
 
 -- ---- "fetch, read, write and the collecting arrival hand on their sums"
 
--- a read and a write move what their fetch moves; of the other steps only an arrival can move a word
-pub record StepsMove (lim : Limits) (s : State) (p : ℕ) : Type 0 where
-  pub by-read : (w : ℕ) → effect lim s p (Read w) .words ≡ fetchWords lim s p (pageOfWord lim w)
-  pub by-write : (w v : ℕ) → effect lim s p (Write w v) .words ≡ fetchWords lim s p (pageOfWord lim w)
-  pub by-acquire : (l : ℕ) → effect lim s p (Acquire l) .words ≡ 0
-  pub by-release : (l : ℕ) → effect lim s p (Release l) .words ≡ 0
-  pub by-want : effect lim s p Want .words ≡ 0
-  pub by-add : (t v : ℕ) → effect lim s p (TallyAdd t v) .words ≡ 0
-  pub by-total : (t : ℕ) → effect lim s p (TallyRead t) .words ≡ 0
+-- one processor's fetches of the pages below n bring the sums
+pages-sum : (lim : Limits) (s : State) (p n : ℕ)
+    → (pagesFetched lim s p n .count ≡ total n (λ g. fetchCount lim (pagesFetched lim s p g .after) p g))
+    × (pagesFetched lim s p n .words ≡ total n (λ g. fetchWords lim (pagesFetched lim s p g .after) p g))
+unfolding pagesFetched total
+pages-sum lim s p zero = (refl, refl)
+pages-sum lim s p (suc g) =
+    let e = pages-sum lim s p g in
+    let f : State = pagesFetched lim s p g .after in
+    (ap (λ (n : ℕ). n + fetchCount lim f p g) (e .0), ap (λ (n : ℕ). n + fetchWords lim f p g) (e .1))
+
+-- and those of the first n processors
+all-sum : (lim : Limits) (s : State) (n : ℕ)
+    → (allFetched lim s n .count
+    ≡ total n (λ k. total (s .counts .pages) (λ g. fetchCount lim (pagesFetched lim (allFetched lim s k .after) (suc k) g .after) (suc k) g)))
+    × (allFetched lim s n .words
+    ≡ total n (λ k. total (s .counts .pages) (λ g. fetchWords lim (pagesFetched lim (allFetched lim s k .after) (suc k) g .after) (suc k) g)))
+unfolding allFetched total
+all-sum lim s zero = (refl, refl)
+all-sum lim s (suc k) =
+    let e = all-sum lim s k in
+    let h = pages-sum lim (allFetched lim s k .after) (suc k) (s .counts .pages) in
+    (ap₂ _+_ (e .0) (h .0), ap₂ _+_ (e .1) (h .1))
+
+-- an arrival brings what its collection brings
+arrival-moves : (lim : Limits) (s : State) (p : ℕ) → ArrivalBrings lim s p (effect lim s p Arrive)
+unfolding effect arrive collected
+arrival-moves lim s p =
+    record {
+      collecting = λ a b. rw (a, b) (record { count = all-sum lim (roundDone (atBarrier s p)) (s₁ .counts .processors) .0; words = all-sum lim (roundDone (atBarrier s p)) (s₁ .counts .processors) .1 });
+      not-wanted = λ b. rw b (not-wanted (allArrived (atBarrier s p)));
+      not-last = λ a. rw a (record { count = refl; words = refl });
+    }
+  where
+    s₁ : State
+    s₁ = roundDone (atBarrier s p)
+
+    not-wanted : (a : Bool) → BringsNothing (record {
+      after = cond a (noneFetched (roundDone (atBarrier s p))) (noneFetched (atBarrier s p)) .after;
+      value = 0;
+      count = cond a (noneFetched (roundDone (atBarrier s p))) (noneFetched (atBarrier s p)) .count;
+      words = cond a (noneFetched (roundDone (atBarrier s p))) (noneFetched (atBarrier s p)) .words;
+    })
+    not-wanted true = record { count = refl; words = refl }
+    not-wanted false = record { count = refl; words = refl }
 
 pub steps-move : (lim : Limits) (s : State) (p : ℕ) → StepsMove lim s p
 unfolding effect read write
 steps-move lim s p =
     record {
-      by-read = λ w. refl;
-      by-write = λ w v. refl;
-      by-acquire = λ l. refl;
-      by-release = λ l. refl;
-      by-want = refl;
-      by-add = λ t v. refl;
-      by-total = λ t. refl;
+      by-read = λ w. record { count = refl; words = refl };
+      by-write = λ w v. record { count = refl; words = refl };
+      by-acquire = λ l. record { count = refl; words = refl };
+      by-release = λ l. record { count = refl; words = refl };
+      by-arrival = arrival-moves lim s p;
+      by-want = record { count = refl; words = refl };
+      by-add = λ t v. record { count = refl; words = refl };
+      by-total = λ t. record { count = refl; words = refl };
     }
 
 -- a refused step moves none
@@ -89,15 +133,25 @@ refused-moves-nothing lim s t = go (inOrder lim s) (eqb (refusalInOrder lim s t)
     go true false e h = refl
     go false b e h = refl
 
+-- every step of a list answers its effect on the state that the steps before it left
+pub effects-told : (o : Opening) → openingRefusal mainframe o ≡ 0 → (ts : List Step) → EffectsTold (o .counts) ts (answers mainframe (opened mainframe (o .counts)) ts)
+unfolding mainframe
+effects-told o accepted ts =
+    let in-range = opening-counts mainframe o accepted in
+    let start = opened-in-order mainframe (o .counts) in-range in
+    rw (answers-in-order mainframe (opened mainframe (o .counts)) ts start)
+    (record {
+      taken = λ j p a took.
+          rw (state-in-order mainframe (opened mainframe (o .counts)) (take j ts) start, ← state-at mainframe (o .counts) in-range (omega arith) ts j)
+          (step-effect mainframe (o .counts) in-range (omega arith) ts j p a took);
+      refused = λ j e. refused-answer-of mainframe (opened mainframe (o .counts)) ts j e;
+    })
+
 -- ---- totals of runs
 
 -- 1 and 2 store equal values under a lock: 2's record has no words
 unfoldable pub sameValue : List Step
 sameValue = acquires 1 0 ∷ writes 1 0 9 ∷ releases 1 0 ∷ acquires 2 0 ∷ writes 2 0 9 ∷ releases 2 0 ∷ acquires 1 0 ∷ reads 1 0 ∷ []
-
--- 1 and 3 store equal values in a race: each sets the other's word to the value it had
-unfoldable pub setToWhatItWas : List Step
-setToWhatItWas = writes 1 0 7 ∷ writes 3 0 7 ∷ arrives 1 ∷ arrives 2 ∷ arrives 3 ∷ reads 3 0 ∷ reads 1 0 ∷ reads 2 0 ∷ []
 
 pub record WordsCases : Type 0 where
   -- "in listing A it is "words 1""
@@ -123,8 +177,13 @@ computed-what-it-was : answersInOrder mainframe (start 3 1 1) setToWhatItWas
 unfolding start setToWhatItWas
 computed-what-it-was = refl
 
+pub what-it-was : answers mainframe (start 3 1 1) setToWhatItWas
+    ≡ accepted ∷ accepted ∷ accepted ∷ accepted ∷ accepted ∷ answering 0 7 1 ∷ answering 0 7 1 ∷ answering 0 7 1 ∷ []
+unfolding countsInRange inRange mainframe
+what-it-was = answers-from-start 3 1 1 refl setToWhatItWas ∙ computed-what-it-was
+
 pub words-cases : WordsCases
-unfolding countsInRange inRange mainframe wordsMoved answers answersUnderLock
+unfolding countsInRange inRange mainframe wordsMoved answers listingAnswers answersUnderLock
 words-cases =
     record {
       listing = ap wordsMoved listing-a;
@@ -134,5 +193,5 @@ words-cases =
       together = ap wordsMoved (skipping-cases .together);
       collection = ap wordsMoved (skipping-cases .in-collection);
       same-value = ap wordsMoved (answers-from-start 2 1 1 refl sameValue ∙ computed-same-value);
-      set-to-what-it-was = ap wordsMoved (answers-from-start 3 1 1 refl setToWhatItWas ∙ computed-what-it-was);
+      set-to-what-it-was = ap wordsMoved what-it-was;
     }

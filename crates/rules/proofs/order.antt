@@ -9,6 +9,7 @@ pub mod Nobody
 pub mod Turns
 pub mod Allowed
 pub mod Grants
+pub mod Served
 pub mod Rounds
 pub mod TalliesAfter
 pub mod NumbersAfter

@@ -7,5 +7,6 @@ pub mod Fetches
 pub mod Lines
 pub mod Waiters
 pub mod LineOf
+pub mod WithoutValue
 pub mod Outlines
 pub mod WrappedSums

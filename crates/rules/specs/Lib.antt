@@ -7,6 +7,14 @@ pub mod Close
 pub mod Fetch
 pub mod Steps
 pub mod Refusals
+pub mod Rows
 pub mod Runs
 pub mod Order
 pub mod Demand
+pub mod Noted
+pub mod Waiting
+pub mod TallyTotals
+pub mod Moved
+pub mod LocksFree
+pub mod Forecast
+pub mod Bench

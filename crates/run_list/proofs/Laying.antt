@@ -12,7 +12,7 @@ use Rattle.rules.specs.Refusals.{Answer}
 use Rattle.step_act.specs.declared.Outcome.{Outcome}
 use Rattle.step_act.specs.declared.Outcome.the-variants.{Done, Refused}
 use Rattle.step_act.specs.Telling.{outcomeRefusal, outcomeValue, outcomeCount, outcomeWords, told}
-use Rattle.step_record.specs.Records.{answerWords, answersIn}
+use Rattle.step_record.specs.Answers.{answerWords, answersIn}
 use Rattle.run_list.specs.inner.Needed.{OutcomeLaid}
 
 -- ---- one answer

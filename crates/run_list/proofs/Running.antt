@@ -24,7 +24,8 @@ use Rattle.layout.specs.inner.Needed.{Ready}
 use Rattle.layout.proofs.Encoding.{holding-is}
 use Rattle.opening.specs.Promises.{openingOf, openRefusal, areasOpened}
 use Rattle.opening.proofs.Following.{opened-holds, opened-ready, accepted-opening}
-use Rattle.step_record.specs.Records.{stepsIn, answerWords, answersIn}
+use Rattle.step_fields.specs.Records.{stepsIn}
+use Rattle.step_record.specs.Answers.{answerWords, answersIn}
 use Rattle.run_list.specs.Runs.{recordsRun, firstRefusal, firstState, runAnswers, runAreas, Ran}
 use Rattle.run_list.specs.inner.Needed.{CountIs, RecordsThere, OpeningThere, OpeningLaid, StepsThere, StepsLaid}
 use Rattle.run_list.proofs.Laying.{laid-behind, laid-read-back}

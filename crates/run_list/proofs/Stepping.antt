@@ -18,7 +18,8 @@ use Rattle.fetch_index.proofs.Kept.{new-kept}
 use Rattle.step_collect.specs.inner.Needed.{ReadyKept}
 use Rattle.step_act.specs.declared.Outcome.{Outcome}
 use Rattle.engine.specs.inner.Needed.{SteppedKept}
-use Rattle.step_record.specs.Records.{stepFrom, stepsIn, answerWords}
+use Rattle.step_fields.specs.Records.{stepFrom, stepsIn}
+use Rattle.step_record.specs.Answers.{answerWords}
 use Rattle.step_record.specs.inner.Needed.{StepThere}
 use Rattle.run_list.specs.inner.Needed.{OutcomeLaid, RecordReady, StepLaid, StepsThere, StepsLaid}
 

@@ -14,7 +14,8 @@ use Rattle.rules.specs.Runs.{answers, stateAfter}
 use Rattle.rules.specs.State.{mainframe, State}
 use Rattle.layout.specs.Areas.{Areas, holding}
 use Rattle.opening.specs.Promises.{openingOf, openRefusal}
-use Rattle.step_record.specs.Records.{stepsIn, answerWords, answersIn}
+use Rattle.step_fields.specs.Records.{stepsIn}
+use Rattle.step_record.specs.Answers.{answerWords, answersIn}
 
 -- how many records are run, the opening among them: as many whole records of eight bytes as there are, and as the answers, four words
 -- each, have room for; bytes and words beyond are not looked at

@@ -1,19 +1,19 @@
 -- After a C call has answered. One law for each way of the code, and `answered-laws`. Assumes nothing.
-use Prim.Native.Nat.{ℕ, _/_, _<_, _≤_, min}
+use Prim.Native.Nat.{ℕ, _/_, _<_, _≤_}
 use native.Mathlib.Omega.{arith}
 use mathlib.Core.Path.{_≡_, refl, sym, ap, _∙_}
 use mathlib.Core.Bool.{Bool, true, false, false≢true}
 use mathlib.Core.List.{List, [], append-nil}
 use lib.ListN.{length, take, length-take}
-use lib.Seq.{length-take-le, take-all}
-use lib.Dec.{leb}
+use lib.Seq.{length-take-le}
 use lib.IntN.{ℤ, pos, negsuc}
 use lib.Signed.{ltZ}
-use borrow.Author.Tests.{leb-true, leb-false, ltb-true}
+use borrow.Author.Tests.{ltb-true}
 use borrow.Author.Needs.{needs}
 use mir.Syntax.{w64}
 use mir.Val.{SFits, ofZ, toZ}
 use mir.ValLaws.{toZ-ofZ}
+use Rattle.lists.proofs.Parts.{take-at-most}
 use Rattle.limits.specs.Files.{fileRecordWidth, lineLimit}
 use Rattle.layout.specs.Areas.{Areas}
 use Rattle.io.specs.Counts.{clamped}
@@ -37,14 +37,7 @@ none-moved (negsuc n) bytes e = refl
 -- else as many as it says, up to all
 some-moved : (z : ℤ) (bytes : List ℕ) → ltZ z (pos 0) ≡ false → take (clamped z (length bytes)) bytes ≡ bytesMoved z bytes
 unfolding bytesMoved
-some-moved (pos n) bytes e = cut (leb n (length bytes)) refl
-  where
-    cut : (b : Bool) → leb n (length bytes) ≡ b → take (min n (length bytes)) bytes ≡ take n bytes
-    cut true d =
-        let all : min n (length bytes) ≡ n = omega (arith, leb-true n (length bytes) d) in
-        ap (λ (j : ℕ). take j bytes) all
-    cut false d =
-        take-all (min n (length bytes)) bytes (omega (arith, leb-false n (length bytes) d)) ∙ sym (take-all n bytes (omega (arith, leb-false n (length bytes) d)))
+some-moved (pos n) bytes e = take-at-most n bytes
 some-moved (negsuc n) bytes e = absurd (false≢true (sym e))
 
 moved-fewer : (z : ℤ) (bytes : List ℕ) → length (bytesMoved z bytes) ≤ length bytes

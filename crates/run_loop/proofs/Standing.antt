@@ -1,10 +1,10 @@
 -- What was written where nothing is left to be written, and the lines of a file behind a run that has stopped. Assumes nothing.
-use Prim.Native.Nat.{ℕ, _-_, _≤_}
-use native.Mathlib.Omega.{arith}
+use Prim.Native.Nat.{ℕ, _≤_}
 use mathlib.Core.Path.{_≡_, refl, sym, ap, _∙_}
 use mathlib.Core.Bool.{Bool, true}
 use mathlib.Core.List.{List, [], _∷_, _++_, append-nil}
-use lib.ListN.{take, drop}
+use lib.ListN.{take}
+use Rattle.lists.proofs.Parts.{no-part}
 use Rattle.layout.specs.Areas.{Areas, rightSizes}
 use Rattle.file_record.specs.Records.{Feed}
 use Rattle.file_chunk.specs.Bytes.{bytesTaken}
@@ -19,17 +19,11 @@ use Rattle.run_loop.specs.declared.Run.{Run}
 
 -- ---- nothing is left to be written
 
-nothing-pending : (s : Run) (out : List ℕ) → s .to ≤ s .from → pending s out ≡ []
-unfolding pending
-nothing-pending s out l = ap (λ (n : ℕ). take n (drop (s .from) out)) none
-  where
-    none : s .to - s .from ≡ 0
-    none = omega (arith, l)
-
 -- all lines linesDue have been written
 pub written-due : (a₀ : Areas) (read written : List ℕ) (s : Run) (out : List ℕ) (a : Areas) → Runs a₀ read written s out a → s .to ≤ s .from → written ≡ linesDue a₀ read (s .ended)
+unfolding pending
 written-due a₀ read written s out a h l =
-    sym (append-nil written) ∙ ap (λ (xs : List ℕ). written ++ xs) (sym (nothing-pending s out l)) ∙ h .lines
+    sym (append-nil written) ∙ ap (λ (xs : List ℕ). written ++ xs) (sym (no-part (s .from) (s .to) out l)) ∙ h .lines
 
 -- ---- a run that has stopped
 

@@ -1,5 +1,5 @@
 -- After a read. One law for each way of the code, and `taking-laws`. Rests on Coming. Assumes nothing.
-use Prim.Native.Nat.{ℕ, _-_, _/_, _<_}
+use Prim.Native.Nat.{ℕ, _/_, _<_}
 use native.Mathlib.Omega.{arith}
 use mathlib.Core.Path.{_≡_, refl, sym, ap, _∙_}
 use mathlib.Core.Bool.{Bool, true, false, false≢true, cond, not, _&&_}
@@ -8,6 +8,7 @@ use lib.ListN.{length, take}
 use lib.Dec.{ltb}
 use borrow.Author.Tests.{lt-ltb, eq-eqb, ne-eqb, not-true, not-false}
 use borrow.Author.Needs.{needs}
+use Rattle.lists.proofs.Parts.{part-from-start}
 use Rattle.limits.specs.Files.{fileRecordWidth, lineLimit}
 use Rattle.layout.specs.Areas.{Areas}
 use Rattle.stepfile.specs.Feeding.{after}
@@ -40,14 +41,6 @@ module _ (s : Run) (t : Taken) (ended : Bool) where
 
   taken-faultless : t .fed ≡ true → takenRun s t ended .fault ≡ Nothing
   taken-faultless e = ap (λ (r : Run). r .fault) (sym (taken-when e))
-
--- the lines left are those that the answer has
-fresh-pending : (p : Progress) (n : ℕ) (ended : Bool) (out : List ℕ) → pending (record { progress = p; from = 0; to = n; ended = ended; fault = Nothing }) out ≡ take n out
-unfolding pending
-fresh-pending p n ended out = ap (λ (j : ℕ). take j out) all
-  where
-    all : n - 0 ≡ n
-    all = omega arith
 
 pub feeds : (s : Run) (bytes out : List ℕ) (a : Areas) (t : Taken) (s′ : Run) (out′ : List ℕ) (a′ : Areas) → FedAs (s .progress) bytes out a t out′ a′ → s′ ≡ takenRun s t false
     → Feeds s bytes out a s′ out′ a′
@@ -98,7 +91,7 @@ module _ (a₀ : Areas) (read written : List ℕ) (s : Run) (out : List ℕ) (a 
       fed-faultless = ap (λ (r : Run). r .fault) (f .run) ∙ taken-faultless s (f .taken) false fed-there
 
       fed-runs : Runs a₀ (read ++ bytes) written s′ out′ a′
-      unfolding linesDue
+      unfolding linesDue pending
       fed-runs =
           rw (f .run ∙ sym (taken-when s (f .taken) false fed-there))
           (record {
@@ -107,7 +100,7 @@ module _ (a₀ : Areas) (read written : List ℕ) (s : Run) (out : List ℕ) (a 
             ordered = omega arith;
             within = f .fed .within;
             lines =
-                ap (λ (xs : List ℕ). written ++ xs) (fresh-pending (f .taken .progress) (f .taken .written) false out′)
+                ap (λ (xs : List ℕ). written ++ xs) (part-from-start (f .taken .written) out′)
                 ∙ ap (λ (xs : List ℕ). xs ++ take (f .taken .written) out′) so-far
                 ∙ sym (f .fed .added a₀ read fed-there (h .reached));
           })
@@ -124,7 +117,7 @@ module _ (a₀ : Areas) (read written : List ℕ) (s : Run) (out : List ℕ) (a 
       no-bytes (y ∷ ys) e = absurd (omega (arith, e))
 
       end-runs : Runs a₀ (read ++ bytes) written s′ out′ a
-      unfolding linesDue
+      unfolding linesDue pending
       end-runs =
           rw (f .run ∙ sym (taken-when s (f .taken) true end-there), ← no-bytes bytes none)
           (record {
@@ -133,7 +126,7 @@ module _ (a₀ : Areas) (read written : List ℕ) (s : Run) (out : List ℕ) (a 
             ordered = omega arith;
             within = f .finished .within;
             lines =
-                ap (λ (xs : List ℕ). written ++ xs) (fresh-pending (f .taken .progress) (f .taken .written) true out′)
+                ap (λ (xs : List ℕ). written ++ xs) (part-from-start (f .taken .written) out′)
                 ∙ ap (λ (xs : List ℕ). xs ++ take (f .taken .written) out′) so-far
                 ∙ sym (f .finished .whole a₀ a read (h .sizes) end-there (h .reached));
           })

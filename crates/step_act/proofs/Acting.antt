@@ -16,7 +16,7 @@ use Rattle.rules.specs.Steps.{Effect, read, write, acquire, release, arrive}
 use Rattle.rules.proofs.inorder.Accepted.{Accepted, accepted-says, present-says, object-there, acquire-there, release-there, late-arrive}
 use Rattle.rules.proofs.inorder.Kept.{effect-keeps-order}
 use Rattle.rules.proofs.order.Timeline.{effect-keeps-counts}
-use Rattle.rules.proofs.inorder.KindsOfSteps.{objectIn, known-says}
+use Rattle.rules.proofs.inorder.KindsOfSteps.{objectIn, known-says, kind-reads, kind-writes, kind-acquires, kind-releases, kind-arrives, kind-wants, kind-adds, kind-totals}
 use Rattle.rules.proofs.inorder.Standing.{StillStand, still-stand}
 use Rattle.layout.specs.Areas.{sharedIn, stateIn}
 use Rattle.layout.specs.inner.Needed.{Acts, Ready, Holds}
@@ -25,7 +25,7 @@ use Rattle.step_collect.specs.inner.Effects.{CountedKept}
 use Rattle.step_access.specs.inner.Effects.{AnsweredKept}
 use Rattle.step_access.specs.inner.Needed.{ActsOnWord, AccessesKept}
 use Rattle.step_lock.specs.inner.Needed.{ActsOnLock}
-use Rattle.step_barrier.specs.inner.Effects.{Wanted}
+use Rattle.barrier_marks.specs.inner.Effects.{Wanted}
 use Rattle.step_barrier.specs.inner.Needed.{ArrivesKept}
 use Rattle.rules.specs.Tallies.{tallyTotal}
 use Rattle.step_tally.specs.inner.Needed.{TallyIn}
@@ -84,40 +84,6 @@ module _ (c w r m : List ℕ) (k p o v : ℕ) (h : Acting c w r m k p o v) where
   on-lock : o < stateIn mainframe c w r m .counts .locks → ActsOnLock c w r m p o
   on-lock b = record { acts = acts; lock = b }
 
--- the action of each kind
-module _ (k p o v : ℕ) where
-  reads : k ≡ 1 → actionOf (stepOf k p o v) ≡ Read o
-  unfolding actionOf stepOf
-  reads e = ap (λ (j : ℕ). actionOf (stepOf j p o v)) e
-
-  writes : k ≡ 2 → actionOf (stepOf k p o v) ≡ Write o v
-  unfolding actionOf stepOf
-  writes e = ap (λ (j : ℕ). actionOf (stepOf j p o v)) e
-
-  acquires : k ≡ 3 → actionOf (stepOf k p o v) ≡ Acquire o
-  unfolding actionOf stepOf
-  acquires e = ap (λ (j : ℕ). actionOf (stepOf j p o v)) e
-
-  releases : k ≡ 4 → actionOf (stepOf k p o v) ≡ Release o
-  unfolding actionOf stepOf
-  releases e = ap (λ (j : ℕ). actionOf (stepOf j p o v)) e
-
-  arrives : k ≡ 5 → actionOf (stepOf k p o v) ≡ Arrive
-  unfolding actionOf stepOf
-  arrives e = ap (λ (j : ℕ). actionOf (stepOf j p o v)) e
-
-  wants : k ≡ 6 → actionOf (stepOf k p o v) ≡ Want
-  unfolding actionOf stepOf
-  wants e = ap (λ (j : ℕ). actionOf (stepOf j p o v)) e
-
-  adds : k ≡ 8 → actionOf (stepOf k p o v) ≡ TallyAdd o v
-  unfolding actionOf stepOf
-  adds e = ap (λ (j : ℕ). actionOf (stepOf j p o v)) e
-
-  totals : k ≡ 9 → actionOf (stepOf k p o v) ≡ TallyRead o
-  unfolding actionOf stepOf
-  totals e = ap (λ (j : ℕ). actionOf (stepOf j p o v)) e
-
 effect-by : (s : State) (p : ℕ) (a b : Action) → a ≡ b → effect mainframe s p a ≡ effect mainframe s p b
 effect-by s p a b e = ap (λ (x : Action). effect mainframe s p x) e
 
@@ -131,7 +97,7 @@ module _ (c w r m : List ℕ) (k p o v : ℕ) (x : List ℕ) (q : AccessingKept 
   unfolding objectBound objectIn mainframe
   word-of-read e =
       on-word c w r m k p o v (h .acting)
-      (object-there mainframe (stateIn mainframe c w r m) (stepOf k p o v) (Read o) (reads k p o v e) (accepted c w r m k p o v (h .acting) .fields-fit))
+      (object-there mainframe (stateIn mainframe c w r m) (stepOf k p o v) (Read o) (kind-reads k p o v e) (accepted c w r m k p o v (h .acting) .fields-fit))
 
   -- a read has its word
   pub read-there : k ≡ 1 → AccessesKept c w r m p o x
@@ -146,7 +112,7 @@ module _ (c w r m : List ℕ) (k p o v : ℕ) (x : List ℕ) (q : AccessingKept 
       record {
         done =
             done-by (effect mainframe (stateIn mainframe c w r m) p (actionOf (stepOf k p o v))) (read mainframe (stateIn mainframe c w r m) p o) (Done y n j) c′ w′ r m
-            (effect-by (stateIn mainframe c w r m) p (actionOf (stepOf k p o v)) (Read o) (reads k p o v e))
+            (effect-by (stateIn mainframe c w r m) p (actionOf (stepOf k p o v)) (Read o) (kind-reads k p o v e))
             (done-with (read mainframe (stateIn mainframe c w r m) p o) y n j c′ w′ r m (a .answer) (a .applied) (a .moved-is) (a .areas));
         kept = f .kept;
       }
@@ -158,7 +124,7 @@ module _ (c w r m : List ℕ) (k p o v : ℕ) (x : List ℕ) (q : AccessingKept 
   unfolding objectBound objectIn mainframe
   word-of-write z =
       on-word c w r m k p o v (h .acting)
-      (object-there mainframe (stateIn mainframe c w r m) (stepOf k p o v) (Write o v) (writes k p o v (is-write z)) (accepted c w r m k p o v (h .acting) .fields-fit))
+      (object-there mainframe (stateIn mainframe c w r m) (stepOf k p o v) (Write o v) (kind-writes k p o v (is-write z)) (accepted c w r m k p o v (h .acting) .fields-fit))
 
   -- a write has its word
   pub write-there : (k ≡ 1 → ⊥) → AccessesKept c w r m p o x
@@ -173,7 +139,7 @@ module _ (c w r m : List ℕ) (k p o v : ℕ) (x : List ℕ) (q : AccessingKept 
       record {
         done =
             done-by (effect mainframe (stateIn mainframe c w r m) p (actionOf (stepOf k p o v))) (write mainframe (stateIn mainframe c w r m) p o v) (Done 0 n j) c′ w′ r m′
-            (effect-by (stateIn mainframe c w r m) p (actionOf (stepOf k p o v)) (Write o v) (writes k p o v (is-write z)))
+            (effect-by (stateIn mainframe c w r m) p (actionOf (stepOf k p o v)) (Write o v) (kind-writes k p o v (is-write z)))
             (done-with (write mainframe (stateIn mainframe c w r m) p o v) 0 n j c′ w′ r m′ refl (a .applied) (a .moved-is) (a .areas));
         kept = f .kept;
       }
@@ -185,7 +151,7 @@ module _ (c w r m : List ℕ) (k p o v : ℕ) (h : Locking c w r m k p o v) wher
   pub acquire-has-lock : k ≡ 3 → ActsOnLock c w r m p o
   acquire-has-lock e =
       on-lock c w r m k p o v (h .acting)
-      (acquire-there mainframe (stateIn mainframe c w r m) (stepOf k p o v) o (acquires k p o v e) (accepted c w r m k p o v (h .acting)))
+      (acquire-there mainframe (stateIn mainframe c w r m) (stepOf k p o v) o (kind-acquires k p o v e) (accepted c w r m k p o v (h .acting)))
 
   -- an acquire was done
   pub acquire-done : (y : Outcome) (c′ r′ m′ : List ℕ) → k ≡ 3 → Holds c′ w r′ m′ (acquire (stateIn mainframe c w r m) p o) → y ≡ Done 0 0 0
@@ -195,7 +161,7 @@ module _ (c w r m : List ℕ) (k p o v : ℕ) (h : Locking c w r m k p o v) wher
       let f = effect mainframe (stateIn mainframe c w r m) p (Acquire o) in
       rw is
       (done-by (effect mainframe (stateIn mainframe c w r m) p (actionOf (stepOf k p o v))) f (Done 0 0 0) c′ w r′ m′
-      (effect-by (stateIn mainframe c w r m) p (actionOf (stepOf k p o v)) (Acquire o) (acquires k p o v e))
+      (effect-by (stateIn mainframe c w r m) p (actionOf (stepOf k p o v)) (Acquire o) (kind-acquires k p o v e))
       (done-with f 0 0 0 c′ w r′ m′ refl refl refl a))
 
   is-release : (k ≡ 3 → ⊥) → k ≡ 4
@@ -205,7 +171,7 @@ module _ (c w r m : List ℕ) (k p o v : ℕ) (h : Locking c w r m k p o v) wher
   pub release-has-lock : (k ≡ 3 → ⊥) → ActsOnLock c w r m p o
   release-has-lock z =
       on-lock c w r m k p o v (h .acting)
-      (release-there mainframe (stateIn mainframe c w r m) (stepOf k p o v) o (releases k p o v (is-release z)) (accepted c w r m k p o v (h .acting)))
+      (release-there mainframe (stateIn mainframe c w r m) (stepOf k p o v) o (kind-releases k p o v (is-release z)) (accepted c w r m k p o v (h .acting)))
 
   -- a release was done
   pub release-done : (y : Outcome) (c′ r′ m′ : List ℕ) → (k ≡ 3 → ⊥) → Holds c′ w r′ m′ (release (stateIn mainframe c w r m) p o) → y ≡ Done 0 0 0
@@ -215,7 +181,7 @@ module _ (c w r m : List ℕ) (k p o v : ℕ) (h : Locking c w r m k p o v) wher
       let f = effect mainframe (stateIn mainframe c w r m) p (Release o) in
       rw is
       (done-by (effect mainframe (stateIn mainframe c w r m) p (actionOf (stepOf k p o v))) f (Done 0 0 0) c′ w r′ m′
-      (effect-by (stateIn mainframe c w r m) p (actionOf (stepOf k p o v)) (Release o) (releases k p o v (is-release z)))
+      (effect-by (stateIn mainframe c w r m) p (actionOf (stepOf k p o v)) (Release o) (kind-releases k p o v (is-release z)))
       (done-with f 0 0 0 c′ w r′ m′ refl refl refl a))
 
 -- ---- the index is kept by a step that is no access and no arrival
@@ -263,7 +229,7 @@ module _ (c w r m : List ℕ) (k p o v : ℕ) (x : List ℕ) (q : MeetingKept c 
               acts = acts c w r m k p o v (t .acting);
               not-arrived = ok .not-arrived;
               not-waiting = ok .not-waiting;
-              no-lock = late-arrive mainframe (stateIn mainframe c w r m) (own (stateIn mainframe c w r m) p) p (rw (arrives k p o v e) at (ok .not-late));
+              no-lock = late-arrive mainframe (stateIn mainframe c w r m) (own (stateIn mainframe c w r m) p) p (rw (kind-arrives k p o v e) at (ok .not-late));
             };
         kept = q .kept;
       }
@@ -277,7 +243,7 @@ module _ (c w r m : List ℕ) (k p o v : ℕ) (x : List ℕ) (q : MeetingKept c 
       record {
         done =
             done-by (effect mainframe (stateIn mainframe c w r m) p (actionOf (stepOf k p o v))) f (Done 0 n j) c′ w′ r′ m′
-            (effect-by (stateIn mainframe c w r m) p (actionOf (stepOf k p o v)) Arrive (arrives k p o v e))
+            (effect-by (stateIn mainframe c w r m) p (actionOf (stepOf k p o v)) Arrive (kind-arrives k p o v e))
             (done-with f 0 n j c′ w′ r′ m′ refl (a .counted .applied) (a .counted .moved-is) (a .counted .areas));
         kept = a .kept;
       }
@@ -297,7 +263,7 @@ module _ (c w r m : List ℕ) (k p o v : ℕ) (x : List ℕ) (q : MeetingKept c 
       rw is
       (apart-done c w r m k p o v x (record { acting = t .acting; kept = q .kept }) (omega (arith, t .first)) z (Done 0 0 0) c w r m′
       (done-by (effect mainframe (stateIn mainframe c w r m) p (actionOf (stepOf k p o v))) f (Done 0 0 0) c w r m′
-      (effect-by (stateIn mainframe c w r m) p (actionOf (stepOf k p o v)) Want (wants k p o v six))
+      (effect-by (stateIn mainframe c w r m) p (actionOf (stepOf k p o v)) Want (kind-wants k p o v six))
       (done-with f 0 0 0 c w r m′ refl refl refl
       (record { lent = record { clocks = l .clocks; words = l .words; records = l .records; marks = a .marks }; is = a .is c w r }))))
 
@@ -321,8 +287,8 @@ module _ (w : List ℕ) (k p o v : ℕ) (h : Tallying w k p o) where
   add-tallied y w′ z a done =
       record {
         words = a .words;
-        is = λ c r m. a .is c r m ∙ ap (λ (x : Effect). x .after) (sym (effect-by (stateIn mainframe c w r m) p (actionOf (stepOf k p o v)) (TallyAdd o v) (adds k p o v (is-add z))));
-        outcome = λ c r m. rw (adds k p o v (is-add z), done) (done-tells 0 0 0);
+        is = λ c r m. a .is c r m ∙ ap (λ (x : Effect). x .after) (sym (effect-by (stateIn mainframe c w r m) p (actionOf (stepOf k p o v)) (TallyAdd o v) (kind-adds k p o v (is-add z))));
+        outcome = λ c r m. rw (kind-adds k p o v (is-add z), done) (done-tells 0 0 0);
       }
 
   -- a total was read
@@ -331,8 +297,8 @@ module _ (w : List ℕ) (k p o v : ℕ) (h : Tallying w k p o) where
   total-tallied x nine e =
       record {
         words = h .tally .words;
-        is = λ c r m. ap (λ (y : Effect). y .after) (sym (effect-by (stateIn mainframe c w r m) p (actionOf (stepOf k p o v)) (TallyRead o) (totals k p o v nine)));
-        outcome = λ c r m. rw (totals k p o v nine, ← e) (done-tells x 0 0);
+        is = λ c r m. ap (λ (y : Effect). y .after) (sym (effect-by (stateIn mainframe c w r m) p (actionOf (stepOf k p o v)) (TallyRead o) (kind-totals k p o v nine)));
+        outcome = λ c r m. rw (kind-totals k p o v nine, ← e) (done-tells x 0 0);
       }
 
 -- ---- the kinds
@@ -366,8 +332,8 @@ module _ (c w r m : List ℕ) (k p o v : ℕ) (x : List ℕ) (q : ActingKept c w
       there a e = unfold stepOf in object-there mainframe (stateIn mainframe c w r m) (stepOf k p o v) a e (accepted c w r m k p o v (q .acting) .fields-fit)
 
       below : (k ≡ 8) ⊎ (k ≡ 9) → o < tallyLimit
-      below (inl e) = unfold objectBound objectIn mainframe in there (TallyAdd o v) (adds k p o v e)
-      below (inr e) = unfold objectBound objectIn mainframe in there (TallyRead o) (totals k p o v e)
+      below (inl e) = unfold objectBound objectIn mainframe in there (TallyAdd o v) (kind-adds k p o v e)
+      below (inr e) = unfold objectBound objectIn mainframe in there (TallyRead o) (kind-totals k p o v e)
 
   -- which keep the index
   pub tallied-kept : 6 < k → (y : Outcome) (w′ : List ℕ) → Tallied w w′ k p o v y

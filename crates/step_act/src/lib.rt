@@ -127,7 +127,7 @@ fn meet(
             words: moved.words,
         };
     }
-    step_barrier::want(marks);
+    barrier_marks::want(marks);
     done()
 }
 

@@ -2,19 +2,17 @@
 use Prim.Native.Nat.{ℕ, _*_, _≤_}
 use native.Mathlib.Omega.{arith}
 use mathlib.Core.Path.{_≡_, sym, ap, _∙_}
-use mathlib.Core.Bool.{Bool, true, false, not, and-false}
+use mathlib.Core.Bool.{Bool, true, false, not}
 use mathlib.Core.List.{List}
 use lib.ListN.{length, set, length-set}
 use lib.Seq.{sets, length-sets}
-use lib.Dec.{leb, eqb}
-use borrow.Author.Tests.{not-true, not-false, eqb-true, lt-leb}
+use borrow.Author.Tests.{not-true, not-false}
 use borrow.Author.Needs.{needs}
 use Rattle.lists.specs.Tables.{put}
 use Rattle.limits.specs.Limits.{processorLimit}
 use Rattle.limits.specs.inner.Sizes.{clockWidth}
 use Rattle.clock.specs.Clocks.{joined}
 use Rattle.rules.specs.Close.{closed}
-use Rattle.rules.specs.InOrder.{present}
 use Rattle.rules.specs.State.{mainframe, Processor, Barrier, Clocks, withArrived, State, withClocks, withMarks, hasArrived}
 use Rattle.rules.specs.Steps.{learned, atBarrier, allArrived, roundDone, Fetches, noneFetched, arrive}
 use Rattle.rules.proofs.inorder.KeptBarrier.{round-parts, waiting-parts}
@@ -24,17 +22,19 @@ use Rattle.rules.proofs.inorder.Standing.{at-barrier-stand, round-done-stand}
 use Rattle.layout.specs.Areas.{clockRow, arrivedPlace, clocksIn, stateIn}
 use Rattle.layout.specs.Layout.{rowOf}
 use Rattle.layout.specs.inner.Needed.{Acts, Ready, Holds, MarksOf}
-use Rattle.layout.specs.inner.Marks.{processorCount, arrivedMark}
+use Rattle.layout.specs.inner.Marks.{processorCount}
 use Rattle.layout.specs.inner.Needed.{TwoRows}
-use Rattle.layout.proofs.MarkLaws.{processors-read, arrived-read, arrived-written}
+use Rattle.layout.proofs.MarkLaws.{processors-read, arrived-written}
 use Rattle.layout.proofs.Learning.{learned-clock}
 use Rattle.layout.proofs.Rows.{acting-within}
 use Rattle.fetch_index.proofs.Kept.{bounds-stay, kept-while-standing}
 use Rattle.step_collect.specs.inner.Effects.{CountedKept}
-use Rattle.step_barrier.specs.inner.Needed.{Arrives, ArrivesKept, AbsentAway, RoundComplete, CompleteKept}
-use Rattle.step_barrier.specs.inner.Effects.{OneMissing, completed}
+use Rattle.barrier_marks.specs.inner.Needed.{AbsentAway}
+use Rattle.barrier_marks.specs.inner.Effects.{OneMissing}
+use Rattle.barrier_marks.proofs.Counting.{absent-away, last-arrives}
+use Rattle.step_barrier.specs.inner.Needed.{Arrives, ArrivesKept, RoundComplete, CompleteKept}
+use Rattle.step_barrier.specs.inner.Effects.{completed}
 use Rattle.step_barrier.proofs.Completing.{round-ready}
-use Rattle.step_barrier.proofs.Counting.{last-arrives}
 
 -- ---- at the barrier
 
@@ -95,24 +95,10 @@ module _ (c w r m : List ℕ) (p : ℕ) (x : List ℕ) (k : ArrivesKept c w r m 
   pub arrival-acts : Acts c w r m p
   arrival-acts = a .acts
 
-  -- no absent processor has arrived
-  pub absent-away : AbsentAway m
-  unfolding mainframe stateIn hasArrived present
-  absent-away =
-      let o = a .acts .in-order in
-      record {
-        marks = a .acts .lent .marks;
-        few = o .processors-fit;
-        absent =
-            record {
-              away =
-                  λ q h k.
-                  eqb-true (arrivedMark m q) 0
-                  (not-false (eqb (arrivedMark m q) 0)
-                  (ap (λ (x : ℕ). not (eqb x 0)) (sym (arrived-read c w r m q (omega arith) k))
-                  ∙ o .absent-not-arrived q (omega arith) (rw (lt-leb q (processorCount m) h) (and-false (leb 1 q)))));
-            };
-      }
+  -- the others can be counted
+  pub others-counted : AbsentAway m
+  unfolding mainframe stateIn
+  others-counted = absent-away c w r m (a .acts .lent .marks) (a .acts .in-order .processors-fit) (a .acts .in-order .absent-not-arrived)
 
   ready : Ready c w r m
   ready = record { lent = a .acts .lent; in-order = a .acts .in-order }
@@ -188,4 +174,4 @@ module _ (c w r m : List ℕ) (p : ℕ) (x : List ℕ) (k : ArrivesKept c w r m 
             kept = e .kept;
           }
 
-pub ruleset act-laws = (arrived-there, barrier-rows, at-barrier, arrival-acts, absent-away, round-complete, not-the-last, last-completes, needs)
+pub ruleset act-laws = (arrived-there, barrier-rows, at-barrier, arrival-acts, others-counted, round-complete, not-the-last, last-completes, needs)

@@ -1,5 +1,4 @@
 pub mod Learning
 pub mod Rounds
-pub mod Counting
 pub mod Completing
 pub mod Acting

@@ -1,32 +1,29 @@
--- What a completed round leaves; the wish for collection. One law for each way of the code, and
--- `round-laws`. Assumes nothing.
+-- What a completed round leaves: one law for each way of the code, and `round-laws`. Assumes nothing.
 use Prim.Native.Nat.{ℕ, _*_}
 use native.Mathlib.Omega.{arith}
 use mathlib.Core.Path.{_≡_, sym, ap, _∙_}
-use mathlib.Core.Bool.{Bool, true, false, not}
 use mathlib.Core.List.{List, map}
-use lib.ListN.{length, set, length-set, replicate, length-replicate}
+use lib.ListN.{length, replicate, length-replicate}
 use lib.Seq.{sets, length-sets}
-use lib.Dec.{eqb}
 use borrow.Author.Needs.{needs}
 use Rattle.limits.specs.Limits.{processorLimit}
-use Rattle.limits.specs.Places.{firstArrived, wantedPlace}
-use Rattle.limits.specs.inner.Sizes.{clockArea, clockWidth, markArea}
+use Rattle.limits.specs.Places.{firstArrived}
+use Rattle.limits.specs.inner.Sizes.{clockArea, clockWidth}
 use Rattle.rules.specs.State.{mainframe, Barrier, Clocks, withClock, cleared, withArrived, State, withClocks, withMarks, withShared}
-use Rattle.rules.specs.Steps.{allLearned, roundDone, wantsCollection, want}
+use Rattle.rules.specs.Steps.{allLearned, roundDone}
 use Rattle.rules.proofs.inorder.Facts.{Within}
 use Rattle.layout.specs.Areas.{clockRow, clocksIn, stateIn}
 use Rattle.layout.specs.Layout.{rowOf}
 use Rattle.layout.specs.inner.Needed.{RowThere}
-use Rattle.layout.specs.inner.Marks.{processorCount, wishMark}
+use Rattle.layout.specs.inner.Marks.{processorCount}
 use Rattle.layout.proofs.ClockLaws.{clock-written}
-use Rattle.layout.proofs.MarkLaws.{wanted-read, wanted-written, arrived-cleared}
+use Rattle.layout.proofs.MarkLaws.{arrived-cleared}
 use Rattle.layout.proofs.RowLaws.{length-row, map-replicate}
 use Rattle.rules.specs.Tallies.{posting}
 use Rattle.step_tally.specs.inner.Needed.{RoundReady}
 use Rattle.step_tally.specs.inner.Effects.{Posted}
 use Rattle.step_barrier.specs.inner.Needed.{ClocksOfFirst, RoundThere}
-use Rattle.step_barrier.specs.inner.Effects.{HoldsClocks, RoundDone, Wanted}
+use Rattle.step_barrier.specs.inner.Effects.{HoldsClocks, RoundDone}
 
 -- ---- a completed round
 
@@ -77,25 +74,4 @@ round-done c w m w₁ c₁ c₂ m₂ n h e t k ec em =
           withShared (withMarks (withClocks s (withClock (allLearned (clocksIn mainframe c) j) Barrier (cleared (clocksIn mainframe c .barrier)))) (withArrived (s .marks) (map (λ mark. 0) (s .marks .arrived)))) (posting (s .shared) j)) e;
     }
 
--- ---- the wish for collection
-
-module _ (m : List ℕ) (h : length m ≡ markArea) (b : Bool) (e : b ≡ not (eqb (wishMark m) 0)) where
-  wish-read : (c w r : List ℕ) → wantsCollection (stateIn mainframe c w r m) ≡ b
-  unfolding wantsCollection
-  wish-read c w r = ap (λ (x : ℕ). not (eqb x 0)) (wanted-read c w r m) ∙ sym e
-
-  -- it is set
-  pub wish-set : (m′ : List ℕ) → b ≡ false → m′ ≡ set m wantedPlace 1 → Wanted m m′
-  unfolding want
-  wish-set m′ t em =
-      record {
-        marks = ap length em ∙ length-set m wantedPlace 1 ∙ h;
-        is = λ c w r. ap (stateIn mainframe c w r) em ∙ wanted-written c w r m 1 h ∙ rw (wish-read c w r, t);
-      }
-
-  -- it was set
-  pub wish-kept : b ≡ true → Wanted m m
-  unfolding want
-  wish-kept t = record { marks = h; is = λ c w r. rw (wish-read c w r, t) }
-
-pub ruleset round-laws = (learners-there, posters-there, barrier-row-there, round-done, wish-set, wish-kept, needs)
+pub ruleset round-laws = (learners-there, posters-there, barrier-row-there, round-done, needs)

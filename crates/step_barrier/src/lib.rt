@@ -1,29 +1,21 @@
-// Arriving at the barrier, which may complete a round, and wanting a collection, on lent memory that holds a state in order.
+// Arriving at the barrier, which may complete a round, on lent memory that holds a state in order.
 // The contracts say in the words of the rules (specs/Steps.antt of the crate rules) what state the areas hold afterwards.
 ghost use mathlib.Core.Path.{_≡_};
-ghost use Prim.Native.Nat.{_<_};
-ghost use lib.ListN.{length};
-ghost use Rattle.limits.specs.inner.Sizes.{markArea};
 ghost use Rattle.rules.specs.State.{mainframe};
 ghost use Rattle.rules.specs.Steps.{atBarrier, allLearned, arrive};
 ghost use Rattle.layout.specs.Areas.{clocksIn, stateIn};
 ghost use Rattle.layout.specs.inner.Needed.{Acts, Holds};
 ghost use Rattle.step_collect.specs.inner.Effects.{CountedKept};
-ghost use Rattle.step_barrier.specs.inner.Needed.{ArrivesKept, AbsentAway, CompleteKept, ClocksOfFirst, RoundThere};
-ghost use Rattle.step_barrier.specs.inner.Effects.{HoldsClocks, OneMissing, RoundDone, completed, Wanted};
+ghost use Rattle.step_barrier.specs.inner.Needed.{ArrivesKept, CompleteKept, ClocksOfFirst, RoundThere};
+ghost use Rattle.step_barrier.specs.inner.Effects.{HoldsClocks, RoundDone, completed};
 use clock::Clock;
 use clock::ProcessorId;
-use layout::flag;
 use layout::learn;
 use layout::marks::clear_arrived;
-use layout::marks::has_arrived;
 use layout::marks::is_wanted;
 use layout::marks::mark_arrived;
 use layout::marks::processor_count;
-use layout::marks::put_wanted;
 use layout::put_clock;
-use layout::wide;
-use limits::PROCESSOR_LIMIT;
 use step_collect::Moved;
 
 // Arrive: closes the interval; the barrier's clock joins the processor's; the processor is marked. When the last processor arrives the
@@ -39,7 +31,7 @@ pub fn arrive(
     requires { ⌜ ArrivesKept (now clocks) (now words) (now records) (now marks) (p .0) (now index) ⌝ }
     ensures { λ r. ⌜ CountedKept (arrive mainframe (stateIn mainframe (now (clocks .entry)) (now (words .entry)) (now (records .entry)) (now (marks .entry))) (p .0)) (r .count) (r .words) (now (clocks .exit)) (now (words .exit)) (now (records .exit)) (now (marks .exit)) (now (index .exit)) ⌝ }
 {
-    let last = one_missing(marks);
+    let last = barrier_marks::one_missing(marks);
     at_barrier(p, clocks, words, records, marks);
     if !last {
         return nothing();
@@ -52,32 +44,6 @@ fn nothing() -> Moved
     ensures { λ r. ⌜ (r .count ≡ 0) × (r .words ≡ 0) ⌝ }
 {
     Moved { count: 0, words: 0 }
-}
-
-// Whether all processors but one have arrived. Every mark is counted, those of absent processors too, which are 0: one loop without a
-// branch, before the own mark is set, so that no store stands right before the loads.
-fn one_missing(marks: &[u8]) -> bool
-    requires { ⌜ AbsentAway (now marks) ⌝ }
-    ensures { λ r. ⌜ OneMissing (now (marks .entry)) r ⌝ }
-{
-    let mut sum: u8 = 0;
-    let mut k: usize = 0;
-    while k < PROCESSOR_LIMIT {
-        sum = sum + flag(has_arrived(marks, ProcessorId(k + 1)));
-        k = k + 1;
-    }
-    wide(sum) + 1 == processor_count(marks)
-}
-
-// Want collection: sets the wish; setting it again changes nothing.
-pub fn want(marks: &mut [u8])
-    requires { ⌜ length (now marks) ≡ markArea ⌝ }
-    ensures { λ _. ⌜ Wanted (now (marks .entry)) (now (marks .exit)) ⌝ }
-{
-    if is_wanted(marks) {
-        return;
-    }
-    put_wanted(marks, 1);
 }
 
 // Closes the interval; the barrier's clock joins the processor's; the processor is marked.

@@ -10,15 +10,18 @@ use lib.ListN.{length, getD, set, length-map, List·getD-eq-default}
 use lib.Seq.{ext-getD, set-getD, set-set}
 use lib.Dec.{eqb}
 use borrow.Author.Tests.{eqb-true, not-false}
-use Rattle.lists.specs.Tables.{put, putCell}
-use Rattle.lists.proofs.Tables.{get-put-same, get-put-other, length-put-within, put-within, get-map, cell-put-place}
+use Rattle.lists.specs.Tables.{put, putCell, any}
+use Rattle.lists.proofs.Tables.{Passes, any-at, any-holds, get-put-same, get-put-other, length-put-within, put-within, get-map, cell-put-place}
 use Rattle.diff.specs.Format.{written}
 use Rattle.rules.specs.State.{Limits, Pages, copyOf, twinOf, dirtyAt, Record, appended, State, withClocks, withPages, withRecords, clock, own}
+use Rattle.rules.specs.InOrder.{present, inOrder}
 use Rattle.rules.specs.Close.{anyDirty, ticked, newRecord, recorded, cleaned, closed}
 use Rattle.rules.proofs.inorder.Facts.{InOrder}
+use Rattle.rules.proofs.inorder.InOrderSays.{in-order-says}
+use Rattle.rules.proofs.inorder.Accepted.{present-says}
 use Rattle.rules.proofs.inorder.KeptRounds.{own-ticked-same}
-use Rattle.step_close.specs.inner.Parts.{changeOf, pageCleaned, changeMade, pageClosed, pagesClosed, allClosed}
-use Rattle.step_close.proofs.NothingDirty.{clean-from}
+use Rattle.step_close.specs.Sequence.{changeOf, pageCleaned, changeMade, pageClosed, pagesClosed, allClosed, closedInSequence}
+use Rattle.step_close.proofs.NothingDirty.{nothing-to-close, clean-from}
 
 -- ---- the marks of a row cleared one by one
 
@@ -187,3 +190,35 @@ closed-in-sequence lim s p order from to dirty =
     ∙ ap (λ (m : Pages). withPages (withRecords (withClocks s (ticked s p)) (recorded s p (s .counts .pages))) m)
     (all-cleaned (s .pages) p (omega (arith, order .sized .dirty, order .processors-fit, to)) (s .counts .pages) (clean-from lim s p order from to))
     ∙ rw dirty
+
+-- with nothing dirty among the present pages no mark of the processor is set
+none-among-all : (lim : Limits) (s : State) (p : ℕ) → InOrder lim s → 1 ≤ p → p ≤ s .counts .processors → anyDirty s p ≡ false → any (lim .pages) (dirtyAt (s .pages) p) ≡ false
+unfolding anyDirty
+none-among-all lim s p order from to clean = go (any (lim .pages) (dirtyAt (s .pages) p)) refl
+  where
+    at : Passes (lim .pages) (dirtyAt (s .pages) p) → ⊥
+    at found = by (decLt (found .at) (s .counts .pages))
+      where
+        by : Dec (found .at < s .counts .pages) → ⊥
+        by (yes h) = false≢true (sym clean ∙ any-holds (s .counts .pages) (dirtyAt (s .pages) p) (found .at) h (found .passes))
+        by (no h) =
+            let clear : dirtyAt (s .pages) p (found .at) ≡ false = unfold dirtyAt in ap (λ (x : ℕ). not (eqb x 0)) (clean-from lim s p order from to (found .at) (omega arith)) in
+            false≢true (sym clear ∙ found .passes)
+
+    go : (b : Bool) → any (lim .pages) (dirtyAt (s .pages) p) ≡ b → any (lim .pages) (dirtyAt (s .pages) p) ≡ false
+    go true e = absurd (at (any-at (lim .pages) (dirtyAt (s .pages) p) e))
+    go false e = e
+
+-- the sequence with its first question comes to the rules' close, in every state in order
+pub sequence-closes : (lim : Limits) (s : State) (p : ℕ) → inOrder lim s ≡ true → present s p ≡ true → closedInSequence s p ≡ closed s p
+unfolding closedInSequence
+sequence-closes lim s p ordered here = go (anyDirty s p) refl
+  where
+    order : InOrder lim s
+    order = in-order-says lim s ordered
+
+    go : (b : Bool) → anyDirty s p ≡ b → cond b (allClosed (withClocks s (ticked s p)) p) s ≡ closed s p
+    go true e = closed-in-sequence lim s p order (present-says s p here .0) (present-says s p here .1) e
+    go false e =
+        sym (nothing-to-close s p lim order (present-says s p here .0) (omega (arith, present-says s p here .1, order .processors-fit))
+        (none-among-all lim s p order (present-says s p here .0) (present-says s p here .1) e))

@@ -1,27 +1,20 @@
 -- Acquire and release, put together from closing and their own parts: one law for each way of the code, and `act-laws`. Assumes nothing.
-use Prim.Native.Nat.{ℕ, suc, _<_}
+use Prim.Native.Nat.{ℕ}
 use native.Mathlib.Omega.{arith}
-use mathlib.Core.Path.{_≡_, refl, ap, _∙_}
-use mathlib.Core.Bool.{Bool, true, false}
+use mathlib.Core.Path.{ap, _∙_}
 use mathlib.Core.List.{List}
-use lib.ListN.{getD}
 use borrow.Author.Needs.{needs}
-use Rattle.limits.specs.Limits.{processorLimit}
 use Rattle.rules.specs.Close.{closed}
-use Rattle.rules.specs.InOrder.{present}
-use Rattle.rules.specs.Lines.{firstInLine}
 use Rattle.rules.specs.State.{mainframe, State}
 use Rattle.rules.specs.Steps.{acquire, release}
-use Rattle.rules.proofs.inorder.Accepted.{present-says, present-when}
+use Rattle.rules.proofs.inorder.Accepted.{present-when}
 use Rattle.rules.proofs.inorder.Facts.{InOrder}
 use Rattle.rules.proofs.inorder.KeptClose.{closed-keeps}
-use Rattle.rules.proofs.state.Waiters.{awake-says, no-first}
-use Rattle.layout.specs.Areas.{marksIn, stateIn}
-use Rattle.layout.specs.inner.Marks.{processorCount, awaitedMark}
+use Rattle.layout.specs.Areas.{stateIn}
 use Rattle.layout.specs.inner.Needed.{Acts, Holds}
-use Rattle.layout.proofs.MarkLaws.{awaited-read}
 use Rattle.layout.proofs.Rows.{acting-within}
 use Rattle.lock_line.specs.inner.Needed.{LineThere, Hands}
+use Rattle.lock_line.proofs.Standing.{hands-in-order}
 use Rattle.step_lock.specs.inner.Needed.{ActsOnLock, LockThere}
 use Rattle.step_lock.specs.inner.Effects.{lockTaken, lockFreed, LockTaken, LockFreed}
 
@@ -51,17 +44,7 @@ module _ (c w r m : List ℕ) (p l : ℕ) (a : ActsOnLock c w r m p l) where
 
     -- where nobody is first nobody waits
     pub closed-hands : Hands m′ l
-    unfolding stateIn
-    closed-hands = record { line = line-there; nobody = λ z k b e. go z k b e (present (stateIn mainframe c′ w r′ m′) (suc k)) refl }
-      where
-        reads : (k : ℕ) → k < processorLimit → getD (marksIn mainframe m′ .awaited) (suc k) 0 ≡ awaitedMark m′ (suc k)
-        reads k b = awaited-read c′ w r′ m′ (suc k) (omega arith) (omega (arith, b))
-
-        go : firstInLine (processorCount m′) (marksIn mainframe m′) l ≡ 0 → (k : ℕ) → k < processorLimit → awaitedMark m′ (suc k) ≡ suc l → (b : Bool)
-            → present (stateIn mainframe c′ w r′ m′) (suc k) ≡ b → ⊥
-        go z k b e true t =
-            no-first (processorCount m′) (marksIn mainframe m′) l (still-in-order .lines .lines) z k (present-says (stateIn mainframe c′ w r′ m′) (suc k) t .1) (reads k b ∙ e)
-        go z k b e false t = omega (arith, e, reads k b, awake-says (marksIn mainframe m′) k (still-in-order .absent-awake (suc k) (omega arith) t))
+    closed-hands = hands-in-order c′ w r′ m′ l line-there (still-in-order .lines) (still-in-order .absent-awake)
 
 module _ (s : State) (p l : ℕ) (c w r m c′ m′ : List ℕ) (h : Holds c w r m (closed s p)) where
   -- then the lock taken

@@ -13,7 +13,7 @@ use Rattle.layout.specs.Areas.{Areas}
 use Rattle.inorder.specs.Areas.{OrderIs}
 use Rattle.file_chunk.specs.Bytes.{bytesTaken}
 use Rattle.file_chunk.proofs.Bytes.{taken-stopped}
-use Rattle.file_chunk.proofs.Passing.{rest-kept-all}
+use Rattle.file_lines.proofs.Placing.{rest-kept-all}
 use Rattle.stepfile.specs.Feeding.{after}
 use Rattle.stepfile.specs.Promises.{FedAs, Started, feedAnswer, feedAreas, feedLines, feedable, notTaken, progressOf, feedAt}
 use Rattle.stepfile.specs.declared.Progress.{Progress}

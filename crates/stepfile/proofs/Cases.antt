@@ -12,16 +12,18 @@ use Rattle.rules.specs.Opening.{openingRefusal}
 use Rattle.rules.specs.Refusals.{Step, Answer}
 use Rattle.rules.specs.Runs.{answers, wordsMoved}
 use Rattle.rules.specs.State.{mainframe, State}
-use Rattle.rules.proofs.runs.Listing.{start, answering, listing}
+use Rattle.rules.specs.Bench.{listing, listingAnswers}
+use Rattle.rules.proofs.runs.Listing.{start}
 use Rattle.rules.proofs.runs.FromStart.{listing-a}
 use Rattle.layout.specs.Areas.{clockRows, wordPlaces, wordRows, markPlaces, sizesRight, Areas, areas, rightSizes}
 use Rattle.opening.specs.Promises.{openingOf, openRefusal, areasOpened}
-use Rattle.step_record.specs.Records.{stepFrom, stepsIn}
+use Rattle.step_fields.specs.Records.{stepFrom, stepsIn, stepCount}
 use Rattle.lines.specs.Decimal.{digitsWithin, digits}
-use Rattle.lines.specs.Lines.{lineBytes, wordsLine}
-use Rattle.file_record.specs.Records.{refusalLine, openingTaken, recordTaken}
+use Rattle.lines.specs.Lines.{lineBytes, wordsLine, refusalLine}
+use Rattle.file_record.specs.Records.{openingTaken, recordTaken}
 use Rattle.file_chunk.specs.Bytes.{heldOn, byteTaken, bytesTaken}
-use Rattle.stepfile.specs.Files.{answerLines, stepCount, endLine, openedBy, stepAnswers, stepLines, fileLines}
+use Rattle.stepfile.specs.Files.{answerLines, endLine, openedBy, stepAnswers, stepLines, fileLines}
+use Rattle.stepfile.specs.ListingA.{listingBytes, listingLines}
 use Rattle.stepfile.specs.Feeding.{begun, after, lastLine}
 use Rattle.stepfile.specs.Promises.{progressOf, finishLine}
 use Rattle.stepfile.proofs.Whole.{whole-lines}
@@ -108,55 +110,17 @@ opening-alone-fed : fed openingAlone ≡ lines-0-words
 unfolding openingAlone fed lines-0-words
 opening-alone-fed = refl
 
--- ---- Listing A, a row a record
-
-unfoldable listingBytes : List ℕ
-listingBytes =
-    0 ∷ 2 ∷ 1 ∷ 1 ∷ 0 ∷ 0 ∷ 0 ∷ 0
-    ∷ 3 ∷ 1 ∷ 0 ∷ 0 ∷ 0 ∷ 0 ∷ 0 ∷ 0
-    ∷ 2 ∷ 1 ∷ 3 ∷ 0 ∷ 188 ∷ 2 ∷ 0 ∷ 0
-    ∷ 1 ∷ 2 ∷ 3 ∷ 0 ∷ 0 ∷ 0 ∷ 0 ∷ 0
-    ∷ 3 ∷ 2 ∷ 0 ∷ 0 ∷ 0 ∷ 0 ∷ 0 ∷ 0
-    ∷ 4 ∷ 1 ∷ 0 ∷ 0 ∷ 0 ∷ 0 ∷ 0 ∷ 0
-    ∷ 3 ∷ 2 ∷ 0 ∷ 0 ∷ 0 ∷ 0 ∷ 0 ∷ 0
-    ∷ 1 ∷ 2 ∷ 3 ∷ 0 ∷ 0 ∷ 0 ∷ 0 ∷ 0
-    ∷ 1 ∷ 2 ∷ 3 ∷ 0 ∷ 0 ∷ 0 ∷ 0 ∷ 0
-    ∷ 5 ∷ 1 ∷ 0 ∷ 0 ∷ 0 ∷ 0 ∷ 0 ∷ 0
-    ∷ 1 ∷ 1 ∷ 3 ∷ 0 ∷ 0 ∷ 0 ∷ 0 ∷ 0
-    ∷ 6 ∷ 2 ∷ 0 ∷ 0 ∷ 0 ∷ 0 ∷ 0 ∷ 0
-    ∷ 5 ∷ 2 ∷ 0 ∷ 0 ∷ 0 ∷ 0 ∷ 0 ∷ 0
-    ∷ []
-
--- "0 0 0 0" to "12 18 0 0", then "words 1", a row a line
-unfoldable listingLines : List ℕ
-listingLines =
-    48 ∷ 32 ∷ 48 ∷ 32 ∷ 48 ∷ 32 ∷ 48 ∷ 10
-    ∷ 49 ∷ 32 ∷ 48 ∷ 32 ∷ 48 ∷ 32 ∷ 48 ∷ 10
-    ∷ 50 ∷ 32 ∷ 48 ∷ 32 ∷ 48 ∷ 32 ∷ 48 ∷ 10
-    ∷ 51 ∷ 32 ∷ 48 ∷ 32 ∷ 48 ∷ 32 ∷ 48 ∷ 10
-    ∷ 52 ∷ 32 ∷ 48 ∷ 32 ∷ 48 ∷ 32 ∷ 48 ∷ 10
-    ∷ 53 ∷ 32 ∷ 48 ∷ 32 ∷ 48 ∷ 32 ∷ 48 ∷ 10
-    ∷ 54 ∷ 32 ∷ 55 ∷ 32 ∷ 48 ∷ 32 ∷ 48 ∷ 10
-    ∷ 55 ∷ 32 ∷ 48 ∷ 32 ∷ 55 ∷ 48 ∷ 48 ∷ 32 ∷ 49 ∷ 10
-    ∷ 56 ∷ 32 ∷ 48 ∷ 32 ∷ 55 ∷ 48 ∷ 48 ∷ 32 ∷ 48 ∷ 10
-    ∷ 57 ∷ 32 ∷ 48 ∷ 32 ∷ 48 ∷ 32 ∷ 48 ∷ 10
-    ∷ 49 ∷ 48 ∷ 32 ∷ 54 ∷ 32 ∷ 48 ∷ 32 ∷ 48 ∷ 10
-    ∷ 49 ∷ 49 ∷ 32 ∷ 48 ∷ 32 ∷ 48 ∷ 32 ∷ 48 ∷ 10
-    ∷ 49 ∷ 50 ∷ 32 ∷ 49 ∷ 56 ∷ 32 ∷ 48 ∷ 32 ∷ 48 ∷ 10
-    ∷ 119 ∷ 111 ∷ 114 ∷ 100 ∷ 115 ∷ 32 ∷ 49 ∷ 10
-    ∷ []
+-- ---- Listing A
 
 listing-state : openedBy listingBytes ≡ start 2 1 1
 unfolding openedBy openingOf listingBytes start
 listing-state = refl
 
-listing-steps : stepsIn (min (stepCount listingBytes) stepLimit) (drop fileRecordWidth listingBytes) ≡ listing
+pub listing-steps : stepsIn (min (stepCount listingBytes) stepLimit) (drop fileRecordWidth listingBytes) ≡ listing
 unfolding stepsIn stepFrom stepCount listingBytes listing
 listing-steps = refl
 
-listing-answers : stepAnswers listingBytes
-    ≡ answering 0 0 0 ∷ answering 0 0 0 ∷ answering 0 0 0 ∷ answering 0 0 0 ∷ answering 0 0 0 ∷ answering 7 0 0 ∷ answering 0 700 1 ∷ answering 0 700 0 ∷ answering 0 0 0
-    ∷ answering 6 0 0 ∷ answering 0 0 0 ∷ answering 18 0 0 ∷ []
+listing-answers : stepAnswers listingBytes ≡ listingAnswers
 unfolding stepAnswers
 listing-answers =
     ap (λ (s : State). answers mainframe s (stepsIn (min (stepCount listingBytes) stepLimit) (drop fileRecordWidth listingBytes))) listing-state
@@ -164,8 +128,8 @@ listing-answers =
     ∙ listing-a
 
 -- the lines of the answers that the rules give (rules/proofs/FromStart.antt)
-listing-file : fileLines listingBytes ≡ listingLines
-unfolding fileLines stepLines stepAnswers stepCount endLine answerLines wordsMoved openingRefusal countsInRange inRange mainframe openingOf refusalLine lineBytes wordsLine digits digitsWithin listingBytes listingLines
+pub listing-file : fileLines listingBytes ≡ listingLines
+unfolding listingAnswers fileLines stepLines stepAnswers stepCount endLine answerLines wordsMoved openingRefusal countsInRange inRange mainframe openingOf refusalLine lineBytes wordsLine digits digitsWithin listingBytes listingLines
 listing-file = ap (λ (xs : List Answer). refusalLine 0 0 ++ (answerLines 1 xs ++ endLine listingBytes (wordsMoved xs))) listing-answers
 
 -- and feeding its bytes prints them

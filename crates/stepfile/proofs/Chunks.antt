@@ -16,7 +16,7 @@ use Rattle.file_record.specs.inner.Needed.{RecordTaken, standsAt}
 use Rattle.file_chunk.specs.Bytes.{bytesTaken, heldOn}
 use Rattle.file_chunk.specs.inner.Needed.{Passable, AllPassed}
 use Rattle.file_chunk.proofs.Bytes.{eight-first, taken-held, taken-record, taken-stopped, taken-together}
-use Rattle.file_chunk.proofs.Passing.{rest-kept-again, rest-kept-all}
+use Rattle.file_lines.proofs.Placing.{rest-kept-again, rest-kept-all}
 use Rattle.stepfile.specs.Promises.{feedAt}
 use Rattle.stepfile.specs.declared.Progress.{Progress}
 use Rattle.stepfile.specs.declared.Taken.{Taken}

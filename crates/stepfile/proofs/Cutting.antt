@@ -16,7 +16,7 @@ use Rattle.rules.specs.State.{mainframe}
 use Rattle.rules.proofs.FewWords.{words-in-32-bits}
 use Rattle.layout.specs.Areas.{Areas, heldBy, rightSizes}
 use Rattle.engine.specs.Promises.{answerOf}
-use Rattle.step_record.specs.Records.{stepFrom}
+use Rattle.step_fields.specs.Records.{stepFrom}
 use Rattle.file_record.specs.Records.{Feed, openingTaken, stepTaken, tooManyTaken, recordTaken}
 use Rattle.file_chunk.specs.Bytes.{heldOn, byteTaken, bytesTaken}
 use Rattle.file_chunk.proofs.Bytes.{taken-together}

@@ -10,11 +10,10 @@ use lib.Dec.{eqb, ltb}
 use borrow.Author.Tests.{eq-eqb, eqb-true, le-ltb, lt-ltb, ne-eqb, not-false, not-true}
 use borrow.Author.Needs.{needs}
 use Rattle.limits.specs.Files.{fileRecordWidth, lineLimit}
-use Rattle.lines.specs.Lines.{lineBytes, wordsLine}
+use Rattle.lines.specs.Lines.{lineBytes, wordsLine, refusalLine}
 use Rattle.lines.specs.inner.Needed.{Room}
-use Rattle.file_record.specs.Records.{refusalLine}
-use Rattle.file_record.specs.inner.Needed.{LinePut}
-use Rattle.file_chunk.proofs.Passing.{rest-kept-all}
+use Rattle.file_lines.specs.inner.Needed.{LinePut}
+use Rattle.file_lines.proofs.Placing.{rest-kept-all}
 use Rattle.stepfile.specs.Feeding.{after, lastLine}
 use Rattle.stepfile.specs.Promises.{FinishedAs, feedable, finishAnswer, finishLine, finishLines, notTaken}
 use Rattle.stepfile.specs.declared.Progress.{Progress}

@@ -16,9 +16,9 @@ use Rattle.rules.specs.State.{mainframe}
 use Rattle.rules.proofs.DemandThree.{demand-three}
 use Rattle.layout.specs.Areas.{Areas, rightSizes}
 use Rattle.opening.specs.Promises.{openingOf}
-use Rattle.step_record.specs.Records.{stepsIn}
-use Rattle.file_record.specs.Records.{refusalLine}
-use Rattle.stepfile.specs.Files.{answerLines, stepCount, endLine, openedBy, stepAnswers, stepLines, fileLines}
+use Rattle.step_fields.specs.Records.{stepsIn, stepCount}
+use Rattle.lines.specs.Lines.{refusalLine}
+use Rattle.stepfile.specs.Files.{answerLines, endLine, openedBy, stepAnswers, stepLines, fileLines}
 use Rattle.stepfile.specs.Feeding.{after}
 use Rattle.stepfile.specs.Promises.{finishLine, Reached}
 use Rattle.stepfile.specs.declared.Progress.{Progress}

@@ -20,13 +20,13 @@ use Rattle.layout.specs.Areas.{Areas, holding, rightSizes}
 use Rattle.opening.specs.Promises.{openingOf, openRefusal, areasOpened}
 use Rattle.engine.specs.Promises.{answerOf, areasAfter}
 use Rattle.engine.proofs.Carried.{Carried, opened-carried, next-carried, carried-answer, carried-after}
-use Rattle.step_record.specs.Records.{stepFrom, stepsIn}
-use Rattle.lines.specs.Lines.{lineBytes, wordsLine}
-use Rattle.file_record.specs.Records.{Feed, refusalLine, openingTaken, stepTaken, tooManyTaken, recordTaken}
+use Rattle.step_fields.specs.Records.{stepFrom, stepsIn, stepCount}
+use Rattle.lines.specs.Lines.{lineBytes, wordsLine, refusalLine}
+use Rattle.file_record.specs.Records.{Feed, openingTaken, stepTaken, tooManyTaken, recordTaken}
 use Rattle.file_chunk.specs.Bytes.{heldOn, bytesTaken}
 use Rattle.file_chunk.proofs.Bytes.{taken-stopped, taken-held, eight-first}
-use Rattle.file_chunk.proofs.Records.{step-of-eight}
-use Rattle.stepfile.specs.Files.{answerLines, stepCount, endLine, openedBy, stepAnswers, stepLines, fileLines}
+use Rattle.step_fields.proofs.Reading.{step-of-eight}
+use Rattle.stepfile.specs.Files.{answerLines, endLine, openedBy, stepAnswers, stepLines, fileLines}
 use Rattle.stepfile.specs.Feeding.{begun, after, lastLine}
 use Rattle.stepfile.specs.Promises.{progressOf, finishLine, Reached}
 use Rattle.stepfile.specs.declared.Progress.{Progress}

@@ -4,8 +4,8 @@ use mathlib.Core.Bool.{Bool, false, cond}
 use mathlib.Core.List.{List, [], _∷_}
 use lib.Dec.{eqb}
 use Rattle.layout.specs.Areas.{Areas}
-use Rattle.lines.specs.Lines.{wordsLine}
-use Rattle.file_record.specs.Records.{Feed, refusalLine}
+use Rattle.lines.specs.Lines.{wordsLine, refusalLine}
+use Rattle.file_record.specs.Records.{Feed}
 use Rattle.file_chunk.specs.Bytes.{bytesTaken}
 
 -- before the first byte

@@ -1,8 +1,8 @@
 -- Document 01, "The step file and run program": the lines that are printed for a whole file. Assumes nothing.
-use Prim.Native.Nat.{ℕ, suc, _+_, _-_, _/_, _%_, min}
+use Prim.Native.Nat.{ℕ, suc, _+_, _%_}
 use mathlib.Core.Bool.{cond}
 use mathlib.Core.List.{List, [], _∷_, _++_}
-use lib.ListN.{length, take, drop}
+use lib.ListN.{length, take}
 use lib.Dec.{ltb, eqb}
 use Rattle.limits.specs.Files.{fileRecordWidth, stepLimit}
 use Rattle.rules.specs.Opening.{openingRefusal, opened}
@@ -10,18 +10,13 @@ use Rattle.rules.specs.Refusals.{Answer}
 use Rattle.rules.specs.Runs.{answers, wordsMoved}
 use Rattle.rules.specs.State.{mainframe, State}
 use Rattle.opening.specs.Promises.{openingOf}
-use Rattle.step_record.specs.Records.{stepsIn}
-use Rattle.lines.specs.Lines.{lineBytes, wordsLine}
-use Rattle.file_record.specs.Records.{refusalLine}
+use Rattle.step_fields.specs.Records.{stepCount, fileSteps}
+use Rattle.lines.specs.Lines.{lineBytes, wordsLine, refusalLine}
 
 -- "a line a record": the lines of answers, numbered from n on
 unfoldable pub answerLines : ℕ → List Answer → List ℕ
 answerLines n [] = []
 answerLines n (a ∷ rest) = lineBytes n (a .refusal) (a .value) (a .count) ++ answerLines (suc n) rest
-
--- how many whole records stand behind the opening
-unfoldable pub stepCount : List ℕ → ℕ
-stepCount bytes = (length bytes - fileRecordWidth) / fileRecordWidth
 
 -- how a file ends: 16 where "a whole record follows the 1,000,000th step record", 15 where "it ends within a record"; "The 15 or 16 line has
 -- the number the next record would have had". L6: "A run that did not stop at 2, 15 or 16 ends with one extra line", the words moved
@@ -37,7 +32,7 @@ openedBy bytes = opened mainframe (openingOf (take fileRecordWidth bytes) .count
 
 -- the answers of its steps
 unfoldable pub stepAnswers : List ℕ → List Answer
-stepAnswers bytes = answers mainframe (openedBy bytes) (stepsIn (min (stepCount bytes) stepLimit) (drop fileRecordWidth bytes))
+stepAnswers bytes = answers mainframe (openedBy bytes) (fileSteps bytes)
 
 -- the lines of the steps and the end, behind an accepted opening
 unfoldable pub stepLines : List ℕ → List ℕ

@@ -4,7 +4,8 @@ ghost use lib.ListN.{length, take, drop};
 ghost use Rattle.limits.specs.Files.{fileRecordWidth};
 ghost use Rattle.layout.specs.Areas.{areas};
 ghost use Rattle.file_record.specs.Records.{recordTaken};
-ghost use Rattle.file_record.specs.inner.Needed.{standsAt, LinePut, RecordTaken};
+ghost use Rattle.file_lines.specs.inner.Needed.{LinePut};
+ghost use Rattle.file_record.specs.inner.Needed.{standsAt, RecordTaken};
 ghost use Rattle.file_chunk.specs.Bytes.{bytesTaken};
 ghost use Rattle.file_chunk.specs.inner.Needed.{Passable};
 ghost use Rattle.stepfile.specs.Promises.{feedAt, finishLine, Started, FedAs, FinishedAs};
@@ -119,9 +120,9 @@ fn put_end(progress: Progress, lines: &mut [u8]) -> usize
         return 0;
     }
     if ends_short(progress) {
-        return file_record::put_record_line(lines, 0, progress.number, 15, 0, 0);
+        return file_lines::put_record_line(lines, 0, progress.number, 15, 0, 0);
     }
-    file_record::put_last_line(lines, 0, progress.words)
+    file_lines::end_with_words(lines, 0, progress.words)
 }
 
 // Whether a file that ends here ends within a record or before the opening.

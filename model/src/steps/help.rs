@@ -10,6 +10,9 @@ the answers that it shows are always those of the proved run program.
     ./steps state FILE.steps N                  what the engine holds after record N
     ./steps picture FILE.steps [FROM TO] > run.svg    the run as a picture
 
+./run FILE.steps prints the answers as lines of numbers, ./forecast FILE.steps the records standing and
+the dirty pages after each record; both are proved programs.
+
 FILE may be - for standard input. Each has --help. Status: 0, or 1 where something is wrong,
 which is said on standard error.
 ";

@@ -10,7 +10,8 @@ use Rattle.limits.specs.inner.Sizes.{fileRecordLimit}
 use Rattle.layout.specs.Areas.{areas}
 use Rattle.inorder.specs.Areas.{OrderIs}
 use Rattle.file_record.specs.declared.Stand.{Stand}
-use Rattle.file_record.specs.inner.Needed.{RestKept, standsAt, Ahead, AllAhead}
+use Rattle.file_lines.specs.inner.Needed.{RestKept, Ahead, AllAhead}
+use Rattle.file_record.specs.inner.Needed.{standsAt}
 use Rattle.file_chunk.specs.Bytes.{bytesTaken}
 
 -- there is room for the lines of the records that lie in the chunk from a place on; each step has moved fewer words than a number of 32 bits can say

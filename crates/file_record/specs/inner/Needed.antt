@@ -13,29 +13,15 @@ use Rattle.opening.specs.Promises.{areasOpened, openRefusal}
 use Rattle.step_act.specs.Telling.{told}
 use Rattle.step_act.specs.declared.Outcome.{Outcome}
 use Rattle.lines.specs.Lines.{lineBytes}
+use Rattle.file_lines.specs.inner.Needed.{RestKept, LinePut}
 use Rattle.file_record.specs.Records.{Feed}
 use Rattle.file_record.specs.declared.Stand.{Stand}
 
--- ---- the bytes lent for lines
-
--- what was written from a place on ends at another: behind that one all is as it was
-pub record RestKept (out : List ℕ) (at : ℕ) (out′ : List ℕ) (at′ : ℕ) : Type 0 where
-  pub on : at ≤ at′
-  pub within : at′ ≤ length out
-  pub long : length out′ ≡ length out
-  pub rest : drop at′ out′ ≡ drop at′ out
-
--- a line, at most 44 bytes, stands from a place on behind what stood before it
-pub record LinePut (out : List ℕ) (at : ℕ) (line : List ℕ) (out′ : List ℕ) (end : ℕ) : Type 0 where
-  pub kept : RestKept out at out′ end
-  pub near : end ≤ at + lineLimit
-  pub lines : take end out′ ≡ take at out ++ line
+-- ---- one record
 
 -- the line of a step's outcome
 unfoldable pub outcomeLine : ℕ → Outcome → List ℕ
 outcomeLine number o = lineBytes number (told o .refusal) (told o .value) (told o .count)
-
--- ---- one record
 
 -- what stands between two records, with the lines so far in the first bytes of those lent
 unfoldable pub standsAt : Stand → List ℕ → Areas → Feed
@@ -77,17 +63,3 @@ pub record WordsAdded (total : ℕ) (o : Outcome) (total′ : ℕ) : Type 0 wher
 pub record OpenedAs (bytes : List ℕ) (c w r m : List ℕ) (n : ℕ) (c′ w′ r′ m′ : List ℕ) : Type 0 where
   pub refusal : n ≡ openRefusal bytes (areas c w r m)
   pub laid : areas c′ w′ r′ m′ ≡ areasOpened bytes (areas c w r m)
-
--- ---- the steps of a chunk
-
--- whole records stand from a place to another, and their numbers are those of steps
-pub record Ahead (number i end : ℕ) : Type 0 where
-  pub on : i ≤ end
-  pub whole : (end - i) % fileRecordWidth ≡ 0
-  pub few : number + (end - i) / fileRecordWidth ≤ fileRecordLimit
-
--- they are all steps that a chunk of so many bytes has from that place on
-pub record AllAhead (number i end chunk : ℕ) : Type 0 where
-  pub ahead : Ahead number i end
-  pub within : end ≤ chunk
-  pub all : end + fileRecordWidth ≤ chunk → number + (end - i) / fileRecordWidth ≡ fileRecordLimit

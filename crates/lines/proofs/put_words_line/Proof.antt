@@ -1,6 +1,4 @@
--- `put_words_line` meets its contract: a place stays in range where others are stored. Assumes nothing.
-use native.Mathlib.Omega.{arith}
-use lib.ListN.{length-set}
+-- `put_words_line` meets its contract. Assumes nothing.
 use Rattle.lines.proofs.Totals.{total-laws}
 use Rattle.lines.proofs.put_words_line.Statement.{statement}
 use Rattle.lines.proofs.put_words_line.Tie as tie
@@ -8,4 +6,4 @@ use Rattle.lines.proofs.put_words_line.Tie as tie
 pub put-words-line-spec : {M : Type 1} → statement M
 put-words-line-spec =
     tie.close
-    (tie.spec (λ c. search total-laws) (λ c. search total-laws) (λ c. simp length-set (omega arith)) (λ c. search total-laws) (λ c. simp length-set (omega arith)) (λ c. search total-laws) (λ c. simp length-set (omega arith)) (λ c. search total-laws) (λ c. simp length-set (omega arith)) (λ c. search total-laws) (λ c. simp length-set (omega arith)) (λ c. search total-laws) (λ c κs. search total-laws) (λ c. search total-laws) (λ c. search total-laws))
+    (tie.spec (λ c. search total-laws) (λ c κs. search total-laws) (λ c. search total-laws) (λ c κs. search total-laws) (λ c. search total-laws) (λ c. search total-laws))

@@ -6,7 +6,7 @@ use Rattle.diff_writer.specs.declared.Written.{Written}
 use Rattle.diff_writer.specs.declared.Written.the-variants.{Length, Refused}
 use Rattle.step_act.specs.Telling.{outcomeRefusal, told}
 use Rattle.step_act.specs.declared.Outcome.{Outcome}
-use Rattle.step_record.specs.Records.{answerWords}
+use Rattle.step_record.specs.Answers.{answerWords}
 
 -- n is the outcome's refusal, and the words are its four numbers
 pub record ToldAs (o : Outcome) (n : ℕ) (out : List ℕ) : Type 0 where

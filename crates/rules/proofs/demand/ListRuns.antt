@@ -1,10 +1,10 @@
--- The run over a list of steps as states by time, and what its reads answer. Rests on OpenedInOrder, InOrderRuns and Timeline. Assumes
+-- The run over a list of steps as states by time, and what its steps answer. Rests on OpenedInOrder, InOrderRuns and Timeline. Assumes
 -- nothing.
 use Prim.Native.Nat.{ℕ, zero, suc, _<_}
 use mathlib.Core.Path.{_≡_, refl, sym, ap, ap₂, _∙_}
 use mathlib.Core.Bool.{Bool, true, false, cond, false≢true}
 use mathlib.Core.List.{List, [], _∷_}
-use lib.ListN.{take}
+use lib.ListN.{getD, take}
 use lib.Dec.{eqb}
 use borrow.Author.Tests.{eqb-true}
 use Rattle.rules.specs.State.{Limits, Counts, State}
@@ -15,6 +15,7 @@ use Rattle.rules.specs.Refusals.{Step, Action, Read, actionOf, knownKind
 use Rattle.rules.specs.Runs.{answersInOrder, stateInOrder}
 use Rattle.rules.specs.Order.{Event, events, noEvent, eventAt, Took}
 use Rattle.rules.specs.Demand.{valueAt}
+use Rattle.rules.specs.Waiting.{refusalAt}
 use Rattle.rules.proofs.inorder.Facts.{InOrder}
 use Rattle.rules.proofs.inorder.OpenedInOrder.{opened-in-order}
 use Rattle.rules.proofs.InOrderRuns.{run-stays-in-order}
@@ -34,10 +35,15 @@ answer-refusal lim s t = go (eqb (refusalInOrder lim s t) 0) refl
     go true e = sym (eqb-true (refusalInOrder lim s t) 0 e)
     go false e = refl
 
--- an accepted step's value is its effect's
-answer-value : (lim : Limits) (s : State) (t : Step) → eqb (refusalInOrder lim s t) 0 ≡ true → answerInOrder lim s t .value ≡ effect lim s (t .processor) (actionOf t) .value
+-- an accepted step answers its effect
+answer-accepted : (lim : Limits) (s : State) (t : Step) → eqb (refusalInOrder lim s t) 0 ≡ true → answerInOrder lim s t ≡ acceptedAs (effect lim s (t .processor) (actionOf t))
 unfolding answerInOrder
-answer-value lim s t e = rw e
+answer-accepted lim s t e = rw e
+
+-- a refused one its refusal and nothing else
+answer-refused : (lim : Limits) (s : State) (t : Step) → eqb (refusalInOrder lim s t) 0 ≡ false → answerInOrder lim s t ≡ refusedAs (answerInOrder lim s t .refusal)
+unfolding answerInOrder refusedAs
+answer-refused lim s t e = rw e
 
 -- past the end of the list nothing happens
 idle-refused : (lim : Limits) (s : State) → refusalInOrder lim s (noEvent .step) ≡ 3
@@ -72,13 +78,29 @@ judged-of lim s [] (suc t) = sym (rw (idle-refused lim s) refl)
 judged-of lim s (a ∷ ts) zero = ap (λ (n : ℕ). eqb n 0) (answer-refusal lim s a)
 judged-of lim s (a ∷ ts) (suc t) = judged-of lim (nextInOrder lim s a) ts t
 
-value-of : (lim : Limits) (s : State) (ts : List Step) (t : ℕ) → eventAt (eventsOf lim s ts) t .accepted ≡ true
-    → valueAt (answersInOrder lim s ts) t
-    ≡ effect lim (stateBefore lim s ts t) (eventAt (eventsOf lim s ts) t .step .processor) (actionOf (eventAt (eventsOf lim s ts) t .step)) .value
-unfolding stateInOrder events answersInOrder eventAt noEvent valueAt
-value-of lim s [] t e = absurd (false≢true e)
-value-of lim s (a ∷ ts) zero e = answer-value lim s a (ap (λ (n : ℕ). eqb n 0) (sym (answer-refusal lim s a)) ∙ e)
-value-of lim s (a ∷ ts) (suc t) e = value-of lim (nextInOrder lim s a) ts t e
+refusal-of : (lim : Limits) (s : State) (ts : List Step) (t : ℕ)
+    → refusalAt (answersInOrder lim s ts) t ≡ refusalInOrder lim (stateBefore lim s ts t) (eventAt (eventsOf lim s ts) t .step)
+unfolding stateInOrder events answersInOrder eventAt refusalAt refusedAs
+refusal-of lim s [] zero = sym (idle-refused lim s)
+refusal-of lim s [] (suc t) = sym (idle-refused lim s)
+refusal-of lim s (a ∷ ts) zero = answer-refusal lim s a
+refusal-of lim s (a ∷ ts) (suc t) = refusal-of lim (nextInOrder lim s a) ts t
+
+answer-of : (lim : Limits) (s : State) (ts : List Step) (t : ℕ) → eventAt (eventsOf lim s ts) t .accepted ≡ true
+    → getD (answersInOrder lim s ts) t (refusedAs 3)
+    ≡ acceptedAs (effect lim (stateBefore lim s ts t) (eventAt (eventsOf lim s ts) t .step .processor) (actionOf (eventAt (eventsOf lim s ts) t .step)))
+unfolding stateInOrder events answersInOrder eventAt noEvent
+answer-of lim s [] t e = absurd (false≢true e)
+answer-of lim s (a ∷ ts) zero e = answer-accepted lim s a (ap (λ (n : ℕ). eqb n 0) (sym (answer-refusal lim s a)) ∙ e)
+answer-of lim s (a ∷ ts) (suc t) e = answer-of lim (nextInOrder lim s a) ts t e
+
+-- a refused step answers its refusal alone
+pub refused-answer-of : (lim : Limits) (s : State) (ts : List Step) (t : ℕ) → eventAt (eventsOf lim s ts) t .accepted ≡ false
+    → getD (answersInOrder lim s ts) t (refusedAs 3) ≡ refusedAs (getD (answersInOrder lim s ts) t (refusedAs 3) .refusal)
+unfolding stateInOrder events answersInOrder eventAt noEvent
+refused-answer-of lim s [] t e = unfold refusedAs in refl
+refused-answer-of lim s (a ∷ ts) zero e = answer-refused lim s a (ap (λ (n : ℕ). eqb n 0) (sym (answer-refusal lim s a)) ∙ e)
+refused-answer-of lim s (a ∷ ts) (suc t) e = refused-answer-of lim (nextInOrder lim s a) ts t e
 
 -- the run from any state in order
 pub course : (lim : Limits) (s : State) (ts : List Step) → InOrder lim s → Course lim (eventsOf lim s ts) (stateBefore lim s ts)
@@ -104,13 +126,24 @@ module _ (lim : Limits) (c : Counts) (in-range : countsInRange lim c ≡ true) (
   unfolding timeline
   state-at j = refl
 
-  -- the value answered to an accepted step
+  -- the refusal answered at a place; past the end of the list it is that of a step of no kind
+  pub refusal-answer : (j : ℕ) → refusalAt (answersInOrder lim (opened lim c) ts) j ≡ refusalInOrder lim (timeline .state j) (eventAt (eventsOf lim (opened lim c) ts) j .step)
+  unfolding timeline
+  refusal-answer j = refusal-of lim (opened lim c) ts j
+
+  -- what an accepted step answers
+  pub step-effect : (j p : ℕ) (a : Action) → Took (eventsOf lim (opened lim c) ts) j p a
+      → getD (answersInOrder lim (opened lim c) ts) j (refusedAs 3) ≡ acceptedAs (effect lim (timeline .state j) p a)
+  unfolding timeline stateInOrder
+  step-effect j p a took =
+      answer-of lim (opened lim c) ts j (took .accepted)
+      ∙ ap₂ (λ (q : ℕ) (b : Action). acceptedAs (effect lim (stateBefore lim (opened lim c) ts j) q b)) (took .processor) (took .action)
+
+  -- the value of it
   pub step-answer : (j p : ℕ) (a : Action) → Took (eventsOf lim (opened lim c) ts) j p a
       → valueAt (answersInOrder lim (opened lim c) ts) j ≡ effect lim (timeline .state j) p a .value
-  unfolding timeline stateInOrder
-  step-answer j p a took =
-      value-of lim (opened lim c) ts j (took .accepted)
-      ∙ ap₂ (λ (q : ℕ) (b : Action). effect lim (stateBefore lim (opened lim c) ts j) q b .value) (took .processor) (took .action)
+  unfolding valueAt
+  step-answer j p a took = ap (λ (x : Answer). x .value) (step-effect j p a took)
 
   -- and to an accepted read
   pub read-answer : (j p w : ℕ) → Took (eventsOf lim (opened lim c) ts) j p (Read w)

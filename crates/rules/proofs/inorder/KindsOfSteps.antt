@@ -7,7 +7,7 @@ use mathlib.Core.Bool.{Bool, true, false, cond, _&&_, _||_, and-eq-true-iff, fal
 use mathlib.Core.Logic.{_⊎_, inl, inr}
 use lib.Dec.{leb, eqb}
 use borrow.Author.Tests.{eqb-true, leb-true}
-use Rattle.rules.specs.Refusals.{Step, Action, Read, Write, Acquire, Release, Arrive, Want, TallyAdd, TallyRead, Enqueue, Dequeue, Unknown, actionOf, knownKind}
+use Rattle.rules.specs.Refusals.{Step, Action, Read, Write, Acquire, Release, Arrive, Want, TallyAdd, TallyRead, Enqueue, Dequeue, Unknown, actionOf, knownKind, stepOf}
 
 -- a known kind is 1 to 6 or 8 to 11
 pub known-says : (k : ℕ) → knownKind k ≡ true → ((1 ≤ k) × (k ≤ 6)) ⊎ ((8 ≤ k) × (k ≤ 11))
@@ -42,6 +42,40 @@ by-kind claim a b c d e f g h m n k known = go (known-says k known)
     go : ((1 ≤ k) × (k ≤ 6)) ⊎ ((8 ≤ k) × (k ≤ 11)) → claim k
     go (inl x) = first k (x .0) (x .1)
     go (inr x) = later k (x .0) (x .1) (ℕ-discrete k 8) (ℕ-discrete k 9) (ℕ-discrete k 10)
+
+-- the action of each kind
+module _ (k p o v : ℕ) where
+  pub kind-reads : k ≡ 1 → actionOf (stepOf k p o v) ≡ Read o
+  unfolding actionOf stepOf
+  kind-reads e = ap (λ (j : ℕ). actionOf (stepOf j p o v)) e
+
+  pub kind-writes : k ≡ 2 → actionOf (stepOf k p o v) ≡ Write o v
+  unfolding actionOf stepOf
+  kind-writes e = ap (λ (j : ℕ). actionOf (stepOf j p o v)) e
+
+  pub kind-acquires : k ≡ 3 → actionOf (stepOf k p o v) ≡ Acquire o
+  unfolding actionOf stepOf
+  kind-acquires e = ap (λ (j : ℕ). actionOf (stepOf j p o v)) e
+
+  pub kind-releases : k ≡ 4 → actionOf (stepOf k p o v) ≡ Release o
+  unfolding actionOf stepOf
+  kind-releases e = ap (λ (j : ℕ). actionOf (stepOf j p o v)) e
+
+  pub kind-arrives : k ≡ 5 → actionOf (stepOf k p o v) ≡ Arrive
+  unfolding actionOf stepOf
+  kind-arrives e = ap (λ (j : ℕ). actionOf (stepOf j p o v)) e
+
+  pub kind-wants : k ≡ 6 → actionOf (stepOf k p o v) ≡ Want
+  unfolding actionOf stepOf
+  kind-wants e = ap (λ (j : ℕ). actionOf (stepOf j p o v)) e
+
+  pub kind-adds : k ≡ 8 → actionOf (stepOf k p o v) ≡ TallyAdd o v
+  unfolding actionOf stepOf
+  kind-adds e = ap (λ (j : ℕ). actionOf (stepOf j p o v)) e
+
+  pub kind-totals : k ≡ 9 → actionOf (stepOf k p o v) ≡ TallyRead o
+  unfolding actionOf stepOf
+  kind-totals e = ap (λ (j : ℕ). actionOf (stepOf j p o v)) e
 
 -- the kind of an action; 0 for none
 unfoldable pub kindOf : Action → ℕ

@@ -19,7 +19,7 @@ use Rattle.rules.specs.Fetch.{fetched}
 use Rattle.rules.specs.Steps.{pageOfWord, offsetOfWord, read, write, want}
 use Rattle.rules.specs.Tallies.{tallyAdded}
 use Rattle.rules.specs.Refusals.{Action, Read, Write, Acquire, Release, Arrive, Want, Unknown, effect, TallyAdd, TallyRead, Enqueue, Dequeue}
-use Rattle.rules.specs.Order.{Event, eventAt, Took, Before, program, Ordered}
+use Rattle.rules.specs.Order.{Event, eventAt, Took, Before, Ordered}
 use Rattle.rules.specs.Demand.{valueField, EarlierWrite}
 use Rattle.rules.proofs.inorder.KindsOfSteps.{known-action}
 use Rattle.rules.proofs.inorder.Facts.{whole-copy}
@@ -79,19 +79,16 @@ module _ (lim : Limits) (c : Counts) (es : List Event) (r : Timeline lim c es) (
   abbrev pub WritesOrdered : ℕ → Type 0
   WritesOrdered j = (i k p q u v : ℕ) → EarlierWrite es w j i p u → EarlierWrite es w j k q v → (p ≡ q → ⊥) → Ordered (c .processors) es i k
 
-  -- so an earlier write is before a write
-  write-before-write : (j t p v : ℕ) → WritesOrdered j → t < j → Took es t p (Write w v) → (i q u : ℕ) → EarlierWrite es w t i q u → Before (c .processors) es i t
+  -- so an earlier write by another is before a write
+  write-before-write : (j t p v : ℕ) → WritesOrdered j → t < j → Took es t p (Write w v) → (i q u : ℕ) → EarlierWrite es w t i q u → (q ≡ p → ⊥)
+      → Before (c .processors) es i t
   unfolding Ordered
-  write-before-write j t p v ordered less took i q u e = go (ℕ-discrete q p)
+  write-before-write j t p v ordered less took i q u e d =
+      forward (ordered i t q p u v (record { wrote = e .wrote; earlier = omega (arith, e .earlier, less) }) (record { wrote = took; earlier = less }) d)
     where
       forward : Ordered (c .processors) es i t → Before (c .processors) es i t
       forward (inl b) = b
       forward (inr b) = absurd (omega (arith, before-goes-forward (c .processors) es t i b, e .earlier))
-
-      go : Dec (q ≡ p) → Before (c .processors) es i t
-      go (yes d) = program {j = t} q (Write w u) (Write w v) (e .wrote) (rw d took) (e .earlier)
-      go (no d) =
-          forward (ordered i t q p u v (record { wrote = e .wrote; earlier = omega (arith, e .earlier, less) }) (record { wrote = took; earlier = less }) d)
 
   -- ---- one step
 

@@ -1,5 +1,5 @@
--- What the kind of a step says of its action, that the events count the arrivals and the writes to a word, and that a read or a write is no
--- acquire. Rests on the definitions alone. Assumes nothing.
+-- What the kind of a step says of its action, that the events count the arrivals and the writes to a word, and that a read, a write or a release
+-- is no acquire. Rests on the definitions alone. Assumes nothing.
 use Prim.Native.Nat.{ℕ}
 use native.Mathlib.Decide.{ℕ-discrete}
 use mathlib.Core.Path.{_≡_, refl, ap, _∙_}
@@ -315,7 +315,7 @@ isAcquire (Enqueue j) = false
 isAcquire Dequeue = false
 isAcquire Unknown = false
 
--- a read and a write are none
+-- a read, a write and a release are none
 pub write-no-acquire : (x v l : ℕ) → Write x v ≡ Acquire l → ⊥
 unfolding isAcquire
 write-no-acquire x v l e = false≢true (ap isAcquire e)
@@ -331,6 +331,10 @@ write-no-dequeue x v e = false≢true (ap removesJob e)
 pub read-no-dequeue : (x : ℕ) → Read x ≡ Dequeue → ⊥
 unfolding removesJob
 read-no-dequeue x e = false≢true (ap removesJob e)
+
+pub release-no-acquire : (x l : ℕ) → Release x ≡ Acquire l → ⊥
+unfolding isAcquire
+release-no-acquire x l e = false≢true (ap isAcquire e)
 
 module _ (es : List Event) (t : ℕ) where
   -- an accepted step is counted as an arrival when it is one

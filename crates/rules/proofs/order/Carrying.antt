@@ -87,10 +87,10 @@ module _ {n : ℕ} {es : List Event} {known lockKnown : ℕ → ℕ → ℕ} {wa
       rw (to .processor) (record { at = λ t l awake. (rw (from .processor) at told) .at t (omega (arith, h, l)) awake })
   carries i j (lock p q l from to h) x told =
       let mine = knows-after x i p (Release l) from refl told in
-      rw (to .processor) (told-by-lock x j q l to (omega (arith, mine, f .release-tells i p l from, lock-later l (suc i) j h)))
+      rw (to .processor) (told-by-lock x j q l to (omega (arith, mine, f .release-tells i p l from, lock-later l (suc i) j (omega (arith, h)))))
   carries i j (round p q b from to h) x told =
       let mine = knows-after x i p Arrive from refl told in
-      rw (to .processor) (told-at-once x j q (omega (arith, mine, f .round-tells i p from j h q, f .grows q j)))
+      rw (to .processor) (told-at-once x j q (omega (arith, mine, f .round-tells i p from j (omega (arith, h)) q, f .grows q j)))
   carries i j (granted p q l a b serves to h) x told =
       let mine = knows-after x i p (Release l) (serves .release) refl told in
       rw (to .processor) (told-at-once x j q (omega (arith, mine, f .grant-tells i p a q l serves, never-falls (λ t. known t q) (f .grows q) (suc i) (suc j) (omega (arith, h)))))
@@ -102,12 +102,13 @@ module _ {n : ℕ} {es : List Event} {known lockKnown : ℕ → ℕ → ℕ} {wa
   -- and at a step that is no acquire its processor knows it before the step
   pub carries-strictly : (i j : ℕ) → Before n es i j → ((l : ℕ) → actionOf (eventAt es j .step) ≡ Acquire l → ⊥) → (actionOf (eventAt es j .step) ≡ Dequeue → ⊥) → (x : ℕ) → Tells x i → x ≤ known j (eventAt es j .step .processor)
   unfolding isAcquire
-  carries-strictly i j (program p a b from to h) none-acquired none-removed x told = rw (to .processor) ((rw (from .processor) at told) .at j h (f .acts-awake j p b to))
+  carries-strictly i j (program p a b from to h) none-acquired none-removed x told =
+      rw (to .processor) ((rw (from .processor) at told) .at j (omega (arith, h)) (f .acts-awake j p b to))
   carries-strictly i j (lock p q l from to h) none-acquired none-removed x told = absurd (none-acquired l (to .action))
   carries-strictly i j (round p q b from to h) none-acquired none-removed x told =
-      rw (to .processor) (omega (arith, knows-after x i p Arrive from refl told, f .round-tells i p from j h q))
+      rw (to .processor) (omega (arith, knows-after x i p Arrive from refl told, f .round-tells i p from j (omega (arith, h)) q))
   carries-strictly i j (granted p q l a b serves to h) none-acquired none-removed x told =
       let mine = knows-after x i p (Release l) (serves .release) refl told in
-      rw (to .processor) (omega (arith, mine, f .grant-tells i p a q l serves, never-falls (λ t. known t q) (f .grows q) (suc i) j h))
+      rw (to .processor) (omega (arith, mine, f .grant-tells i p a q l serves, never-falls (λ t. known t q) (f .grows q) (suc i) j (omega (arith, h))))
   carries-strictly i j (job p v q r) none-acquired none-removed x told = absurd (none-removed (r .dequeue .action))
   carries-strictly i j (chain k a b) none-acquired none-removed x told = carries-strictly k j b none-acquired none-removed x (carries i k a x told)

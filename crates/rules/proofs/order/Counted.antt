@@ -3,11 +3,15 @@
 use Prim.Native.Nat.{ℕ, suc, _+_, _≤_, _<_}
 use native.Mathlib.Omega.{arith}
 use native.Mathlib.Decide.{decLt}
-use mathlib.Core.Path.{_≡_}
+use mathlib.Core.Path.{_≡_, _∙_}
 use mathlib.Core.Bool.{Bool, true, false, cond}
 use mathlib.Core.List.{List}
 use Rattle.rules.specs.Order.{Event, eventAt, counted}
 use Rattle.rules.proofs.StrictOrder.{never-falls}
+
+-- 1 for a test that passes
+abbrev pub flag : Bool → ℕ
+flag b = cond b 1 0
 
 module _ (test : Event → Bool) (es : List Event) where
   -- a step that passes is one more
@@ -20,6 +24,11 @@ module _ (test : Event → Bool) (es : List Event) where
   unfolding counted
   counted-fails t e = rw e
 
+  -- so the number goes on by the step's flag
+  pub counted-on : (t : ℕ) (b : Bool) → test (eventAt es t) ≡ b → counted test es (suc t) ≡ counted test es t + flag b
+  counted-on t true e = counted-passes t e
+  counted-on t false e = counted-fails t e ∙ omega arith
+
   counted-step : (t : ℕ) → counted test es t ≤ counted test es (suc t)
   unfolding counted
   counted-step t = go (test (eventAt es t))
@@ -28,7 +37,7 @@ module _ (test : Event → Bool) (es : List Event) where
       go true = omega arith
       go false = omega arith
 
-  -- so the number never falls
+  -- and it never falls
   pub counted-never-falls : (i j : ℕ) → i ≤ j → counted test es i ≤ counted test es j
   counted-never-falls = never-falls (counted test es) counted-step
 

@@ -1,20 +1,20 @@
--- The edges of happens-before-1, each decided by a test that computes, and which edges a derivation has in it: so a run shows that one step is
--- before another, that it is so by one edge alone, or that it is not. Rests on Tables, Everywhere and ActionKinds. Assumes nothing.
+-- The edges of happens-before-1, each of which passes a test that computes, and which edges a derivation has in it: so a run shows that one step
+-- is before another by one edge alone, or that it is not. Rests on lists' Tables and Conditions and on ActionKinds. Assumes nothing.
 use Prim.Native.Nat.{ℕ, _+_, _<_}
 use native.Mathlib.Omega.{arith}
 use native.Mathlib.Decide.{decLt}
 use mathlib.Core.Path.{_≡_, refl, sym, ap, _∙_}
 use mathlib.Core.Bool.{Bool, true, false, not, _&&_, _||_, false≢true}
 use mathlib.Core.List.{List, [], _∷_}
-use lib.ListN.{length, getD, List·getD-eq-default}
+use lib.ListN.{length, List·getD-eq-default}
 use lib.Dec.{eqb, leb, ltb}
-use borrow.Author.Tests.{eqb-true, eq-eqb, ltb-true, lt-ltb, not-true}
+use borrow.Author.Tests.{eq-eqb, lt-ltb, not-true}
 use Rattle.lists.specs.Tables.{every, any}
-use Rattle.lists.proofs.Tables.{every-at, any-at, any-holds}
+use Rattle.lists.proofs.Tables.{every-at, any-holds}
 use Rattle.lists.proofs.Conditions.{conjoined, conjoined-at, Given, conjoined-holds}
 use Rattle.rules.specs.Refusals.{Action, Read, Write, Acquire, Release, Arrive, Want, TallyAdd, TallyRead, Enqueue, Dequeue, Unknown, actionOf}
 use Rattle.rules.specs.Order.{Event, noEvent, eventAt, Took, isArrival, countedOff, groupsBefore, rounds, counted, isAcquireOf, isReleaseOf, Serves, Before, program, lock, round, granted, Returns, job, isEnqueue, isDequeue, chain}
-use Rattle.rules.proofs.order.ActionKinds.{arrivesBy, arrives-is, isAcquire, addsJob, removesJob, took-enqueue, took-dequeue, enqueue-of, dequeue-of}
+use Rattle.rules.proofs.order.ActionKinds.{arrivesBy, isAcquire, addsJob, removesJob, took-enqueue, took-dequeue, enqueue-of, dequeue-of}
 
 -- the five ways in which a step is before another
 pub data Edge : Type 0 where
@@ -75,34 +75,6 @@ lockOf (TallyRead j) = 0
 lockOf (Enqueue j) = 0
 lockOf Dequeue = 0
 lockOf Unknown = 0
-
-release-is : (a : Action) → isRelease a ≡ true → a ≡ Release (lockOf a)
-unfolding isRelease lockOf
-release-is (Read x) e = absurd (false≢true e)
-release-is (Write x v) e = absurd (false≢true e)
-release-is (Acquire l) e = absurd (false≢true e)
-release-is (Release l) e = refl
-release-is Arrive e = absurd (false≢true e)
-release-is Want e = absurd (false≢true e)
-release-is (TallyAdd j x) e = absurd (false≢true e)
-release-is (TallyRead j) e = absurd (false≢true e)
-release-is (Enqueue j) e = absurd (false≢true e)
-release-is Dequeue e = absurd (false≢true e)
-release-is Unknown e = absurd (false≢true e)
-
-acquire-is : (a : Action) → isAcquire a ≡ true → a ≡ Acquire (lockOf a)
-unfolding isAcquire lockOf
-acquire-is (Read x) e = absurd (false≢true e)
-acquire-is (Write x v) e = absurd (false≢true e)
-acquire-is (Acquire l) e = refl
-acquire-is (Release l) e = absurd (false≢true e)
-acquire-is Arrive e = absurd (false≢true e)
-acquire-is Want e = absurd (false≢true e)
-acquire-is (TallyAdd j x) e = absurd (false≢true e)
-acquire-is (TallyRead j) e = absurd (false≢true e)
-acquire-is (Enqueue j) e = absurd (false≢true e)
-acquire-is Dequeue e = absurd (false≢true e)
-acquire-is Unknown e = absurd (false≢true e)
 
 -- the processor and the action at a place
 abbrev processorAt : List Event → ℕ → ℕ
@@ -175,59 +147,7 @@ module _ (n : ℕ) (es : List Event) (i j : ℕ) where
 
   job-joins : (p v q : ℕ) → Returns es i p v j q → joins ByJob n es i j ≡ true
   unfolding joins
-  job-joins p v q r = rw (enqueue-is i p v (r .enqueue), dequeue-is j q (r .dequeue), lt-ltb i j (r .waited), eq-eqb (counted isEnqueue es i) (counted isDequeue es j) (r .same))
-
-  -- an accepted step is what its fields say
-  took : (k p : ℕ) (a : Action) → eventAt es k .accepted ≡ true → processorAt es k ≡ p → actionAt es k ≡ a → Took es k p a
-  took k p a h e f = record { accepted = h; processor = e; action = f }
-
-  passed : (e : Edge) → joins e n es i j ≡ true → (k : ℕ) → getD (tests e n es i j) k true ≡ true
-  unfolding joins
-  passed e h k = conjoined-at (tests e n es i j) k h
-
-  -- and what passes a test is before
-  pub joins-before : (e : Edge) → joins e n es i j ≡ true → Before n es i j
-  unfolding joins tests grantTests
-  joins-before ByProgram h =
-      let at = passed ByProgram h in
-      program (processorAt es i) (actionAt es i) (actionAt es j) (took i (processorAt es i) (actionAt es i) (at 0) refl refl)
-      (took j (processorAt es i) (actionAt es j) (at 1) (sym (eqb-true (processorAt es i) (processorAt es j) (at 2))) refl) (ltb-true i j (at 3))
-  joins-before ByLock h =
-      let at = passed ByLock h in
-      let l = lockOf (actionAt es i) in
-      let same : lockOf (actionAt es j) ≡ l = sym (eqb-true l (lockOf (actionAt es j)) (at 4)) in
-      lock (processorAt es i) (processorAt es j) l (took i (processorAt es i) (Release l) (at 0) refl (release-is (actionAt es i) (at 2)))
-      (took j (processorAt es j) (Acquire l) (at 1) refl (acquire-is (actionAt es j) (at 3) ∙ ap Acquire same)) (ltb-true i j (at 5))
-  joins-before ByRound h =
-      let at = passed ByRound h in
-      round (processorAt es i) (processorAt es j) (actionAt es j) (took i (processorAt es i) Arrive (at 0) refl (arrives-is (actionAt es i) (at 2)))
-      (took j (processorAt es j) (actionAt es j) (at 1) refl refl) (ltb-true (rounds n es i) (rounds n es j) (at 3))
-  joins-before ByGrant h =
-      let at = passed ByGrant h in
-      let l = lockOf (actionAt es i) in
-      let found = any-at i (λ a. conjoined (grantTests es i j a)) (at 4) in
-      let a = found .at in
-      let is : (k : ℕ) → getD (grantTests es i j a) k true ≡ true = λ k. conjoined-at (grantTests es i j a) k (found .passes) in
-      granted (processorAt es i) (processorAt es j) l a (actionAt es j)
-      (record {
-        release = took i (processorAt es i) (Release l) (at 0) refl (release-is (actionAt es i) (at 2));
-        acquire =
-            took a (processorAt es j) (Acquire l) (is 0) (eqb-true (processorAt es a) (processorAt es j) (is 3))
-            (acquire-is (actionAt es a) (is 1) ∙ ap Acquire (eqb-true (lockOf (actionAt es a)) l (is 2)));
-        waited = found .below;
-        next = eqb-true (counted (isAcquireOf l) es a) (counted (isReleaseOf l) es i + 1) (is 4);
-      })
-      (took j (processorAt es j) (actionAt es j) (at 1) refl refl) (ltb-true i j (at 3))
-  joins-before ByJob h =
-      let at = passed ByJob h in
-      job (processorAt es i) (eventAt es i .step .value) (processorAt es j)
-      (record {
-        enqueue = enqueue-of es i (at 0);
-        dequeue = dequeue-of es j (at 1);
-        waited = ltb-true i j (at 2);
-        same = eqb-true (counted isEnqueue es i) (counted isDequeue es j) (at 3);
-      })
-  joins-before ByChain h = absurd (false≢true h)
+  job-joins p v q r = rw (enqueue-is i p v (r .enqueue), dequeue-is j q (r .dequeue), lt-ltb i j (omega (arith, r .waited)), eq-eqb (counted isEnqueue es i) (counted isDequeue es j) (r .same))
 
 -- ---- places that no edge leads out of
 
@@ -274,13 +194,13 @@ module _ (dropped : Edge → Bool) (n : ℕ) (es : List Event) (inside : ℕ →
   before-stays : closedUnder ≡ true → (i j : ℕ) (x : Before n es i j) → has dropped x ≡ false → inside i ≡ true → inside j ≡ true
   unfolding closedUnder has conjoined
   before-stays c i j (program p a b t u h) f =
-      edge-stays ByProgram i j (conjoined-at kinds 0 c) f (t .accepted) (u .accepted) (program-joins n es i j p a b t u h)
+      edge-stays ByProgram i j (conjoined-at kinds 0 c) f (t .accepted) (u .accepted) (program-joins n es i j p a b t u (omega (arith, h)))
   before-stays c i j (lock p q l t u h) f =
-      edge-stays ByLock i j (conjoined-at kinds 1 c) f (t .accepted) (u .accepted) (lock-joins n es i j p q l t u h)
+      edge-stays ByLock i j (conjoined-at kinds 1 c) f (t .accepted) (u .accepted) (lock-joins n es i j p q l t u (omega (arith, h)))
   before-stays c i j (round p q b t u h) f =
-      edge-stays ByRound i j (conjoined-at kinds 2 c) f (t .accepted) (u .accepted) (round-joins n es i j p q b t u h)
+      edge-stays ByRound i j (conjoined-at kinds 2 c) f (t .accepted) (u .accepted) (round-joins n es i j p q b t u (omega (arith, h)))
   before-stays c i j (granted p q l a b s u h) f =
-      edge-stays ByGrant i j (conjoined-at kinds 3 c) f (s .release .accepted) (u .accepted) (grant-joins n es i j p q l a b s u h)
+      edge-stays ByGrant i j (conjoined-at kinds 3 c) f (s .release .accepted) (u .accepted) (grant-joins n es i j p q l a b s u (omega (arith, h)))
   before-stays c i j (job p v q r) f =
       edge-stays ByJob i j (conjoined-at kinds 4 c) f (r .enqueue .accepted) (r .dequeue .accepted) (job-joins n es i j p v q r)
   before-stays c i j (chain k x y) f = λ start.
@@ -320,10 +240,10 @@ module _ (n : ℕ) (es : List Event) (i j : ℕ) where
   pub only-chained : joins ByProgram n es i j ≡ false → joins ByLock n es i j ≡ false → joins ByRound n es i j ≡ false → joins ByGrant n es i j ≡ false → joins ByJob n es i j ≡ false
       → (x : Before n es i j) → has (just ByChain) x ≡ true
   unfolding has just
-  only-chained no-program no-lock no-round no-grant no-job (program p a b t u h) = absurd (false≢true (sym no-program ∙ program-joins n es i j p a b t u h))
-  only-chained no-program no-lock no-round no-grant no-job (lock p q l t u h) = absurd (false≢true (sym no-lock ∙ lock-joins n es i j p q l t u h))
-  only-chained no-program no-lock no-round no-grant no-job (round p q b t u h) = absurd (false≢true (sym no-round ∙ round-joins n es i j p q b t u h))
-  only-chained no-program no-lock no-round no-grant no-job (granted p q l a b s u h) = absurd (false≢true (sym no-grant ∙ grant-joins n es i j p q l a b s u h))
+  only-chained no-program no-lock no-round no-grant no-job (program p a b t u h) = absurd (false≢true (sym no-program ∙ program-joins n es i j p a b t u (omega (arith, h))))
+  only-chained no-program no-lock no-round no-grant no-job (lock p q l t u h) = absurd (false≢true (sym no-lock ∙ lock-joins n es i j p q l t u (omega (arith, h))))
+  only-chained no-program no-lock no-round no-grant no-job (round p q b t u h) = absurd (false≢true (sym no-round ∙ round-joins n es i j p q b t u (omega (arith, h))))
+  only-chained no-program no-lock no-round no-grant no-job (granted p q l a b s u h) = absurd (false≢true (sym no-grant ∙ grant-joins n es i j p q l a b s u (omega (arith, h))))
   only-chained no-program no-lock no-round no-grant no-job (job p v q r) = absurd (false≢true (sym no-job ∙ job-joins n es i j p v q r))
   only-chained no-program no-lock no-round no-grant no-job (chain k x y) = refl
 

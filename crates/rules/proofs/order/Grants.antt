@@ -1,7 +1,7 @@
--- Grants told from the list alone are the state's: at each time the accepted acquires of a lock are as many as its releases, its waiters and its
--- holder together, so the acquire that a release serves by the count stands first in line then, and its processor becomes the holder. Rests on
--- Turns and Allowed. Assumes nothing.
-use Prim.Native.Nat.{ℕ, zero, suc, _+_, _≤_, _<_}
+-- At each time the accepted acquires of a lock are as many as its releases, its waiters and its holder together. So a processor that has asked and
+-- is not served yet, by the count of acquires and releases in the list, stands in line; and the one that a release serves by the count is the holder
+-- after it. (That every waiter has asked, and every new holder is served, is in Served.) Rests on Turns and Allowed. Assumes nothing.
+use Prim.Native.Nat.{ℕ, zero, suc, _+_, _-_, _<_}
 use native.Mathlib.Omega.{arith}
 use native.Mathlib.Decide.{ℕ-discrete}
 use mathlib.Core.Path.{_≡_, refl, sym, ap, _∙_}
@@ -16,15 +16,15 @@ use Rattle.rules.specs.State.{Limits, Counts, Marks, withHolder, State, 
 use Rattle.rules.specs.Lines.{waitsFor, inLine, firstInLine, withWaiter, lockAsked, lockHanded}
 use Rattle.rules.specs.Opening.{opened}
 use Rattle.rules.specs.Refusals.{Action, Read, Write, Acquire, Release, Arrive, Want, TallyAdd, TallyRead, Enqueue, Dequeue, Unknown, effect}
-use Rattle.rules.specs.Order.{Event, eventAt, Took, counted, isAcquireOf, isReleaseOf, Serves}
+use Rattle.rules.specs.Order.{Event, Took, counted, isAcquireOf, isReleaseOf, Serves}
 use Rattle.rules.proofs.state.Lines.{waiting, waiting-not}
 use Rattle.rules.proofs.state.Waiters.{awaits, holderIn, awake-says, in-line-is, asker-awaits, asker-turn, handed-holder, one-more-waits, one-fewer-waits, nobody-leaves, other-line-asked, other-line-handed}
 use Rattle.rules.proofs.inorder.OpenedInOrder.{opened-not-held, opened-nobody-waits}
 use Rattle.rules.proofs.order.Timeline.{Timeline, course-of, Moment, Refused, Taken, moment, effect-of, counts-stay}
-use Rattle.rules.proofs.order.Counted.{counted-passes, counted-fails, counted-never-falls}
+use Rattle.rules.proofs.order.Counted.{flag, counted-fails, counted-on, counted-never-falls}
 use Rattle.rules.proofs.order.ActionKinds.{acquiresLock, releasesLock, took-acquire, took-release, refused-acquire, refused-release}
 use Rattle.rules.proofs.order.MarksAfter.{awake-not-waiting, SameLines, linesAfter, lines-after}
-use Rattle.rules.proofs.order.Turns.{StandsAt, served-in-turn}
+use Rattle.rules.proofs.order.Turns.{StandsAt, place-in-line, served-in-turn}
 use Rattle.rules.proofs.order.Allowed.{Allowed, allowed, took-allowed}
 
 -- 1 for a lock that is held
@@ -47,10 +47,6 @@ held-same m m′ l e = rw e
 -- those who wait for a lock, and its holder
 abbrev taken : ℕ → Marks → ℕ → ℕ
 taken n m l = inLine n m l + held m l
-
--- 1 for a test that passes
-abbrev flag : Bool → ℕ
-flag b = cond b 1 0
 
 taken-same : (n : ℕ) (m m′ : Marks) (l : ℕ) → SameLines m m′ → taken n m l ≡ taken n m′ l
 unfolding inLine waitsFor held
@@ -145,24 +141,20 @@ module _ (lim : Limits) (c : Counts) (es : List Event) (r : Timeline lim c es) (
   processors-are : (t : ℕ) → r .state t .counts .processors ≡ n
   processors-are t = ap (λ (k : Counts). k .processors) (counts-stay lim c es r t)
 
-  -- how a count goes on at a step that was taken
-  counts-on : (test : Event → Bool) (t : ℕ) (b : Bool) → test (eventAt es t) ≡ b → counted test es (suc t) ≡ counted test es t + flag b
-  counts-on test t true e = counted-passes test es t e
-  counts-on test t false e = counted-fails test es t e ∙ omega arith
+  -- at the opening nobody waits, and the lock is free
+  pub starts-awake : (k : ℕ) → awaits (r .state 0 .marks) k ≡ 0
+  starts-awake k = ap (λ (s : State). awaits (s .marks) k) (r .starts) ∙ (unfold opened in opened-nobody-waits lim c (suc k))
+
+  pub starts-free : holderIn (r .state 0 .marks) l ≡ 0
+  starts-free = ap (λ (s : State). holderIn (s .marks) l) (r .starts) ∙ (unfold holder in opened-not-held lim c l)
 
   -- the accepted acquires of the lock are its releases, its waiters and its holder
   account : (t : ℕ) → acquired t ≡ released t + taken n (r .state t .marks) l
   unfolding counted
   account zero =
       let nobody : total n (waiting (awaits (r .state 0 .marks)) l) ≡ 0 =
-      total-zero n (waiting (awaits (r .state 0 .marks)) l) (λ k b. waiting-not (awaits (r .state 0 .marks)) l k (λ e. omega (arith, e, no-waiter k))) in
-      omega (arith, in-line-is n (r .state 0 .marks) l, nobody, held-not (r .state 0 .marks) l free)
-    where
-      no-waiter : (k : ℕ) → awaits (r .state 0 .marks) k ≡ 0
-      no-waiter k = ap (λ (s : State). awaits (s .marks) k) (r .starts) ∙ (unfold opened in opened-nobody-waits lim c (suc k))
-
-      free : holderIn (r .state 0 .marks) l ≡ 0
-      free = ap (λ (s : State). holderIn (s .marks) l) (r .starts) ∙ (unfold holder in opened-not-held lim c l)
+      total-zero n (waiting (awaits (r .state 0 .marks)) l) (λ k b. waiting-not (awaits (r .state 0 .marks)) l k (λ e. omega (arith, e, starts-awake k))) in
+      omega (arith, in-line-is n (r .state 0 .marks) l, nobody, held-not (r .state 0 .marks) l starts-free)
   account (suc t) = go (moment lim c es r t) (account t)
     where
       go : Moment lim es t (r .state t) (r .state (suc t)) → acquired t ≡ released t + taken n (r .state t .marks) l → acquired (suc t) ≡ released (suc t) + taken n (r .state (suc t) .marks) l
@@ -172,8 +164,8 @@ module _ (lim : Limits) (c : Counts) (es : List Event) (r : Timeline lim c es) (
           omega (
             arith,
             ih,
-            counts-on (isAcquireOf l) t (acquiresLock l a) (took-acquire es t l p a took),
-            counts-on (isReleaseOf l) t (releasesLock l a) (took-release es t l p a took),
+            counted-on (isAcquireOf l) es t (acquiresLock l a) (took-acquire es t l p a took),
+            counted-on (isReleaseOf l) es t (releasesLock l a) (took-release es t l p a took),
             step-accounts n (r .state t) (processors-are t) l p a (allowed lim c es r t p a took acc),
             taken-same n (effect lim (r .state t) p a .after .marks) (linesAfter (r .state t) p a) l (lines-after lim (r .state t) p a),
             ap (λ (s : State). taken n (s .marks) l) k,
@@ -186,6 +178,14 @@ module _ (lim : Limits) (c : Counts) (es : List Event) (r : Timeline lim c es) (
       ∙ total-zero n (waiting (awaits (r .state t .marks)) l)
       (λ k b. waiting-not (awaits (r .state t .marks)) l k (λ z. r .ordered t .lines .for-held k l (rw (processors-are t) b) z e))
 
+  -- a free lock has as many accepted acquires as releases
+  pub free-account : (t : ℕ) → holderIn (r .state t .marks) l ≡ 0 → acquired t ≡ released t
+  free-account t e = omega (arith, account t, free-no-line t e, held-not (r .state t .marks) l e)
+
+  -- one that is held has an acquire more for its holder and for each in its line
+  pub held-account : (t : ℕ) → (holderIn (r .state t .marks) l ≡ 0 → ⊥) → acquired t ≡ released t + 1 + inLine n (r .state t .marks) l
+  held-account t h = omega (arith, account t, held-is (r .state t .marks) l h)
+
   -- an acquire of a held lock waits behind those in line
   pub waits-behind : (a k : ℕ) → Took es a (suc k) (Acquire l) → (holderIn (r .state a .marks) l ≡ 0 → ⊥) → StandsAt (r .state (suc a) .marks) l k (inLine n (r .state a .marks) l)
   unfolding linesAfter lockAsked
@@ -196,23 +196,25 @@ module _ (lim : Limits) (c : Counts) (es : List Event) (r : Timeline lim c es) (
         turn = ap (λ (w : List ℕ). getD w (suc k) 0) (lines-after lim (r .state a) (suc k) (Acquire l) .turns) ∙ rw (ne-eqb (holderIn (r .state a .marks) l) 0 h, processors-are a) (asker-turn n (r .state a .marks) l k (inLine n (r .state a .marks) l));
       })
 
+  -- who has asked, and is not served yet by the count, stands in line behind those who asked before it and are not served either
+  pub unserved-stands : (a k t : ℕ) → Took es a (suc k) (Acquire l) → a < t → released t < acquired a → StandsAt (r .state t .marks) l k (acquired a - released t - 1)
+  unserved-stands a k t took later few = rw (← place) (place-in-line lim es (r .state) (course-of lim c es r) l k (suc a) x (waits-behind a k took h) t later (omega (arith, few, held-account a h, kept)))
+    where
+      x : ℕ
+      x = inLine n (r .state a .marks) l
+
+      kept : released (suc a) ≡ released a
+      kept = counted-fails (isReleaseOf l) es a (took-release es a l (suc k) (Acquire l) took ∙ (unfold releasesLock in refl))
+
+      h : holderIn (r .state a .marks) l ≡ 0 → ⊥
+      h e = omega (arith, few, free-account a e, counted-never-falls (isReleaseOf l) es a t (omega (arith, later)))
+
+      place : released (suc a) + x - released t ≡ acquired a - released t - 1
+      place = omega (arith, held-account a h, kept)
+
   -- the processor that a release serves is the holder after it
   pub served-holds : (i p a q : ℕ) → Serves es l i p a q → holder (r .state (suc i)) l ≡ q
   served-holds i p a zero s = absurd (omega (arith, took-allowed lim c es r a zero (Acquire l) (s .acquire) .from))
-  served-holds i p a (suc k) s = go (ℕ-discrete (holderIn (r .state a .marks) l) 0)
-    where
-      al : Allowed (c .processors) (r .state a) (suc k) (Acquire l)
-      al = took-allowed lim c es r a (suc k) (Acquire l) (s .acquire)
-
-      since : released a ≤ released i
-      since = counted-never-falls (isReleaseOf l) es a i (omega (arith, s .waited))
-
-      no-release : released (suc a) ≡ released a
-      no-release = counted-fails (isReleaseOf l) es a (took-release es a l (suc k) (Acquire l) (s .acquire) ∙ (unfold releasesLock in refl))
-
-      go : Dec (holderIn (r .state a .marks) l ≡ 0) → holder (r .state (suc i)) l ≡ suc k
-      go (yes e) = absurd (omega (arith, s .next, account a, since, free-no-line a e, held-not (r .state a .marks) l e))
-      go (no e) =
-          served-in-turn lim es (r .state) (course-of lim c es r) l k (suc a) (inLine n (r .state a .marks) l) (waits-behind a k (s .acquire) e)
-          (rw (processors-are 0) (al .to)) i p (s .waited) (s .release)
-          (omega (arith, s .next, account a, no-release, held-is (r .state a .marks) l e))
+  served-holds i p a (suc k) s =
+      served-in-turn lim es (r .state) (course-of lim c es r) l k i (acquired a - released i - 1) (unserved-stands a k i (s .acquire) (s .waited) (omega (arith, s .next)))
+      (rw (processors-are 0) (took-allowed lim c es r a (suc k) (Acquire l) (s .acquire) .to)) i p (omega arith) (s .release) (omega (arith, s .next))

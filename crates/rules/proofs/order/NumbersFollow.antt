@@ -28,7 +28,7 @@ use Rattle.rules.proofs.order.Grants.{waits-behind, served-holds}
 use Rattle.rules.proofs.order.NumbersAfter.{with-number-same, learner-knows, granted-grows, granted-at-lock, writes-after, writer-knows}
 use Rattle.rules.proofs.order.Numbers.{knowing, known-at-most-writes, processor-never-falls, lock-never-falls, round-tells}
 use Rattle.rules.proofs.order.Jobs.{job-tells}
-use Rattle.rules.proofs.order.Carrying.{Telling, told-at-once, carries-strictly}
+use Rattle.rules.proofs.order.Carrying.{Telling, told-at-once, carries-strictly, Told}
 
 -- ---- who waits
 
@@ -224,9 +224,9 @@ module _ (lim : Limits) (c : Counts) (es : List Event) (r : Timeline lim c es) (
       go (Refused e k) ih = kept (ap (λ (γ : Ghost). γ .writes) (ghost-refused lim c es r w t e)) ih
       go (Taken p a took acc k) ih = taken p a took (writesTo w a) refl ih
 
-  -- a processor whose step, no acquire, every earlier write to w is before knows all of them
+  -- a processor whose step, no acquire and no dequeue, every earlier write to w by another is before knows all writes; its own it knows in any order
   pub knows-all-writes : (j p : ℕ) (a : Action) → Took es j p a → ((l : ℕ) → a ≡ Acquire l → ⊥) → (a ≡ Dequeue → ⊥)
-      → ((i q v : ℕ) → EarlierWrite es w j i q v → Before (c .processors) es i j)
+      → ((i q v : ℕ) → EarlierWrite es w j i q v → (q ≡ p → ⊥) → Before (c .processors) es i j)
       → ghostAt lim c es r w j .known (Processor p) ≡ ghostAt lim c es r w j .writes
   knows-all-writes j p a took none-acquired none-removed before = go (no-write-or-last j)
     where
@@ -235,12 +235,21 @@ module _ (lim : Limits) (c : Counts) (es : List Event) (r : Timeline lim c es) (
 
       go : (ghostAt lim c es r w j .writes ≡ 0) ⊎ LastWrite j → ghostAt lim c es r w j .known (Processor p) ≡ ghostAt lim c es r w j .writes
       go (inl e) = omega (arith, most, e)
-      go (inr l) =
-          let x = ghostAt lim c es r w j .writes in
-          let all =
-          carries-strictly numbers-tell (l .place) j (before (l .place) (l .processor) (l .value) (l .write)) (λ k e. none-acquired k (sym (took .action) ∙ e)) (λ e. none-removed (sym (took .action) ∙ e)) x
-          (rw (l .write .wrote .processor) (told-at-once numbers-tell x (l .place) (l .processor) (omega (arith, l .knew)))) in
-          omega (arith, most, rw (took .processor) at all)
+      go (inr l) = omega (arith, most, least (ℕ-discrete (l .processor) p))
+        where
+          x : ℕ
+          x = ghostAt lim c es r w j .writes
+
+          told : Told known waitsAt x (l .place) (l .processor)
+          told = told-at-once numbers-tell x (l .place) (l .processor) (omega (arith, l .knew))
+
+          least : Dec (l .processor ≡ p) → x ≤ ghostAt lim c es r w j .known (Processor p)
+          least (yes e) = (rw e at told) .at j (l .write .earlier) (numbers-tell .acts-awake j p a took)
+          least (no e) =
+              rw (took .processor) at
+              (carries-strictly numbers-tell (l .place) j (before (l .place) (l .processor) (l .value) (l .write) e) (λ k e. none-acquired k (sym (took .action) ∙ e))
+              (λ e. none-removed (sym (took .action) ∙ e)) x
+              (rw (l .write .wrote .processor) told))
 
   -- the ghost's last value is the value field of the last write
   pub last-is-last-written : (j : ℕ) → ghostAt lim c es r w j .last ≡ lastWritten es w j

@@ -2,15 +2,16 @@
 use Prim.Native.Nat.{ℕ}
 use mathlib.Core.Path.{_≡_, refl, _∙_}
 use mathlib.Core.Bool.{true}
-use mathlib.Core.List.{List, [], _∷_}
+use mathlib.Core.List.{List}
 use Rattle.rules.specs.State.{mainframe}
 use Rattle.rules.specs.InOrder.{inRange, countsInRange}
 use Rattle.rules.specs.Refusals.{Step}
 use Rattle.rules.specs.Runs.{answers, stateAfter, answersInOrder, stateInOrder}
+use Rattle.rules.specs.Bench.{listing, listingAnswers}
 use Rattle.rules.proofs.inorder.Facts.{InOrder}
 use Rattle.rules.proofs.inorder.OpenedInOrder.{opened-in-order}
 use Rattle.rules.proofs.InOrderRuns.{answers-in-order, state-in-order}
-use Rattle.rules.proofs.runs.Listing.{start, answering, listing, computed-listing}
+use Rattle.rules.proofs.runs.Listing.{start, computed-listing}
 
 -- a start with its counts in range is in order
 start-in-order : (processors pages locks : ℕ) → countsInRange mainframe (record { processors = processors; pages = pages; locks = locks }) ≡ true
@@ -30,8 +31,6 @@ state-from-start processors pages locks in-range ts =
     state-in-order mainframe (start processors pages locks) ts (start-in-order processors pages locks in-range)
 
 -- Listing A: the lines 1 to 12, refusal, value and count of each step
-pub listing-a : answers mainframe (start 2 1 1) listing
-    ≡ answering 0 0 0 ∷ answering 0 0 0 ∷ answering 0 0 0 ∷ answering 0 0 0 ∷ answering 0 0 0 ∷ answering 7 0 0 ∷ answering 0 700 1 ∷ answering 0 700 0 ∷ answering 0 0 0
-    ∷ answering 6 0 0 ∷ answering 0 0 0 ∷ answering 18 0 0 ∷ []
+pub listing-a : answers mainframe (start 2 1 1) listing ≡ listingAnswers
 unfolding countsInRange inRange mainframe
 listing-a = answers-from-start 2 1 1 refl listing ∙ computed-listing

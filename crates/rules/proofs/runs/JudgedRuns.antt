@@ -11,7 +11,7 @@ use borrow.Author.Tests.{eq-eqb}
 use Rattle.rules.specs.State.{mainframe, Counts}
 use Rattle.rules.specs.InOrder.{countsInRange}
 use Rattle.rules.specs.Opening.{Opening, openingRefusal, opened}
-use Rattle.rules.specs.Refusals.{Step, Read, Write, actionOf}
+use Rattle.rules.specs.Refusals.{Step, Action, Read, Write, actionOf}
 use Rattle.rules.specs.Runs.{answers, answersInOrder}
 use Rattle.rules.specs.Order.{Event, events, eventAt, Took, Before, chain, Ordered}
 use Rattle.rules.specs.Demand.{valueField, isWriteTo, lastWritten, EarlierWrite, Synchronized, FromWrite, Judged, valueAt, DemandThree}
@@ -128,6 +128,10 @@ in-range-accepted c in-range = rw in-range
 unfoldable pub allAccepted : List Step → List Event
 unfolding eventAt actionOf joins writesBefore valuesBefore LeadUp lastWritten isWriteTo valueField
 allAccepted ts = map (λ t. record { step = t; accepted = true }) ts
+
+-- a step of a computed list is what its fields say
+pub taken : {es : List Event} {i p : ℕ} {a : Action} → eventAt es i .accepted ≡ true → eventAt es i .step .processor ≡ p → actionOf (eventAt es i .step) ≡ a → Took es i p a
+taken accepted processor action = record { accepted = accepted; processor = processor; action = action }
 
 -- the accepted and refused steps of a run from an opening
 abbrev pub eventsFrom : Counts → List Step → List Event

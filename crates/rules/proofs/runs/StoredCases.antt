@@ -11,16 +11,11 @@ use Rattle.rules.specs.State.{mainframe}
 use Rattle.rules.specs.Refusals.{Step, fits, Answer}
 use Rattle.rules.specs.Runs.{answersInOrder, stateInOrder}
 use Rattle.rules.specs.Demand.{valueField}
+use Rattle.rules.specs.Bench.{StoredValues, stepsUnderLock, answersUnderLock}
 use Rattle.rules.proofs.runs.Listing.{reads, writes, acquires, releases, arrives, start, answering}
 use Rattle.rules.proofs.runs.ClosingFirst.{first-word, second-word, read-back, found, closedWith, closes, closing-first}
-
--- "Stored values in B, D and E are neither 0 nor equal"; a value field has four bytes
-pub record StoredValues (u v : ℕ) : Type 0 where
-  pub first-not-0 : u ≡ 0 → ⊥
-  pub second-not-0 : v ≡ 0 → ⊥
-  pub not-equal : u ≡ v → ⊥
-  pub first-fits : u < wordValues
-  pub second-fits : v < wordValues
+-- the name of the answer that most steps of these runs have goes with them
+pub use Rattle.rules.specs.Bench.{accepted}
 
 -- what is stored is the value itself, so it is not 0, and not equal to what is read back of the other
 not-zero : (v : ℕ) → v < wordValues → (v ≡ 0 → ⊥) → valueField v ≡ 0 → ⊥
@@ -30,10 +25,6 @@ not-zero v fits h e = h (omega arith)
 other-word : (u v : ℕ) → u < wordValues → v < wordValues → (u ≡ v → ⊥) → wordAt (wordBytes (valueField u)) 0 ≡ valueField v → ⊥
 unfolding valueField
 other-word u v u-fits v-fits h e = h (omega (arith, read-back u u-fits, e))
-
--- an accepted step with no value and no count, and no words
-abbrev pub accepted : Answer
-accepted = answering 0 0 0
 
 -- ---- B
 
@@ -65,14 +56,6 @@ case-B u v h =
     ∙ ap₂ (λ (y x : ℕ). accepted ∷ accepted ∷ accepted ∷ accepted ∷ answering 0 y 1 ∷ answering 0 x 0 ∷ []) (read-back v (h .second-fits)) (omega arith)
 
 -- ---- D and E
-
--- under lock 0 processor p stores x in word 0, then q stores y there; then processor 3 takes the lock and reads the word
-unfoldable pub stepsUnderLock : ℕ → ℕ → ℕ → ℕ → List Step
-stepsUnderLock p x q y = acquires p 0 ∷ writes p 0 x ∷ releases p 0 ∷ acquires q 0 ∷ writes q 0 y ∷ releases q 0 ∷ acquires 3 0 ∷ reads 3 0 ∷ []
-
--- all are accepted; the second write has count 1, and the read answers the second value, count 1: its record replaces the first (L5)
-unfoldable pub answersUnderLock : ℕ → List Answer
-answersUnderLock y = accepted ∷ accepted ∷ accepted ∷ accepted ∷ answering 0 0 1 ∷ accepted ∷ accepted ∷ answering 0 y 1 ∷ []
 
 -- as the rules compute it, where the second value is stored over the first as it was read back from a diff
 computed-D : (x y : ℕ) → (valueField x ≡ 0 → ⊥) → (wordAt (wordBytes (valueField x)) 0 ≡ valueField y → ⊥)

@@ -1,30 +1,21 @@
--- What is left of a state without the contents of words, twins and diffs, and of a step without the value it stores: every refusal, and the same of
+-- What is left of a state without the contents of words, twins and diffs, and of a step without the value that its kind uses: every refusal, and the same of
 -- the state after a step, depend on that alone. Assumes nothing.
 use Prim.Native.Nat.{ℕ, zero, suc, _+_, _-_}
 use mathlib.Core.Path.{_≡_, refl, sym, ap, _∙_}
 use mathlib.Core.Bool.{Bool, true, false, cond}
-use mathlib.Core.List.{List, []}
+use mathlib.Core.List.{[]}
 use lib.Dec.{eqb}
 use borrow.Author.Tests.{eqb-true}
 use Rattle.lists.specs.Tables.{put}
-use Rattle.rules.specs.State.{Limits, Counts, Processor, Lock, Barrier, Clocks, Marks, withArrived, Pages, dirtyAt, appended, State, withClocks, withPages, withMarks, clock, own, holder, hasArrived, Job, clockOf, withClock, withQueue}
+use Rattle.rules.specs.State.{Limits, Processor, Lock, Barrier, withArrived, Pages, dirtyAt, appended, State, withClocks, withPages, withMarks, clock, own, holder, hasArrived, Job, clockOf, withClock, withQueue}
 use Rattle.rules.specs.InOrder.{present, dirtyPages}
 use Rattle.rules.specs.Lines.{firstInLine, lockAsked, lockHanded}
 use Rattle.rules.specs.Close.{anyDirty, ticked, newRecord, recorded, cleaned, closed}
 use Rattle.rules.specs.Fetch.{withCopy, fetched}
-use Rattle.rules.specs.Steps.{pageOfWord, read, newTwin, twinTaken, stored, write, learned, acquire, lockTold, waiterTold, release, atBarrier, allArrived, roundDone, pagesFetched, allFetched, noneFetched, emptied, collected, wantsCollection, arrive, want, placeBehind, freePlace, enqueue, dequeue}
-use Rattle.rules.specs.Refusals.{Step, Action, Read, Write, Acquire, Release, Arrive, Want, TallyAdd, TallyRead, Enqueue, Dequeue, Unknown, actionOf, objectBound, usesValue, fits, holdsAny, lateRefusal, refusalBy, refusalInOrder, effect, nextInOrder}
-
--- a state without what words, twins and diffs hold: of the pages which are dirty, of the records how many stand
-pub record Outline : Type 0 where
-  pub counts : Counts
-  pub clocks : Clocks
-  pub dirty : List (List ℕ)
-  pub standing : ℕ
-  pub marks : Marks
-
-unfoldable pub outline : State → Outline
-outline s = record { counts = s .counts; clocks = s .clocks; dirty = s .pages .dirty; standing = s .records .standing; marks = s .marks }
+use Rattle.rules.specs.Steps.{pageOfWord, read, newTwin, twinTaken, stored, write, learned, acquire, lockTold, waiterTold, release, atBarrier, allArrived, roundDone, pagesFetched, allFetched, noneFetched, emptied, collected, wantsCollection, arrive, want, tallyAdd, placeBehind, freePlace, enqueue, dequeue}
+use Rattle.rules.proofs.state.WithoutValue.{without-value}
+use Rattle.rules.specs.Noted.{Outline, outline, withoutValue}
+use Rattle.rules.specs.Refusals.{Step, stepOf, Action, Read, Write, Acquire, Release, Arrive, Want, TallyAdd, TallyRead, Enqueue, Dequeue, Unknown, actionOf, objectBound, usesValue, fits, holdsAny, lateRefusal, refusalBy, refusalInOrder, effect, nextInOrder}
 
 -- a state with an outline, and nothing in its pages and slots
 unfoldable blank : Outline → State
@@ -235,55 +226,49 @@ next-alike lim s s′ t e = rw (refused-alike lim s s′ t e) (go (eqb (refusalI
         ∙ sym (effect-by-outline lim (t .processor) (actionOf t) s′)
     go false = e
 
--- ---- the value of a store
-
--- a step without the value that it stores
-unfoldable pub withoutStored : Step → Step
-withoutStored t = record { kind = t .kind; processor = t .processor; object = t .object; value = cond (eqb (t .kind) 2) 0 (t .value) }
+-- ---- the value of a step
 
 module _ (lim : Limits) (s : State) where
-  -- a write of v and one of 0
-  abbrev writing : ℕ → ℕ → ℕ → Step
-  writing p w v = record { kind = 2; processor = p; object = w; value = v }
-
-  write-refused : (p w v : ℕ) → refusalInOrder lim s (writing p w v) ≡ refusalInOrder lim s (writing p w 0)
-  unfolding refusalInOrder refusalBy fits usesValue actionOf objectBound lateRefusal
+  write-refused : (p w v : ℕ) → refusalInOrder lim s (stepOf 2 p w v) ≡ refusalInOrder lim s (stepOf 2 p w 0)
+  unfolding stepOf refusalInOrder refusalBy fits usesValue actionOf objectBound lateRefusal
   write-refused p w v = refl
 
-  write-alike : (p w v : ℕ) → outline (nextInOrder lim s (writing p w v)) ≡ outline (nextInOrder lim s (writing p w 0))
-  unfolding nextInOrder actionOf effect
-  write-alike p w v = rw (write-refused p w v) (go (eqb (refusalInOrder lim s (writing p w 0)) 0))
+  add-refused : (p t v : ℕ) → refusalInOrder lim s (stepOf 8 p t v) ≡ refusalInOrder lim s (stepOf 8 p t 0)
+  unfolding stepOf refusalInOrder refusalBy fits usesValue actionOf objectBound lateRefusal
+  add-refused p t v = refl
+
+  enqueue-refused : (p o v : ℕ) → refusalInOrder lim s (stepOf 10 p o v) ≡ refusalInOrder lim s (stepOf 10 p o 0)
+  unfolding stepOf refusalInOrder refusalBy fits usesValue actionOf objectBound lateRefusal
+  enqueue-refused p o v = refl
+
+  write-alike : (p w v : ℕ) → outline (nextInOrder lim s (stepOf 2 p w v)) ≡ outline (nextInOrder lim s (stepOf 2 p w 0))
+  unfolding nextInOrder stepOf actionOf effect
+  write-alike p w v = rw (write-refused p w v) (go (eqb (refusalInOrder lim s (stepOf 2 p w 0)) 0))
     where
       go : (b : Bool) → outline (cond b (write lim s p w v .after) s) ≡ outline (cond b (write lim s p w 0 .after) s)
       go true = unfold outline write stored withCopy in refl
       go false = refl
 
-  -- it is refused like the step
-  pub stored-refused : (t : Step) → refusalInOrder lim s t ≡ refusalInOrder lim s (withoutStored t)
-  unfolding withoutStored
-  stored-refused t = go (eqb (t .kind) 2) refl
+  add-alike : (p t v : ℕ) → outline (nextInOrder lim s (stepOf 8 p t v)) ≡ outline (nextInOrder lim s (stepOf 8 p t 0))
+  unfolding nextInOrder stepOf actionOf effect
+  add-alike p t v = rw (add-refused p t v) (go (eqb (refusalInOrder lim s (stepOf 8 p t 0)) 0))
     where
-      go : (b : Bool) → eqb (t .kind) 2 ≡ b
-          → refusalInOrder lim s t ≡ refusalInOrder lim s (record { kind = t .kind; processor = t .processor; object = t .object; value = cond b 0 (t .value) })
-      go true e = at (t .kind) (eqb-true (t .kind) 2 e)
-        where
-          at : (k : ℕ) → k ≡ 2
-              → refusalInOrder lim s (record { kind = k; processor = t .processor; object = t .object; value = t .value })
-              ≡ refusalInOrder lim s (record { kind = k; processor = t .processor; object = t .object; value = 0 })
-          at k e = rw e (write-refused (t .processor) (t .object) (t .value))
-      go false e = refl
+      go : (b : Bool) → outline (cond b (tallyAdd s p t v) s) ≡ outline (cond b (tallyAdd s p t 0) s)
+      go true = unfold outline in refl
+      go false = refl
+
+  enqueue-alike : (p o v : ℕ) → outline (nextInOrder lim s (stepOf 10 p o v)) ≡ outline (nextInOrder lim s (stepOf 10 p o 0))
+  unfolding nextInOrder stepOf actionOf effect
+  enqueue-alike p o v = rw (enqueue-refused p o v) (go (eqb (refusalInOrder lim s (stepOf 10 p o 0)) 0))
+    where
+      go : (b : Bool) → outline (cond b (enqueue lim s p v) s) ≡ outline (cond b (enqueue lim s p 0) s)
+      go true = unfold outline enqueue in refl
+      go false = refl
+
+  -- a step is refused like the one without its value
+  pub value-refused : (t : Step) → refusalInOrder lim s t ≡ refusalInOrder lim s (withoutValue t)
+  value-refused = without-value (refusalInOrder lim s) write-refused add-refused enqueue-refused
 
   -- and leaves a state alike
-  pub stored-alike : (t : Step) → outline (nextInOrder lim s t) ≡ outline (nextInOrder lim s (withoutStored t))
-  unfolding withoutStored
-  stored-alike t = go (eqb (t .kind) 2) refl
-    where
-      go : (b : Bool) → eqb (t .kind) 2 ≡ b
-          → outline (nextInOrder lim s t) ≡ outline (nextInOrder lim s (record { kind = t .kind; processor = t .processor; object = t .object; value = cond b 0 (t .value) }))
-      go true e = at (t .kind) (eqb-true (t .kind) 2 e)
-        where
-          at : (k : ℕ) → k ≡ 2
-              → outline (nextInOrder lim s (record { kind = k; processor = t .processor; object = t .object; value = t .value }))
-              ≡ outline (nextInOrder lim s (record { kind = k; processor = t .processor; object = t .object; value = 0 }))
-          at k e = rw e (write-alike (t .processor) (t .object) (t .value))
-      go false e = refl
+  pub value-alike : (t : Step) → outline (nextInOrder lim s t) ≡ outline (nextInOrder lim s (withoutValue t))
+  value-alike = without-value (λ t. outline (nextInOrder lim s t)) write-alike add-alike enqueue-alike

@@ -3,19 +3,22 @@
 use Prim.Native.Nat.{ℕ, zero, suc, _+_, _≤_, _<_}
 use native.Mathlib.Omega.{arith}
 use mathlib.Core.Path.{_≡_, refl, sym, ap, ap₂, _∙_}
-use mathlib.Core.Bool.{Bool, true, false, cond, not, _&&_, _||_}
+use mathlib.Core.Bool.{Bool, true, false, cond, not, _&&_, _||_, false≢true}
+use mathlib.Core.Logic.{_↔_}
 use mathlib.Core.Option.{Option, none, some, Option·getD}
 use mathlib.Core.List.{List, [], _∷_}
 use lib.ListN.{length, getD}
 use lib.Seq.{ext-getD}
 use Rattle.lists.specs.Tables.{every}
 use Rattle.lists.proofs.Selected.{Each}
-use Rattle.lists.proofs.Tables.{every-at}
-use Rattle.diff.specs.Reading.{settings, applied}
+use Rattle.lists.proofs.Tables.{every-at, every-holds}
+use Rattle.diff.specs.Format.{setWords}
+use Rattle.diff.specs.Reading.{settings, wordsSet, applied}
 use Rattle.diff.specs.inner.Settings.{settingAt}
-use Rattle.diff.proofs.Theorems.{applied-word}
+use Rattle.diff.proofs.Theorems.{applied-word, words-with-a-setting}
 use Rattle.rules.specs.State.{Record}
 use Rattle.rules.specs.Fetch.{appliedAll, isSet, anySets, replaced, unreplaced, skipped}
+use Rattle.rules.specs.Moved.{unreplacedBy, Skips}
 use Rattle.rules.proofs.state.CopyWords.{length-applied, length-applied-all}
 
 module _ (w : ℕ) where
@@ -80,11 +83,6 @@ module _ (w : ℕ) where
 
   -- ---- skipped later records may be counted or not
 
-  -- the records not skipped where only later ones that are not skipped themselves count
-  unfoldable pub unreplacedBy : List Record → List Record
-  unreplacedBy [] = []
-  unreplacedBy (r ∷ rs) = cond (replaced w r (unreplacedBy rs)) (unreplacedBy rs) (r ∷ unreplacedBy rs)
-
   every-same : (n : ℕ) (t u : ℕ → Bool) → ((i : ℕ) → i < n → t i ≡ u i) → every n t ≡ every n u
   unfolding every
   every-same zero t u h = refl
@@ -113,7 +111,7 @@ module _ (w : ℕ) where
       (λ o l. ap (λ (b : Bool). not (isSet (at r o)) || b) (unreplaced-sets o rs l))
 
   -- "set again by later records": whether skipped ones are counted among them or not
-  pub readings-agree : (rs : List Record) → unreplacedBy rs ≡ unreplaced w rs
+  readings-agree : (rs : List Record) → unreplacedBy w rs ≡ unreplaced w rs
   unfolding unreplacedBy unreplaced
   readings-agree [] = refl
   readings-agree (r ∷ rs) =
@@ -132,6 +130,45 @@ module _ (w : ℕ) where
           → length (cond b (unreplaced w rs) (r ∷ unreplaced w rs)) + length (cond b (r ∷ skipped w rs) (skipped w rs)) ≡ suc (length rs)
       go true e = omega (arith, e)
       go false e = omega (arith, e)
+
+  -- ---- when a record is skipped
+
+  -- exactly where each of its words is set again
+  replaced-exactly : (r : Record) (rs : List Record) → replaced w r rs ≡ true ↔ ((o : ℕ) → o < w → isSet (at r o) ≡ true → anySets w o rs ≡ true)
+  unfolding replaced
+  replaced-exactly r rs = (
+    λ e o l set. rw set at (replaced-at r rs o l e),
+    λ h. every-holds w (λ o. not (isSet (at r o)) || anySets w o rs) (λ o l. go o (isSet (at r o)) refl (h o l)),
+  )
+    where
+      go : (o : ℕ) (b : Bool) → isSet (at r o) ≡ b → (isSet (at r o) ≡ true → anySets w o rs ≡ true) → (not b || anySets w o rs) ≡ true
+      go o true e h = h e
+      go o false e h = refl
+
+  -- where no word is set none is at a place
+  none-set : (l : List (Option ℕ)) → length (setWords l) ≡ 0 → (o : ℕ) → isSet (getD l o none) ≡ false
+  unfolding setWords isSet
+  none-set [] e o = refl
+  none-set (none ∷ l) e zero = refl
+  none-set (none ∷ l) e (suc o) = none-set l e o
+  none-set (some v ∷ l) e o = absurd (omega (arith, e))
+
+  -- a record with no words always
+  no-words-skipped : (r : Record) (rs : List Record) → wordsSet (r .diff) ≡ 0 → replaced w r rs ≡ true
+  no-words-skipped r rs e =
+      replaced-exactly r rs .1
+      (λ o l set. absurd (false≢true (sym (none-set (settings w (r .diff)) (sym (words-with-a-setting w (r .diff)) ∙ e) o) ∙ set)))
+
+  -- all of it
+  pub skips : Skips w
+  skips =
+      record {
+        exactly = replaced-exactly;
+        no-words = no-words-skipped;
+        readings-agree = readings-agree;
+        all-of-them = applied-and-skipped;
+        same-copy = skipping-changes-nothing;
+      }
 
 -- ---- those that are not skipped are some of the records
 

@@ -13,6 +13,8 @@ use Rattle.lists.proofs.Tables.{length-put, take-put-next, get-map-within}
 use Rattle.lists.proofs.Selected.{Each, each-at, each-when}
 use Rattle.rules.specs.State.{dirtyAt, Record, Records, slotBytes, recordIn, recordsOf, laidOver, appended, State}
 use Rattle.rules.specs.Close.{newRecord, recorded}
+-- the records that closing makes, with the laws on them
+unfoldable pub use Rattle.rules.specs.Noted.{newRecords}
 
 pub record-in-laid : (r : Record) (slot : List ℕ) → recordIn (laidOver (slotBytes r) slot) ≡ r
 unfolding recordIn laidOver slotBytes
@@ -34,11 +36,6 @@ records-appended r new h =
 pub slots-appended : (r : Records) (new : Record) → r .standing ≤ length (r .slots) → appended r new .standing ≤ length (appended r new .slots)
 unfolding appended
 slots-appended r new h = omega (arith, length-put [] (r .slots) (r .standing) (laidOver (slotBytes new) (getD (r .slots) (r .standing) [])))
-
--- the records that closing makes for the pages below n
-unfoldable pub newRecords : State → ℕ → ℕ → List Record
-newRecords s p zero = []
-newRecords s p (suc g) = cond (dirtyAt (s .pages) p g) (newRecords s p g ++ newRecord s p g ∷ []) (newRecords s p g)
 
 pub slots-recorded : (s : State) (p n : ℕ) → s .records .standing ≤ length (s .records .slots) → recorded s p n .standing ≤ length (recorded s p n .slots)
 unfolding recorded

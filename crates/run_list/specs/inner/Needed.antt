@@ -15,7 +15,8 @@ use Rattle.step_collect.specs.inner.Needed.{ReadyKept}
 use Rattle.opening.specs.Promises.{areasOpened}
 use Rattle.step_act.specs.declared.Outcome.{Outcome}
 use Rattle.step_act.specs.Telling.{told}
-use Rattle.step_record.specs.Records.{stepFrom, stepsIn, answerWords}
+use Rattle.step_fields.specs.Records.{stepFrom, stepsIn}
+use Rattle.step_record.specs.Answers.{answerWords}
 use Rattle.run_list.specs.Runs.{recordsRun, firstRefusal}
 
 -- ---- one record

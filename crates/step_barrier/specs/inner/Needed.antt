@@ -1,5 +1,5 @@
 -- What the parts of an arrival ask of one another. Assumes nothing.
-use Prim.Native.Nat.{ℕ, _≤_, _<_}
+use Prim.Native.Nat.{ℕ, _≤_}
 use mathlib.Core.Path.{_≡_}
 use mathlib.Core.Bool.{false}
 use mathlib.Core.List.{List}
@@ -13,7 +13,7 @@ use Rattle.rules.specs.Steps.{roundDone}
 use Rattle.rules.proofs.inorder.Facts.{InOrder}
 use Rattle.layout.specs.Areas.{stateIn}
 use Rattle.layout.specs.inner.Needed.{Acts, Lent}
-use Rattle.layout.specs.inner.Marks.{processorCount, arrivedMark}
+use Rattle.layout.specs.inner.Marks.{processorCount}
 use Rattle.fetch_index.specs.inner.Index.{IndexKept}
 use Rattle.step_barrier.specs.inner.Effects.{RoundDone}
 
@@ -28,16 +28,6 @@ pub record Arrives (c w r m : List ℕ) (p : ℕ) : Type 0 where
 pub record ArrivesKept (c w r m : List ℕ) (p : ℕ) (x : List ℕ) : Type 0 where
   pub arrives : Arrives c w r m p
   pub kept : IndexKept c r m x
-
--- no absent processor has arrived
-pub record NoneAbsent (m : List ℕ) : Type 0 where
-  pub away : (p : ℕ) → processorCount m < p → p ≤ processorLimit → arrivedMark m p ≡ 0
-
--- the area of the marks, with a place for each of its processors, and no absent one arrived
-pub record AbsentAway (m : List ℕ) : Type 0 where
-  pub marks : length m ≡ markArea
-  pub few : processorCount m ≤ processorLimit
-  pub absent : NoneAbsent m
 
 -- the areas have their sizes, and the state in them is in order once its round is completed
 pub record RoundComplete (c w r m : List ℕ) : Type 0 where

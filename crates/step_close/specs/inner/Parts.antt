@@ -1,44 +1,18 @@
--- What the parts of closing an interval do, each in the words of the rules and of the whole state, whatever the areas hold that the part
--- does not touch. Assumes nothing.
-use Prim.Native.Nat.{ℕ, zero, suc}
+-- What the parts of closing an interval do in lent memory, whatever the areas hold that the part does not touch. Assumes nothing.
+use Prim.Native.Nat.{ℕ}
 use mathlib.Core.Path.{_≡_}
-use mathlib.Core.Bool.{Bool, cond}
+use mathlib.Core.Bool.{Bool}
 use mathlib.Core.List.{List, [], _∷_}
 use lib.ListN.{length}
-use Rattle.lists.specs.Tables.{putCell, any}
+use Rattle.lists.specs.Tables.{any}
 use Rattle.limits.specs.Limits.{pageWidth}
 use Rattle.diff.specs.Format.{written}
-use Rattle.rules.specs.State.{mainframe, Pages, copyOf, twinOf, dirtyAt, Record, appended, State, withClocks, withPages, withRecords, own}
+use Rattle.rules.specs.State.{mainframe, dirtyAt, withClocks}
 use Rattle.rules.specs.Close.{ticked}
 use Rattle.layout.specs.Layout.{rowOf}
 use Rattle.layout.specs.Areas.{copyRow, twinRow, stateIn}
-
--- ---- the state after a part, where the interval has begun
-
--- the record of a dirty page of p in the interval that p's own entry counts last
-unfoldable pub changeOf : State → ℕ → ℕ → Record
-changeOf s p g = record { processor = p; interval = own s p; page = g; diff = written (twinOf (s .pages) p g) (copyOf (s .pages) p g) }
-
--- page g of p clean
-unfoldable pub pageCleaned : Pages → ℕ → ℕ → Pages
-pageCleaned m p g = record { copies = m .copies; twins = m .twins; dirty = putCell 0 (m .dirty) p g 0 }
-
--- a state with that record, and the page clean
-unfoldable pub changeMade : State → ℕ → ℕ → State
-changeMade s p g = withPages (withRecords s (appended (s .records) (changeOf s p g))) (pageCleaned (s .pages) p g)
-
--- with it if the page is dirty
-unfoldable pub pageClosed : State → ℕ → ℕ → State
-pageClosed s p g = cond (dirtyAt (s .pages) p g) (changeMade s p g) s
-
--- the pages below n closed, upwards
-unfoldable pub pagesClosed : State → ℕ → ℕ → State
-pagesClosed s p zero = s
-pagesClosed s p (suc g) = pageClosed (pagesClosed s p g) p g
-
--- all pages
-unfoldable pub allClosed : State → ℕ → State
-allClosed s p = pagesClosed s p (s .counts .pages)
+-- the parts in the words of the rules
+unfoldable pub use Rattle.step_close.specs.Sequence.{changeOf, pageCleaned, changeMade, pageClosed, pagesClosed, allClosed}
 
 -- ---- bytes of a slot
 

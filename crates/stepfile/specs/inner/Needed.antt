@@ -12,7 +12,8 @@ use Rattle.layout.specs.Areas.{Areas}
 use Rattle.inorder.specs.Areas.{OrderIs}
 use Rattle.file_record.specs.Records.{Feed}
 use Rattle.file_record.specs.declared.Stand.{Stand}
-use Rattle.file_record.specs.inner.Needed.{RestKept, standsAt}
+use Rattle.file_lines.specs.inner.Needed.{RestKept}
+use Rattle.file_record.specs.inner.Needed.{standsAt}
 use Rattle.file_chunk.specs.Bytes.{bytesTaken}
 use Rattle.file_chunk.specs.inner.Needed.{Passable}
 use Rattle.stepfile.specs.Promises.{feedable, progressOf}

@@ -1,9 +1,0 @@
--- `put_record_line` meets its contract. Assumes nothing.
-use Rattle.file_record.proofs.Taking.{taking-laws}
-use Rattle.file_record.proofs.put_record_line.Statement.{statement}
-use Rattle.file_record.proofs.put_record_line.Tie as tie
-
-pub put-record-line-spec : {M : Type 1} → statement M
-put-record-line-spec =
-    tie.close
-    (tie.spec (λ c κs. search taking-laws) (λ c. search taking-laws) (λ c. search taking-laws))

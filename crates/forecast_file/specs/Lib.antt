@@ -1,0 +1,4 @@
+pub mod Files
+pub mod Standing
+pub mod Promises
+pub mod inner

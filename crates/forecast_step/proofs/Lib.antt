@@ -1,0 +1,7 @@
+pub mod Foreseeing
+pub mod Closing
+pub mod Locking
+pub mod Meeting
+pub mod Acting
+pub mod Stepping
+pub mod Opening
