@@ -21,7 +21,7 @@ use Rattle.rules.specs.Refusals.{Step, Action, Read, Write, Acquire, Rel
 use Rattle.rules.specs.Opening.{opened, Opening, openingRefusal}
 use Rattle.rules.specs.Forecast.{Forecast, bare, ownFor, forecastRefusal, dirtyFor, closedFor, marksFor, writtenFor, roundFor, collectedFor, completedFor, barrierFor, forecastAfter, forecastNext, openedFor, Figures, runFigures, forecastFigures}
 use Rattle.rules.proofs.state.Fetches.{all-fetched-keep, all-fetched-counts, all-fetched-marks}
-use Rattle.rules.proofs.state.Holders.{Knows, barrier-carries, job-carries}
+use Rattle.rules.proofs.state.Holders.{barrier-carries, job-carries}
 use Rattle.rules.proofs.inorder.Facts.{InOrder, Within}
 use Rattle.rules.proofs.inorder.KeptQueue.{free-within, first-in}
 use Rattle.rules.proofs.inorder.KeptParts.{presentAmong, among-says, ownIn, Parts, parts-of}

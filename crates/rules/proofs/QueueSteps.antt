@@ -4,26 +4,26 @@ use Prim.Native.Nat.{ℕ, zero, suc, _+_, _-_, _%_, _≤_, _<_}
 use native.Mathlib.Omega.{arith}
 use native.Mathlib.Numerals.{add-one}
 use mathlib.Core.Path.{_≡_, refl, sym, ap, ap₂, _∙_}
-use mathlib.Core.Bool.{Bool, true, false, cond, false≢true}
+use mathlib.Core.Bool.{Bool, true, false, cond}
 use mathlib.Core.Logic.{_⊎_, inl, inr}
 use mathlib.Core.List.{List, [], _∷_, _++_, map}
-use lib.ListN.{length, getD}
+use lib.ListN.{getD}
 use lib.Dec.{eqb, ltb}
 use borrow.Author.Tests.{eqb-true, eqb-false, ne-eqb, lt-ltb}
 use Rattle.lists.specs.Tables.{put, tabulate}
 use Rattle.lists.proofs.Tables.{get-put-same, get-put-other, get-map}
 use Rattle.lists.proofs.Tabulated.{length-tabulate, tabulate-same, tabulate-more, map-tabulate}
 use Rattle.limits.specs.Limits.{wordValues}
-use Rattle.clock.specs.Clocks.{joined, entryOf}
-use Rattle.rules.specs.State.{Limits, Processor, Job, clockOf, withClock, cleared, Marks, jobValue, State, clock, own}
+use Rattle.clock.specs.Clocks.{joined}
+use Rattle.rules.specs.State.{Limits, Processor, Job, clockOf, withClock, cleared, jobValue, State, clock}
 use Rattle.rules.specs.InOrder.{inOrder}
 use Rattle.rules.specs.Close.{closed}
-use Rattle.rules.specs.Steps.{Effect, atBarrier, allArrived, wantsCollection, placeBehind, placeAt, freePlace, learned, enqueue, dequeue}
+use Rattle.rules.specs.Steps.{Effect, placeBehind, placeAt, freePlace, learned, enqueue, dequeue}
 use Rattle.rules.specs.Rows.{NoRowApplies}
-use Rattle.rules.specs.Refusals.{Step, Action, Read, Write, Acquire, Release, Arrive, Want, TallyAdd, TallyRead, Enqueue, Dequeue, Unknown, actionOf, refusalInOrder, effect, acceptedAs, answerInOrder, refusal, answer, next}
+use Rattle.rules.specs.Refusals.{Step, Action, Arrive, Enqueue, Dequeue, actionOf, effect, acceptedAs, answerInOrder, refusal, answer, next}
 use Rattle.rules.specs.Demand.{valueField}
 use Rattle.rules.specs.Jobs.{Queued, jobAt, queueIn, QueueAsClaimed, AddsJob, RemovesJob, Collects, forgotten, LeavesJobs}
-use Rattle.rules.proofs.state.Holders.{sameHolder, clock-of-with-same, clock-of-with-other}
+use Rattle.rules.proofs.state.Holders.{clock-of-with-same}
 use Rattle.rules.proofs.inorder.Facts.{InOrder}
 use Rattle.rules.proofs.inorder.InOrderSays.{in-order-says}
 use Rattle.rules.proofs.InOrderRuns.{refusal-is-not-one, refused-leaves-state}
