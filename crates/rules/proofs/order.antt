@@ -19,4 +19,5 @@ pub mod Carrying
 pub mod Ring
 pub mod Jobs
 pub mod JobClocks
+pub mod QueueList
 pub mod NumbersFollow
