@@ -6,7 +6,7 @@
 use Prim.Native.Nat.{ℕ, zero, suc, _%_, _<_}
 use native.Mathlib.Omega.{arith}
 use mathlib.Core.Path.{_≡_, refl, sym, ap, _∙_}
-use mathlib.Core.Bool.{true, false}
+use mathlib.Core.Bool.{false}
 use mathlib.Core.List.{List}
 use lib.ListN.{getD}
 use Rattle.lists.proofs.Tables.{get-put-same, get-put-other}
@@ -15,10 +15,10 @@ use Rattle.rules.specs.State.{Limits, Counts, Shared, jobValue, State}
 use Rattle.rules.specs.Opening.{Opening, openingRefusal, opened}
 use Rattle.rules.specs.Close.{closed}
 use Rattle.rules.specs.Steps.{freePlace, enqueue, dequeue}
-use Rattle.rules.specs.Refusals.{Step, Action, Enqueue, Dequeue, effect}
+use Rattle.rules.specs.Refusals.{Step, Enqueue, Dequeue, effect}
 use Rattle.rules.specs.Runs.{answers}
 use Rattle.rules.specs.Order.{Event, eventAt, Took, counted, isEnqueue, isDequeue, Returns}
-use Rattle.rules.specs.Demand.{valueField, valueAt}
+use Rattle.rules.specs.Demand.{valueField}
 use Rattle.rules.specs.Jobs.{ReturnsOne, FirstInFirstOut}
 use Rattle.rules.proofs.InOrderRuns.{answers-in-order}
 use Rattle.rules.proofs.inorder.OpenedInOrder.{opened-in-order, opening-counts}

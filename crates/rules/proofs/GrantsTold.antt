@@ -7,20 +7,18 @@
 --   * each step of a processor that has asked for a lock and is not served yet is refused, with 17 where neither 3 nor 5 applies;
 --   * 17 is given to nobody else.
 -- Rests on Served, Grants and ListRuns. Assumes nothing.
-use Prim.Native.Nat.{ℕ, zero, suc, _+_, _≤_, _<_}
+use Prim.Native.Nat.{ℕ, zero, suc, _≤_, _<_}
 use native.Mathlib.Omega.{arith}
 use mathlib.Core.Path.{_≡_, refl, sym, ap, _∙_}
 use mathlib.Core.Bool.{Bool, true, false, cond, not, false≢true}
 use mathlib.Core.Logic.{_⊎_, inl, inr, _↔_}
 use mathlib.Core.List.{List}
 use lib.ListN.{take}
-use lib.Dec.{eqb}
-use Rattle.rules.specs.State.{Limits, Counts, dirtyAt, State, own, holder, hasArrived}
+use Rattle.rules.specs.State.{Limits, Counts, State, own, holder, hasArrived}
 use Rattle.rules.specs.Lines.{waits}
-use Rattle.rules.specs.InOrder.{present, dirtyPages}
+use Rattle.rules.specs.InOrder.{present}
 use Rattle.rules.specs.Opening.{Opening, openingRefusal, opened}
-use Rattle.rules.specs.Steps.{pageOfWord}
-use Rattle.rules.specs.Refusals.{Step, Action, Read, Write, Acquire, Release, Arrive, Want, TallyAdd, TallyRead, Enqueue, Dequeue, Unknown, actionOf, knownKind, fits, holdsAny, lateRefusal, refusalBy, refusalInOrder}
+use Rattle.rules.specs.Refusals.{Step, Acquire, Release, actionOf, knownKind, fits, lateRefusal, refusalBy, refusalInOrder}
 use Rattle.rules.specs.Runs.{answers, stateAfter}
 use Rattle.rules.specs.Order.{Event, eventAt, Took}
 use Rattle.rules.specs.Waiting.{eventsIn, HandsTo, StillWaits, SomeLockAwaited, ServedInTurn}

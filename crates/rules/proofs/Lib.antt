@@ -12,6 +12,7 @@ pub mod StoresNoted
 pub mod TallyReads
 pub mod TallyCases
 pub mod FirstOut
+pub mod JobsTold
 pub mod QueueSpace
 pub mod QueueSteps
 pub mod QueueCases

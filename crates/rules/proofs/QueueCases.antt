@@ -1,6 +1,5 @@
 -- Document 02, L9: runs with jobs of the queue, computed of the rules, one table. That 19 and 20 stand below the other rows is in RefusalRows.antt, a
 -- dequeue that closes before it learns in runs/BenchFaults.antt. Rests on FromStart. Assumes nothing.
-use Prim.Native.Nat.{ℕ}
 use mathlib.Core.Path.{_≡_, refl, _∙_}
 use mathlib.Core.List.{List, [], _∷_}
 use Rattle.rules.specs.State.{mainframe}

@@ -13,10 +13,10 @@ use borrow.Author.Tests.{eqb-true, eqb-false, ne-eqb, le-ltb}
 use Rattle.rules.specs.State.{Limits, Counts, State}
 use Rattle.rules.specs.InOrder.{present, inOrder}
 use Rattle.rules.specs.Opening.{Opening, openingRefusal, opened}
-use Rattle.rules.specs.Refusals.{Step, Action, Enqueue, Dequeue, actionOf, knownKind, objectBound, usesValue, fits, lateRefusal, refusalBy, refusalInOrder, refusal}
+use Rattle.rules.specs.Refusals.{Step, Enqueue, Dequeue, actionOf, knownKind, objectBound, usesValue, fits, lateRefusal, refusalBy, refusalInOrder, refusal}
 use Rattle.rules.specs.Rows.{Comes}
 use Rattle.rules.specs.Runs.{answers}
-use Rattle.rules.specs.Order.{Event, eventAt, counted, isEnqueue, isDequeue}
+use Rattle.rules.specs.Order.{Event, eventAt}
 use Rattle.rules.specs.Jobs.{jobsWaiting, QueueRefuses}
 use Rattle.rules.proofs.InOrderRuns.{answers-in-order, state-in-order}
 use Rattle.rules.proofs.inorder.OpenedInOrder.{opened-in-order, opening-counts}

@@ -18,4 +18,6 @@ pub mod Numbers
 pub mod Carrying
 pub mod Ring
 pub mod Jobs
+pub mod JobClocks
+pub mod QueueList
 pub mod NumbersFollow

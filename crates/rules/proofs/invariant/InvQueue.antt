@@ -1,17 +1,15 @@
 -- Adding a job to the queue and removing one keep the invariant, where closing keeps it: the clock of a place becomes the processor's, or the
 -- processor learns the clock of a place. Rests on InvLocks and InvMoves. Assumes nothing.
-use Prim.Native.Nat.{ℕ, suc, _+_, _-_, _≤_, _<_}
-use mathlib.Core.Path.{_≡_, refl, sym, ap, _∙_}
-use mathlib.Core.Bool.{Bool, true, false, cond}
+use Prim.Native.Nat.{ℕ, _+_, _-_, _≤_}
+use mathlib.Core.Path.{_≡_, refl, sym, _∙_}
 use lib.ListN.{length}
-use lib.Dec.{ltb}
-use Rattle.rules.specs.State.{Limits, Holder, Processor, Job, clockOf, withClock, Marks, withQueue, State, withClocks, withMarks, withShared}
+use Rattle.rules.specs.State.{Limits, Holder, Processor, Job, clockOf, withClock, Marks, withQueue, State, withClocks, withMarks}
 use Rattle.rules.specs.Lines.{waits}
-use Rattle.rules.specs.Close.{closed, ticked, anyDirty}
-use Rattle.rules.specs.Steps.{learned, placeBehind, freePlace, enqueue, dequeue}
+use Rattle.rules.specs.Close.{closed}
+use Rattle.rules.specs.Steps.{placeBehind, freePlace, enqueue, dequeue}
 use Rattle.rules.specs.Refusals.{Enqueue, Dequeue, effect}
 use Rattle.rules.proofs.state.Holders.{job-carries}
-use Rattle.rules.proofs.order.Ghosts.{Ghost, learnedNumbers, withNumber, closedGhost, ghost-place, ghostAfter}
+use Rattle.rules.proofs.order.Ghosts.{Ghost, withNumber, closedGhost, ghost-place, ghostAfter}
 use Rattle.rules.proofs.order.MarksAfter.{restsIn}
 use Rattle.rules.proofs.invariant.Invariant.{Inv}
 use Rattle.rules.proofs.invariant.InvMoves.{withKnown, clean-carrier, hand-keeps, learn-keeps}

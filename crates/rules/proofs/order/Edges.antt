@@ -14,7 +14,7 @@ use Rattle.lists.proofs.Tables.{every-at, any-holds}
 use Rattle.lists.proofs.Conditions.{conjoined, conjoined-at, Given, conjoined-holds}
 use Rattle.rules.specs.Refusals.{Action, Read, Write, Acquire, Release, Arrive, Want, TallyAdd, TallyRead, Enqueue, Dequeue, Unknown, actionOf}
 use Rattle.rules.specs.Order.{Event, noEvent, eventAt, Took, isArrival, countedOff, groupsBefore, rounds, counted, isAcquireOf, isReleaseOf, Serves, Before, program, lock, round, granted, Returns, job, isEnqueue, isDequeue, chain}
-use Rattle.rules.proofs.order.ActionKinds.{arrivesBy, isAcquire, addsJob, removesJob, took-enqueue, took-dequeue, enqueue-of, dequeue-of}
+use Rattle.rules.proofs.order.ActionKinds.{arrivesBy, isAcquire, addsJob, removesJob, took-enqueue, took-dequeue}
 
 -- the five ways in which a step is before another
 pub data Edge : Type 0 where

@@ -7,7 +7,8 @@ use mathlib.Core.List.{List, [], _∷_, map}
 use lib.ListN.{getD}
 use lib.Dec.{eqb}
 use Rattle.lists.specs.Tables.{put}
-use Rattle.rules.specs.State.{Limits, Processor, Lock, Barrier, Clocks, withClock, cleared, Marks, withHolder, State, clock, holder}
+use Rattle.clock.specs.Clocks.{joined}
+use Rattle.rules.specs.State.{Limits, Processor, Lock, Job, Clocks, clockOf, withClock, cleared, Marks, withHolder, State, clock, holder}
 use Rattle.rules.specs.Lines.{inLine, firstInLine, withWaiter, lockAsked, lockHanded, withoutWaiter}
 use Rattle.rules.specs.Tallies.{tallyAdded, posting}
 use Rattle.rules.specs.Close.{anyDirty, ticked, closed}
@@ -16,6 +17,7 @@ use Rattle.rules.specs.Steps.{read, write, learned, acquire, lockTold, w
 use Rattle.rules.specs.Refusals.{Action, Read, Write, Acquire, Release, Arrive, Want, TallyAdd, TallyRead, Enqueue, Dequeue, Unknown, effect}
 use Rattle.rules.specs.Jobs.{Collects}
 use Rattle.rules.proofs.state.Fetches.{all-fetched-keep}
+use Rattle.rules.proofs.state.Holders.{clock-of-with-same}
 use Rattle.rules.proofs.order.ActionKinds.{addsJob, removesJob}
 use Rattle.rules.proofs.order.Ghosts.{completes}
 use Rattle.rules.proofs.order.MarksAfter.{arrive-keeps}
@@ -207,3 +209,17 @@ arrival-leaves s p none = go (allArrived (atBarrier s p)) (wantsCollection (atBa
 pub arrival-clears : (s : State) (p : ℕ) → Collects s p → jobsArrived s p ≡ map cleared (s .clocks .jobs)
 unfolding jobsArrived
 arrival-clears s p h = rw (h .last, h .wanted)
+
+-- ---- the clocks of processors
+
+-- an enqueue leaves them as closing does
+pub enqueue-leaves : (lim : Limits) (s : State) (p v q : ℕ) → clock (enqueue lim s p v) q ≡ clock (closed s p) q
+unfolding enqueue clock clockOf withClock
+enqueue-leaves lim s p v q = refl
+
+-- a dequeue joins the oldest job's to its processor's
+pub dequeue-learns : (lim : Limits) (s : State) (p : ℕ) → clock (dequeue lim s p .after) p ≡ joined (clock (closed s p) p) (getD (s .clocks .jobs) (s .marks .first) [])
+unfolding dequeue clock learned closed clockOf
+dequeue-learns lim s p =
+    clock-of-with-same (closed s p .clocks) (Processor p) (joined (clockOf (closed s p .clocks) (Processor p)) (clockOf (closed s p .clocks) (Job (s .marks .first))))
+    ∙ ap (λ (l : List (List ℕ)). joined (clock (closed s p) p) (getD l (s .marks .first) [])) (closed-jobs s p)
