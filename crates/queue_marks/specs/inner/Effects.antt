@@ -6,7 +6,7 @@ use mathlib.Core.List.{List}
 use lib.ListN.{length}
 use Rattle.limits.specs.Limits.{jobLimit}
 use Rattle.limits.specs.inner.Sizes.{markArea}
-use Rattle.rules.specs.State.{mainframe, State, Marks, withQueue, withMarks}
+use Rattle.rules.specs.State.{mainframe, State, withQueue, withMarks}
 use Rattle.rules.specs.Steps.{placeBehind, freePlace}
 use Rattle.layout.specs.Areas.{stateIn}
 
