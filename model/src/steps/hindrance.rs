@@ -109,7 +109,10 @@ pub fn queue_is_full(ledger: &Ledger) -> String {
 
 /// 20: a dequeue with no job waiting.
 pub fn queue_is_empty() -> String {
-    format!("{}; a card would have to enqueue one first", jobs_waiting(0))
+    format!(
+        "{}; a card would have to enqueue one first",
+        jobs_waiting(0)
+    )
 }
 
 /// 7: the card is the holder.

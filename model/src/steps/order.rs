@@ -127,9 +127,7 @@ impl Order {
         let mut here = t;
         while self.card(here) != self.card(s) {
             let learnt = self.first_knowing(self.card(here), s)?;
-            let told = self
-                .told_by_lock(learnt, s)
-                .or(self.told_by_job(learnt, s));
+            let told = self.told_by_lock(learnt, s).or(self.told_by_job(learnt, s));
             here = match told {
                 Some(teller) => {
                     chain.extend((learnt != here).then_some(learnt));

@@ -57,7 +57,10 @@ pub fn of_step(refusal: u32, number: usize, bytes: &[u8], ledger: &Ledger) -> St
     };
     let step = Step::from_bytes(record);
     match refusal {
-        3 => format!("{} is no kind of step: they are 1 to 6 and 8 to 11", step.kind),
+        3 => format!(
+            "{} is no kind of step: they are 1 to 6 and 8 to 11",
+            step.kind
+        ),
         4 => no_card(&step, ledger),
         5 => wrong_field(&step, ledger),
         6 => hindrance::has_arrived(&step, ledger),

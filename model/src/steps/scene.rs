@@ -154,7 +154,9 @@ impl Stage {
             }),
             Deed::RoundComplete { .. } => self.complete_round(number),
             Deed::Dequeued { job: Some(job), .. } => {
-                let Job { card: by, since, .. } = *job;
+                let Job {
+                    card: by, since, ..
+                } = *job;
                 self.reach(Some((by, since)), card, Time::At(number), Goal::Mark);
             }
             _ => {}
