@@ -67,13 +67,13 @@ pub record Collects (s : State) (p : ℕ) : Type 0 where
   pub wanted : wantsCollection (atBarrier s p) ≡ true
 
 -- a job whose clock is zeros
-unfoldable pub forgotten : Queued → Queued
-forgotten job = record { value = job .value; clock = cleared (job .clock) }
+unfoldable pub withZeros : Queued → Queued
+withZeros job = record { value = job .value; clock = cleared (job .clock) }
 
 -- what a step of another kind leaves: "A collecting round sets the clocks of queued jobs to zeros", and nothing else changes a job
 pub record LeavesJobs (lim : Limits) (s : State) (t : Step) : Type 0 where
   pub kept : (refusal lim s t ≡ 0 → actionOf t ≡ Arrive → Collects s (t .processor) → ⊥) → queueIn lim (next lim s t) ≡ queueIn lim s
-  pub zeros : refusal lim s t ≡ 0 → actionOf t ≡ Arrive → Collects s (t .processor) → queueIn lim (next lim s t) ≡ map forgotten (queueIn lim s)
+  pub zeros : refusal lim s t ≡ 0 → actionOf t ≡ Arrive → Collects s (t .processor) → queueIn lim (next lim s t) ≡ map withZeros (queueIn lim s)
 
 -- ---- from the list and its answers alone
 
