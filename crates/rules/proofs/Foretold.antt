@@ -16,7 +16,7 @@ use Rattle.rules.specs.InOrder.{present, dirtyPages}
 use Rattle.rules.specs.Lines.{lockAsked, lockHanded}
 use Rattle.rules.specs.Close.{anyDirty, ticked, newRecord, recorded, cleaned, closed}
 use Rattle.rules.specs.Fetch.{withCopy, fetched}
-use Rattle.rules.specs.Steps.{pageOfWord, read, newTwin, twinTaken, stored, write, acquire, release, atBarrier, allArrived, roundDone, allFetched, noneFetched, emptied, collected, wantsCollection, arrive, want, jobAdded, jobRemoved, enqueue, dequeue}
+use Rattle.rules.specs.Steps.{pageOfWord, read, newTwin, twinTaken, stored, write, acquire, release, atBarrier, allArrived, roundDone, allFetched, noneFetched, emptied, collected, wantsCollection, arrive, want, withNewJob, withoutOldest, enqueue, dequeue}
 use Rattle.rules.specs.Refusals.{Step, Action, Read, Write, Acquire, Release, Arrive, Want, TallyAdd, TallyRead, Unknown, actionOf, objectBound, fits, holdsAny, lateRefusal, refusalBy, refusalInOrder, effect, answerInOrder, nextInOrder, answer, next, Enqueue, Dequeue}
 use Rattle.rules.specs.Opening.{opened, Opening, openingRefusal}
 use Rattle.rules.specs.Forecast.{Forecast, bare, ownFor, forecastRefusal, dirtyFor, closedFor, marksFor, writtenFor, roundFor, collectedFor, completedFor, barrierFor, forecastAfter, forecastNext, openedFor, Figures, runFigures, forecastFigures}
@@ -169,14 +169,14 @@ module _ (lim : Limits) (s : State) (p : ℕ) (f : Parts lim s) (a : presentAmon
   enqueue-foretold : (v : ℕ) (e : List ℕ) → s .marks .jobs < lim .jobs → ((q : ℕ) → ownIn (s .clocks) q ≡ getD e q 0) → Foretells (enqueue lim s p v) (forecastAfter lim (seenIn s e) p (Enqueue v))
   unfolding forecastAfter enqueue
   enqueue-foretold v e room owns =
-      goes-on (closed s p) (enqueue lim s p v) (closedFor (seenIn s e) p) (λ g. marksFor g (jobAdded (g .marks))) (closed-foretold s e p owns (among-says (s .counts) p a .0))
-      (λ e₁ owns₁. unfold seenIn marksFor in moved-foretold (closed s p) (enqueue lim s p v) e₁ (jobAdded (closed s p .marks)) (λ q. enqueued-own lim s p f a v room q ∙ owns₁ q) refl)
+      goes-on (closed s p) (enqueue lim s p v) (closedFor (seenIn s e) p) (λ g. marksFor g (withNewJob (g .marks))) (closed-foretold s e p owns (among-says (s .counts) p a .0))
+      (λ e₁ owns₁. unfold seenIn marksFor in moved-foretold (closed s p) (enqueue lim s p v) e₁ (withNewJob (closed s p .marks)) (λ q. enqueued-own lim s p f a v room q ∙ owns₁ q) refl)
 
   dequeue-foretold : (e : List ℕ) → 0 < lim .jobs → ((q : ℕ) → ownIn (s .clocks) q ≡ getD e q 0) → Foretells (dequeue lim s p .after) (forecastAfter lim (seenIn s e) p Dequeue)
   unfolding forecastAfter dequeue
   dequeue-foretold e some owns =
-      goes-on (closed s p) (dequeue lim s p .after) (closedFor (seenIn s e) p) (λ g. marksFor g (jobRemoved lim (g .marks))) (closed-foretold s e p owns (among-says (s .counts) p a .0))
-      (λ e₁ owns₁. unfold seenIn marksFor in moved-foretold (closed s p) (dequeue lim s p .after) e₁ (jobRemoved lim (closed s p .marks)) (λ q. dequeued-own lim s p f a some q ∙ owns₁ q) refl)
+      goes-on (closed s p) (dequeue lim s p .after) (closedFor (seenIn s e) p) (λ g. marksFor g (withoutOldest lim (g .marks))) (closed-foretold s e p owns (among-says (s .counts) p a .0))
+      (λ e₁ owns₁. unfold seenIn marksFor in moved-foretold (closed s p) (dequeue lim s p .after) e₁ (withoutOldest lim (closed s p .marks)) (λ q. dequeued-own lim s p f a some q ∙ owns₁ q) refl)
 
 -- ---- the barrier
 

@@ -3,22 +3,23 @@
 -- Take any limits with pages of at least one word, any opening that they accept, and any list of steps with any fields, in any order, refused ones too. An
 -- accepted dequeue takes the job of an accepted enqueue from the place where that one put it exactly if it returns it by the count, which is what the edge `job`
 -- of happens-before-1 says (`returns-exactly`). And then it learns the clock that the enqueuer had, or zeros where a collecting round came between
--- (`learns-its-clock`). Rests on FirstOut, Jobs and QueueAfter. Assumes nothing.
+-- (`learns-its-clock`). And in any list an enqueue precedes nothing but by a later step of its processor or by that dequeue (`precedes-no-other`). Rests on
+-- Jobs and JobClocks. Assumes nothing.
 use Prim.Native.Nat.{ℕ, suc, _+_, _-_, _<_}
 use native.Mathlib.Omega.{arith}
 use native.Mathlib.Decide.{decLt}
 use mathlib.Core.Path.{_≡_, refl, sym, ap, _∙_}
-use mathlib.Core.Logic.{_↔_}
+use mathlib.Core.Logic.{_↔_, _⊎_, inl, inr}
 use mathlib.Core.List.{List}
 use lib.ListN.{take}
 use Rattle.rules.specs.State.{Limits, Counts, State}
 use Rattle.rules.specs.Opening.{Opening, openingRefusal, opened}
 use Rattle.rules.specs.Steps.{freePlace, enqueue}
-use Rattle.rules.specs.Refusals.{Step, Enqueue, Dequeue}
+use Rattle.rules.specs.Refusals.{Step, Release, Arrive, Enqueue, Dequeue}
 use Rattle.rules.specs.Runs.{answers, stateAfter, answersInOrder}
-use Rattle.rules.specs.Order.{Event, eventAt, Took, counted, isEnqueue, isDequeue, Returns}
+use Rattle.rules.specs.Order.{Event, eventAt, Took, counted, isEnqueue, isDequeue, Returns, Before, program, lock, round, granted, job, chain}
 use Rattle.rules.specs.Waiting.{eventsIn}
-use Rattle.rules.specs.Jobs.{TakesItsJob, CollectsAt, LearnsItsClock}
+use Rattle.rules.specs.Jobs.{PrecedesBy, TakesItsJob, CollectsAt, LearnsItsClock}
 use Rattle.rules.proofs.InOrderRuns.{answers-in-order, state-in-order}
 use Rattle.rules.proofs.inorder.OpenedInOrder.{opened-in-order, opening-counts}
 use Rattle.rules.proofs.order.Timeline.{Timeline}
@@ -28,6 +29,34 @@ use Rattle.rules.proofs.order.Ring.{ring, ring-apart}
 use Rattle.rules.proofs.order.Jobs.{counting, finds-job, free-is}
 use Rattle.rules.proofs.demand.ListRuns.{eventsOf, timeline, state-at}
 use Rattle.rules.proofs.order.JobClocks.{Collecting, learns-kept, learns-zeros}
+
+-- ---- "and of itself no other"
+
+-- every derivation that an enqueue is before a step begins with a later step of its processor or with the dequeue that returns its job
+pub precedes-no-other : (n : ℕ) (es : List Event) (i p v j : ℕ) → Took es i p (Enqueue v) → Before n es i j → PrecedesBy n es i p v j
+precedes-no-other n es i p v j took (program q a b from to h) =
+    record { place = j; first = inl (record { action = b; took = rw (sym (from .processor) ∙ took .processor) at to; later = h }); rest = inl refl }
+precedes-no-other n es i p v j took (lock q r l from to h) = absurd (no-release (sym (took .action) ∙ from .action))
+  where
+    no-release : Enqueue v ≡ Release l → ⊥
+    no-release e = let z : _≡_ {A = ℕ} 0 1 = cc in omega arith
+precedes-no-other n es i p v j took (round q r b from to h) = absurd (no-arrival (sym (took .action) ∙ from .action))
+  where
+    no-arrival : Enqueue v ≡ Arrive → ⊥
+    no-arrival e = let z : _≡_ {A = ℕ} 0 1 = cc in omega arith
+precedes-no-other n es i p v j took (granted q r l a b s to h) = absurd (no-release (sym (took .action) ∙ s .release .action))
+  where
+    no-release : Enqueue v ≡ Release l → ⊥
+    no-release e = let z : _≡_ {A = ℕ} 0 1 = cc in omega arith
+precedes-no-other n es i p v j took (job q w u r) =
+    record { place = j; first = inr (record { processor = u; returns = record { enqueue = took; dequeue = r .dequeue; waited = r .waited; same = r .same } }); rest = inl refl }
+precedes-no-other n es i p v j took (chain k x y) =
+    let h = precedes-no-other n es i p v k took x in
+    record { place = h .place; first = h .first; rest = inr (on (h .place) (h .rest)) }
+  where
+    on : (m : ℕ) → (m ≡ k) ⊎ Before n es m k → Before n es m j
+    on m (inl e) = rw e y
+    on m (inr z) = chain k z y
 
 -- ---- which job
 

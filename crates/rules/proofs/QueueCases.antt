@@ -6,7 +6,7 @@ use Rattle.rules.specs.State.{mainframe}
 use Rattle.rules.specs.InOrder.{inRange, countsInRange}
 use Rattle.rules.specs.Refusals.{Step}
 use Rattle.rules.specs.Runs.{answers, answersInOrder}
-use Rattle.rules.specs.Bench.{oneJob, oneJobAnswers, collectedJob, collectedJobAnswers, fullTwice, fullTwiceAnswers}
+use Rattle.rules.specs.Bench.{oneJob, oneJobAnswers, noOtherJob, noOtherJobAnswers, collectedJob, collectedJobAnswers, fullTwice, fullTwiceAnswers}
 use Rattle.rules.proofs.runs.Listing.{reads, writes, enqueues, dequeues, start, answering}
 use Rattle.rules.proofs.runs.FromStart.{answers-from-start}
 use Rattle.rules.proofs.runs.StoredCases.{accepted}
@@ -27,6 +27,7 @@ raceOfTwo = writes 1 0 1 ∷ enqueues 1 1 ∷ writes 2 0 2 ∷ enqueues 2 2 ∷ 
 
 pub record QueueCases : Type 0 where
   pub one-job : answers mainframe (start 3 1 1) oneJob ≡ oneJobAnswers
+  pub no-other-job : answers mainframe (start 3 1 1) noOtherJob ≡ noOtherJobAnswers
   pub each-its-clock : answers mainframe (start 3 2 1) eachItsClock
       ≡ accepted ∷ accepted ∷ accepted ∷ accepted ∷ answering 0 10 0 ∷ answering 0 1 1 ∷ accepted ∷ answering 0 11 0 ∷ answering 0 2 1 ∷ answering 0 1 1 ∷ accepted ∷ accepted
       ∷ answering 0 12 0 ∷ answering 0 3 1 ∷ []
@@ -42,6 +43,10 @@ pub record QueueCases : Type 0 where
 computed-one : answersInOrder mainframe (start 3 1 1) oneJob ≡ oneJobAnswers
 unfolding start oneJob oneJobAnswers
 computed-one = refl
+
+computed-other : answersInOrder mainframe (start 3 1 1) noOtherJob ≡ noOtherJobAnswers
+unfolding start noOtherJob noOtherJobAnswers
+computed-other = refl
 
 computed-clocks : answersInOrder mainframe (start 3 2 1) eachItsClock
     ≡ accepted ∷ accepted ∷ accepted ∷ accepted ∷ answering 0 10 0 ∷ answering 0 1 1 ∷ accepted ∷ answering 0 11 0 ∷ answering 0 2 1 ∷ answering 0 1 1 ∷ accepted ∷ accepted
@@ -72,6 +77,7 @@ unfolding countsInRange inRange mainframe
 queue-cases =
     record {
       one-job = answers-from-start 3 1 1 refl oneJob ∙ computed-one;
+      no-other-job = answers-from-start 3 1 1 refl noOtherJob ∙ computed-other;
       each-its-clock = answers-from-start 3 2 1 refl eachItsClock ∙ computed-clocks;
       full-twice = answers-from-start 2 1 1 refl fullTwice ∙ computed-full;
       collected-job = answers-from-start 2 1 1 refl collectedJob ∙ computed-collected;

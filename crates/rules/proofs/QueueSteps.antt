@@ -26,7 +26,7 @@ use Rattle.rules.proofs.RowsExactly.{accepted-exactly-when}
 use Rattle.rules.proofs.WaitsItsTurn.{accepted-next}
 use Rattle.rules.proofs.order.ActionKinds.{addsJob, removesJob, kind-adds-job, kind-removes-job}
 use Rattle.rules.proofs.order.QueueAfter.{queueOf, queue-after, queue-stays, values-kept, jobsAfter, jobs-after, jobs-stay, arrival-leaves, arrival-clears, enqueue-leaves, dequeue-learns}
-use Rattle.rules.proofs.order.QueueList.{place-of-first, job-added, job-removed, queue-kept, queue-forgotten}
+use Rattle.rules.proofs.order.QueueList.{place-of-first, job-added, job-removed, queue-kept, queue-cleared}
 
 -- no job waits at the opening
 pub opened-empty : (lim : Limits) (c : Counts) → queueIn lim (opened lim c) ≡ []
@@ -133,7 +133,7 @@ module _ (lim : Limits) (s : State) (t : Step) (ordered : inOrder lim s ≡ true
         kept = λ none. either-way none (eqb (refusal lim s t) 0) refl;
         zeros = λ e is h.
             ap (queueIn lim) (accepted-next lim s t ordered e)
-            ∙ queue-forgotten lim s u marks values (jobs-after lim s (t .processor) (actionOf t) ∙ ap (jobsAfter lim s (t .processor)) is ∙ (unfold jobsAfter in arrival-clears s (t .processor) h));
+            ∙ queue-cleared lim s u marks values (jobs-after lim s (t .processor) (actionOf t) ∙ ap (jobsAfter lim s (t .processor)) is ∙ (unfold jobsAfter in arrival-clears s (t .processor) h));
       }
     where
       u : State

@@ -11,7 +11,7 @@ use Rattle.rules.specs.InOrder.{dirtyPages}
 use Rattle.rules.specs.Lines.{lockAsked, lockHanded}
 use Rattle.rules.specs.Opening.{zeroPages, zeroMarks}
 use Rattle.rules.specs.Close.{anyDirty, cleaned}
-use Rattle.rules.specs.Steps.{pageOfWord, allArrived, wantsCollection, jobAdded, jobRemoved}
+use Rattle.rules.specs.Steps.{pageOfWord, allArrived, wantsCollection, withNewJob, withoutOldest}
 use Rattle.rules.specs.Refusals.{Step, Action, Read, Write, Acquire, Release, Arrive, Want, TallyAdd, TallyRead, Enqueue, Dequeue, Unknown, actionOf, refusalBy, answer, next}
 
 -- the counts, the own entry of each processor (by its number), which pages are dirty, how many records stand, and the marks
@@ -103,8 +103,8 @@ forecastAfter lim f p Arrive = completedFor (barrierFor (closedFor f p) p)
 forecastAfter lim f p Want = marksFor f (withWanted (f .marks) (cond (wantsCollection (bare f)) (f .marks .wanted) 1))
 forecastAfter lim f p (TallyAdd t v) = f
 forecastAfter lim f p (TallyRead t) = f
-forecastAfter lim f p (Enqueue v) = let f₁ = closedFor f p in marksFor f₁ (jobAdded (f₁ .marks))
-forecastAfter lim f p Dequeue = let f₁ = closedFor f p in marksFor f₁ (jobRemoved lim (f₁ .marks))
+forecastAfter lim f p (Enqueue v) = let f₁ = closedFor f p in marksFor f₁ (withNewJob (f₁ .marks))
+forecastAfter lim f p Dequeue = let f₁ = closedFor f p in marksFor f₁ (withoutOldest lim (f₁ .marks))
 forecastAfter lim f p Unknown = f
 
 -- what a step leaves, refused or not

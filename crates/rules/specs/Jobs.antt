@@ -3,7 +3,7 @@
 use Prim.Native.Nat.{ℕ, suc, _-_, _≤_, _<_}
 use mathlib.Core.Path.{_≡_}
 use mathlib.Core.Bool.{true}
-use mathlib.Core.Logic.{_↔_}
+use mathlib.Core.Logic.{_↔_, _⊎_}
 use mathlib.Core.List.{List, [], _∷_, _++_, map}
 use lib.ListN.{length, take}
 use Rattle.lists.specs.Tables.{tabulate}
@@ -12,10 +12,10 @@ use Rattle.rules.specs.State.{Limits, Counts, Job, clockOf, cleared, job
 use Rattle.rules.specs.Opening.{opened}
 use Rattle.rules.specs.Close.{closed}
 use Rattle.rules.specs.Steps.{atBarrier, allArrived, wantsCollection, placeAt, freePlace}
-use Rattle.rules.specs.Refusals.{Step, Arrive, Enqueue, Dequeue, actionOf, Answer, refusal, answer, next}
+use Rattle.rules.specs.Refusals.{Step, Action, Arrive, Enqueue, Dequeue, actionOf, Answer, refusal, answer, next}
 use Rattle.rules.specs.Rows.{Comes}
 use Rattle.rules.specs.Runs.{stateAfter}
-use Rattle.rules.specs.Order.{Event, events, eventAt, Took, counted, isEnqueue, isDequeue, Returns}
+use Rattle.rules.specs.Order.{Event, events, eventAt, Took, counted, isEnqueue, isDequeue, Returns, Before}
 use Rattle.rules.specs.Demand.{valueField, valueAt}
 use Rattle.rules.specs.Waiting.{eventsIn, refusalAt}
 
@@ -67,13 +67,13 @@ pub record Collects (s : State) (p : ℕ) : Type 0 where
   pub wanted : wantsCollection (atBarrier s p) ≡ true
 
 -- a job whose clock is zeros
-unfoldable pub forgotten : Queued → Queued
-forgotten job = record { value = job .value; clock = cleared (job .clock) }
+unfoldable pub withZeros : Queued → Queued
+withZeros job = record { value = job .value; clock = cleared (job .clock) }
 
 -- what a step of another kind leaves: "A collecting round sets the clocks of queued jobs to zeros", and nothing else changes a job
 pub record LeavesJobs (lim : Limits) (s : State) (t : Step) : Type 0 where
   pub kept : (refusal lim s t ≡ 0 → actionOf t ≡ Arrive → Collects s (t .processor) → ⊥) → queueIn lim (next lim s t) ≡ queueIn lim s
-  pub zeros : refusal lim s t ≡ 0 → actionOf t ≡ Arrive → Collects s (t .processor) → queueIn lim (next lim s t) ≡ map forgotten (queueIn lim s)
+  pub zeros : refusal lim s t ≡ 0 → actionOf t ≡ Arrive → Collects s (t .processor) → queueIn lim (next lim s t) ≡ map withZeros (queueIn lim s)
 
 -- ---- from the list and its answers alone
 
@@ -103,6 +103,25 @@ pub record QueueRefuses (lim : Limits) (c : Counts) (ts : List Step) (answered :
   pub empty : (j : ℕ) → actionOf (eventAt (events ts answered) j .step) ≡ Dequeue
       → refusalAt answered j ≡ 20
       ↔ (Comes lim (stateAfter lim (opened lim c) (take j ts)) (eventAt (events ts answered) j .step) × (jobsWaiting (events ts answered) j ≡ 0))
+
+-- ---- "An enqueue precedes in happens-before-1 the dequeue that returns its job, and of itself no other"
+
+-- a later step of processor p
+pub record LaterStep (es : List Event) (i p k : ℕ) : Type 0 where
+  pub action : Action
+  pub took : Took es k p action
+  pub later : i < k
+
+-- the dequeue that returns the job of p's enqueue at place i
+pub record ItsDequeue (es : List Event) (i p v k : ℕ) : Type 0 where
+  pub processor : ℕ
+  pub returns : Returns es i p v k processor
+
+-- p's enqueue at place i precedes the step at place j by one of these: by that step itself, or by one that is before it
+pub record PrecedesBy (n : ℕ) (es : List Event) (i p v j : ℕ) : Type 0 where
+  pub place : ℕ
+  pub first : LaterStep es i p place ⊎ ItsDequeue es i p v place
+  pub rest : (place ≡ j) ⊎ Before n es place j
 
 -- ---- the job that the list names is the one that the state has
 

@@ -216,12 +216,12 @@ unfoldable pub freePlace : Limits → State → ℕ
 freePlace lim s = placeAt lim s (s .marks .jobs)
 
 -- one job more, behind the others
-abbrev pub jobAdded : Marks → Marks
-jobAdded m = withQueue m (m .first) (m .jobs + 1)
+abbrev pub withNewJob : Marks → Marks
+withNewJob m = withQueue m (m .first) (m .jobs + 1)
 
 -- the oldest job removed: the next one is the oldest
-abbrev pub jobRemoved : Limits → Marks → Marks
-jobRemoved lim m = withQueue m (placeBehind lim (m .first)) (m .jobs - 1)
+abbrev pub withoutOldest : Limits → Marks → Marks
+withoutOldest lim m = withQueue m (placeBehind lim (m .first)) (m .jobs - 1)
 
 -- "Kind 10 closes the card's interval and adds the value with the card's clock"
 unfoldable pub enqueue : Limits → State → ℕ → ℕ → State
@@ -230,12 +230,12 @@ enqueue lim s p v =
     let k = freePlace lim s₁ in
     let s₂ = withShared s₁ (withJobValue (s₁ .shared) k (v % wordValues)) in
     let s₃ = withClocks s₂ (withClock (s₁ .clocks) (Job k) (clockOf (s₁ .clocks) (Processor p))) in
-    withMarks s₃ (jobAdded (s₁ .marks))
+    withMarks s₃ (withNewJob (s₁ .marks))
 
 -- "kind 11 closes, removes the oldest job, learns its clock and answers its value"
 unfoldable pub dequeue : Limits → State → ℕ → Effect
 dequeue lim s p =
     let s₁ = closed s p in
     let k = s₁ .marks .first in
-    let s₂ = withMarks s₁ (jobRemoved lim (s₁ .marks)) in
+    let s₂ = withMarks s₁ (withoutOldest lim (s₁ .marks)) in
     record { after = withClocks s₂ (learned (s₁ .clocks) (Processor p) (Job k)); value = jobValue (s₁ .shared) k; count = 0; words = 0 }

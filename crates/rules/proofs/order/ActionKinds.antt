@@ -281,21 +281,9 @@ module _ (es : List Event) (t : ℕ) where
   unfolding isDequeue
   refused-dequeue e = rw e
 
-  -- what the events say
+  -- and what is counted as an enqueue is one
   pub enqueue-of : isEnqueue (eventAt es t) ≡ true → Took es t (eventAt es t .step .processor) (Enqueue (eventAt es t .step .value))
   unfolding isEnqueue actionOf
   enqueue-of e =
       let both = and-eq-true-iff (eventAt es t .accepted) (eqb (eventAt es t .step .kind) 10) .0 e in
-      made (both .0) (eqb-true (eventAt es t .step .kind) 10 (both .1))
-    where
-      made : eventAt es t .accepted ≡ true → eventAt es t .step .kind ≡ 10 → Took es t (eventAt es t .step .processor) (Enqueue (eventAt es t .step .value))
-      made x y = record { accepted = x; processor = refl; action = unfold actionOf in rw y }
-
-  pub dequeue-of : isDequeue (eventAt es t) ≡ true → Took es t (eventAt es t .step .processor) Dequeue
-  unfolding isDequeue actionOf
-  dequeue-of e =
-      let both = and-eq-true-iff (eventAt es t .accepted) (eqb (eventAt es t .step .kind) 11) .0 e in
-      made (both .0) (eqb-true (eventAt es t .step .kind) 11 (both .1))
-    where
-      made : eventAt es t .accepted ≡ true → eventAt es t .step .kind ≡ 11 → Took es t (eventAt es t .step .processor) Dequeue
-      made x y = record { accepted = x; processor = refl; action = unfold actionOf in rw y }
+      record { accepted = both .0; processor = refl; action = rw (eqb-true (eventAt es t .step .kind) 10 (both .1)) }

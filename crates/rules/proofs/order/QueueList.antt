@@ -19,7 +19,7 @@ use Rattle.rules.specs.Close.{closed}
 use Rattle.rules.specs.Steps.{placeBehind, placeAt, freePlace, enqueue, dequeue}
 use Rattle.rules.specs.Refusals.{Enqueue, Dequeue, effect}
 use Rattle.rules.specs.Demand.{valueField}
-use Rattle.rules.specs.Jobs.{Queued, jobAt, queueIn, forgotten}
+use Rattle.rules.specs.Jobs.{Queued, jobAt, queueIn, withZeros}
 use Rattle.rules.proofs.inorder.Facts.{InOrder}
 use Rattle.rules.proofs.order.QueueAfter.{queueOf, jobsAfter, jobs-after}
 use Rattle.rules.proofs.order.Ring.{wrapped, wrapped-apart, wrapped-next}
@@ -152,10 +152,10 @@ module _ (lim : Limits) (s s′ : State) (marks : queueOf (s′ .marks) ≡ queu
       (λ k l. job-is (value-kept k) (clock-there s′ (placeAt lim s′ k) ∙ ap₂ (λ (c : List (List ℕ)) (x : ℕ). getD c x []) same (place-kept k) ∙ sym (clock-there s (placeAt lim s k))))
 
   -- clocks cleared
-  pub queue-forgotten : s′ .clocks .jobs ≡ map cleared (s .clocks .jobs) → queueIn lim s′ ≡ map forgotten (queueIn lim s)
-  unfolding jobAt forgotten cleared
-  queue-forgotten clears =
-      queue-changed lim s s′ forgotten jobs-kept
+  pub queue-cleared : s′ .clocks .jobs ≡ map cleared (s .clocks .jobs) → queueIn lim s′ ≡ map withZeros (queueIn lim s)
+  unfolding jobAt withZeros cleared
+  queue-cleared clears =
+      queue-changed lim s s′ withZeros jobs-kept
       (λ k l. job-is (value-kept k)
       (clock-there s′ (placeAt lim s′ k) ∙ ap₂ (λ (c : List (List ℕ)) (x : ℕ). getD c x []) clears (place-kept k) ∙ get-map cleared [] (s .clocks .jobs) (placeAt lim s k)
       ∙ ap cleared (sym (clock-there s (placeAt lim s k)))))
