@@ -77,6 +77,14 @@ module _ (k p o v : ℕ) where
   unfolding actionOf stepOf
   kind-totals e = ap (λ (j : ℕ). actionOf (stepOf j p o v)) e
 
+  pub kind-enqueues : k ≡ 10 → actionOf (stepOf k p o v) ≡ Enqueue v
+  unfolding actionOf stepOf
+  kind-enqueues e = ap (λ (j : ℕ). actionOf (stepOf j p o v)) e
+
+  pub kind-dequeues : k ≡ 11 → actionOf (stepOf k p o v) ≡ Dequeue
+  unfolding actionOf stepOf
+  kind-dequeues e = ap (λ (j : ℕ). actionOf (stepOf j p o v)) e
+
 -- the kind of an action; 0 for none
 unfoldable pub kindOf : Action → ℕ
 kindOf (Read w) = 1
