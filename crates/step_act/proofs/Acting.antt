@@ -1,5 +1,5 @@
 -- What an accepted step does, by its kind: what the steps ask holds, and what they leave is the rules' effect. One law for each way of the
--- code; the queue's are in ActingOnJobs. Assumes nothing.
+-- code; those of the tallies and of the queue are in ActingOnShared. Assumes nothing.
 use Prim.Native.Nat.{ℕ, _*_, _≤_, _<_}
 use native.Mathlib.Omega.{arith}
 use native.Mathlib.Decide.{ℕ-discrete}
@@ -8,17 +8,17 @@ use mathlib.Core.Bool.{true}
 use mathlib.Core.Logic.{_⊎_, inl, inr}
 use mathlib.Core.List.{List}
 use lib.ListN.{length}
-use Rattle.limits.specs.Limits.{pageWidth, processorLimit, tallyLimit}
+use Rattle.limits.specs.Limits.{pageWidth}
 use Rattle.limits.specs.inner.Sizes.{markArea}
-use Rattle.rules.specs.Refusals.{stepOf, Action, Read, Write, Acquire, Release, Arrive, Want, TallyAdd, TallyRead, actionOf, knownKind, objectBound, effect}
+use Rattle.rules.specs.Refusals.{stepOf, Action, Read, Write, Acquire, Release, Arrive, Want, actionOf, knownKind, objectBound, effect}
 use Rattle.rules.specs.State.{mainframe, State, own}
 use Rattle.rules.specs.Steps.{Effect, read, write, acquire, release, arrive}
 use Rattle.rules.proofs.inorder.Accepted.{Accepted, accepted-says, present-says, object-there, acquire-there, release-there, late-arrive}
 use Rattle.rules.proofs.inorder.Kept.{effect-keeps-order}
 use Rattle.rules.proofs.order.Timeline.{effect-keeps-counts}
-use Rattle.rules.proofs.inorder.KindsOfSteps.{objectIn, known-says, kind-reads, kind-writes, kind-acquires, kind-releases, kind-arrives, kind-wants, kind-adds, kind-totals}
+use Rattle.rules.proofs.inorder.KindsOfSteps.{objectIn, known-says, kind-reads, kind-writes, kind-acquires, kind-releases, kind-arrives, kind-wants}
 use Rattle.rules.proofs.inorder.Standing.{StillStand, still-stand}
-use Rattle.layout.specs.Areas.{sharedIn, stateIn}
+use Rattle.layout.specs.Areas.{stateIn}
 use Rattle.layout.specs.inner.Needed.{Acts, Ready, Holds}
 use Rattle.fetch_index.proofs.Kept.{bounds-stay, kept-while-standing}
 use Rattle.step_collect.specs.inner.Effects.{CountedKept}
@@ -27,12 +27,9 @@ use Rattle.step_access.specs.inner.Needed.{ActsOnWord, AccessesKept}
 use Rattle.step_lock.specs.inner.Needed.{ActsOnLock}
 use Rattle.barrier_marks.specs.inner.Effects.{Wanted}
 use Rattle.step_barrier.specs.inner.Needed.{ArrivesKept}
-use Rattle.rules.specs.Tallies.{tallyTotal}
-use Rattle.step_tally.specs.inner.Needed.{TallyIn}
-use Rattle.step_tally.specs.inner.Effects.{AddDone}
 use Rattle.step_act.specs.declared.Outcome.{Outcome}
 use Rattle.step_act.specs.declared.Outcome.the-variants.{Done}
-use Rattle.step_act.specs.inner.Needed.{Acting, ActingKept, Accessing, AccessingKept, Locking, Meeting, MeetingKept, Tallying, DoneAs, DoneKept, Tallied}
+use Rattle.step_act.specs.inner.Needed.{Acting, ActingKept, Accessing, AccessingKept, Locking, Meeting, MeetingKept, DoneAs, DoneKept}
 use Rattle.step_act.proofs.Telling.{done-tells}
 
 -- ---- the effect of an action that is known
@@ -70,7 +67,8 @@ module _ (c w r m : List ℕ) (k p o v : ℕ) (h : Acting c w r m k p o v) where
       go (inl e) = e .0
       go (inr e) = omega (arith, e .0)
 
-  kind-tallies : 6 < k → k ≤ 9 → (k ≡ 8) ⊎ (k ≡ 9)
+  -- behind 6 and up to 9 they are the tallies'
+  pub kind-tallies : 6 < k → k ≤ 9 → (k ≡ 8) ⊎ (k ≡ 9)
   kind-tallies f l = go (known-says k kind-known) (ℕ-discrete k 8)
     where
       go : ((1 ≤ k) × (k ≤ 6)) ⊎ ((8 ≤ k) × (k ≤ 11)) → Dec (k ≡ 8) → (k ≡ 8) ⊎ (k ≡ 9)
@@ -275,40 +273,6 @@ module _ (c w r m : List ℕ) (k p o v : ℕ) (x : List ℕ) (q : MeetingKept c 
       (done-with f 0 0 0 c w r m′ refl refl refl
       (record { lent = record { clocks = l .clocks; words = l .words; records = l .records; marks = a .marks }; is = a .is c w r }))))
 
--- ---- tallies
-
-module _ (w : List ℕ) (k p o v : ℕ) (h : Tallying w k p o) where
-  -- the tally has its place
-  pub tally-has-place : TallyIn w p o
-  tally-has-place = h .tally
-
-  is-add : (k ≡ 9 → ⊥) → k ≡ 8
-  is-add z = go (h .kinds)
-    where
-      go : (k ≡ 8) ⊎ (k ≡ 9) → k ≡ 8
-      go (inl e) = e
-      go (inr e) = absurd (z e)
-
-  -- an add was done
-  pub add-tallied : (y : Outcome) (w′ : List ℕ) → (k ≡ 9 → ⊥) → AddDone w w′ p o v → y ≡ Done 0 0 0 → Tallied w w′ k p o v y
-  unfolding effect stateIn
-  add-tallied y w′ z a done =
-      record {
-        words = a .words;
-        is = λ c r m. a .is c r m ∙ ap (λ (x : Effect). x .after) (sym (effect-by (stateIn mainframe c w r m) p (actionOf (stepOf k p o v)) (TallyAdd o v) (kind-adds k p o v (is-add z))));
-        outcome = λ c r m. rw (kind-adds k p o v (is-add z), done) (done-tells 0 0 0);
-      }
-
-  -- a total was read
-  pub total-tallied : (x : ℕ) → k ≡ 9 → x ≡ tallyTotal (sharedIn mainframe w) p o → Tallied w w k p o v (Done x 0 0)
-  unfolding effect stateIn
-  total-tallied x nine e =
-      record {
-        words = h .tally .words;
-        is = λ c r m. ap (λ (y : Effect). y .after) (sym (effect-by (stateIn mainframe c w r m) p (actionOf (stepOf k p o v)) (TallyRead o) (kind-totals k p o v nine)));
-        outcome = λ c r m. rw (kind-totals k p o v nine, ← e) (done-tells x 0 0);
-      }
-
 -- ---- the kinds
 
 module _ (c w r m : List ℕ) (k p o v : ℕ) (x : List ℕ) (q : ActingKept c w r m k p o v x) where
@@ -328,30 +292,3 @@ module _ (c w r m : List ℕ) (k p o v : ℕ) (x : List ℕ) (q : ActingKept c w
   -- kinds 5 and 6
   pub meets : 4 < k → k ≤ 6 → MeetingKept c w r m k p o v x
   meets f l = record { meeting = record { acting = q .acting; first = f; last = l }; kept = q .kept }
-
-  -- kinds 8 and 9
-  pub tallies : 6 < k → k ≤ 9 → Tallying w k p o
-  tallies f l =
-      let kinds = kind-tallies c w r m k p o v (q .acting) f l in
-      record { tally = record { words = q .acting .ready .lent .words; on-tally = record { from = acts c w r m k p o v (q .acting) .from; to = on-machine; tally = below kinds } }; kinds = kinds }
-    where
-      on-machine : p ≤ processorLimit
-      on-machine = unfold mainframe in omega (arith, acts c w r m k p o v (q .acting) .to, q .acting .ready .in-order .processors-fit)
-
-      there : (a : Action) → actionOf (stepOf k p o v) ≡ a → objectIn o a < objectBound mainframe (stateIn mainframe c w r m) a
-      there a e = unfold stepOf in object-there mainframe (stateIn mainframe c w r m) (stepOf k p o v) a e (accepted c w r m k p o v (q .acting) .fields-fit)
-
-      below : (k ≡ 8) ⊎ (k ≡ 9) → o < tallyLimit
-      below (inl e) = unfold objectBound objectIn mainframe in there (TallyAdd o v) (kind-adds k p o v e)
-      below (inr e) = unfold objectBound objectIn mainframe in there (TallyRead o) (kind-totals k p o v e)
-
-  -- which keep the index
-  pub tallied-kept : 6 < k → k ≤ 9 → (y : Outcome) (w′ : List ℕ) → Tallied w w′ k p o v y
-      → DoneKept (effect mainframe (stateIn mainframe c w r m) p (actionOf (stepOf k p o v))) y c w′ r m x
-  tallied-kept f last y w′ d =
-      let l = q .acting .ready .lent in
-      apart-done c w r m k p o v x q (omega arith) (λ e. omega (arith, e, f)) y c w′ r m
-      (record {
-        outcome = d .outcome c r m;
-        areas = record { lent = record { clocks = l .clocks; words = d .words; records = l .records; marks = l .marks }; is = d .is c r m };
-      })

@@ -1,3 +1,3 @@
 pub mod Telling
 pub mod Acting
-pub mod ActingOnJobs
+pub mod ActingOnShared

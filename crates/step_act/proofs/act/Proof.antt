@@ -1,5 +1,5 @@
 -- `act` meets its contract. Assumes nothing.
-use Rattle.step_act.proofs.ActingOnJobs.{acting-laws}
+use Rattle.step_act.proofs.ActingOnShared.{acting-laws}
 use Rattle.step_act.proofs.act.Statement.{statement}
 use Rattle.step_act.proofs.act.Tie as tie
 

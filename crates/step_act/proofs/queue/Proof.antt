@@ -1,5 +1,5 @@
 -- `queue` meets its contract. Assumes nothing.
-use Rattle.step_act.proofs.ActingOnJobs.{acting-laws}
+use Rattle.step_act.proofs.ActingOnShared.{acting-laws}
 use Rattle.step_act.proofs.queue.Statement.{statement}
 use Rattle.step_act.proofs.queue.Tie as tie
 
