@@ -42,6 +42,8 @@ mod program;
 mod queue;
 mod queue_cases;
 mod queue_judge;
+#[cfg(test)]
+mod queue_judge_tests;
 mod queue_refusal_cases;
 #[cfg(test)]
 mod queue_tests;
