@@ -49,7 +49,7 @@ use Rattle.rules.proofs.WordsMoved.{steps-move, effects-told, what-it-was}
 use Rattle.rules.proofs.FirstOut.{one-enqueue, one-dequeue, first-in-first-out}
 use Rattle.rules.proofs.QueueSpace.{nineteen-exactly-when, twenty-exactly-when, job-never-3, job-object-is-5, dequeue-value-is-5, queue-refuses}
 use Rattle.rules.proofs.QueueSteps.{queue-as-claimed, adds-job, removes-job, leaves-jobs}
-use Rattle.rules.proofs.JobsTold.{returns-exactly, learns-its-clock}
+use Rattle.rules.proofs.JobsTold.{precedes-no-other, returns-exactly, learns-its-clock}
 use Rattle.rules.proofs.QueueCases.{queue-cases}
 use Rattle.rules.proofs.Cases.{bench-cases}
 use Rattle.rules.proofs.runs.FromStart.{listing-a}
@@ -262,6 +262,7 @@ task-queue =
       removes = λ s t first rest ordered e is line. removes-job mainframe s t ordered first rest e is line;
       precedes = job-precedes;
       one-job = queue-case 3 1 1 oneJob oneJobAnswers (queue-cases .one-job);
+      no-other-way = precedes-no-other;
       one-dequeue = one-dequeue;
       one-enqueue = one-enqueue;
       no-other = queue-case 3 1 1 noOtherJob noOtherJobAnswers (queue-cases .no-other-job);

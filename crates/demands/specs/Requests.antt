@@ -33,7 +33,7 @@ use Rattle.rules.specs.Waiting.{lineIn, eventsIn, WaitsInLine, GoesTo, LinesAsC
 use Rattle.rules.specs.TallyTotals.{postedDue, TalliesJudged, takenUp, takenDown}
 use Rattle.rules.specs.Moved.{Skips, StepsMove, EffectsTold}
 use Rattle.rules.specs.LocksFree.{FindsLocksFree}
-use Rattle.rules.specs.Jobs.{Queued, queueIn, QueueAsClaimed, AddsJob, RemovesJob, LeavesJobs, FirstInFirstOut, QueueRefuses, TakesItsJob, LearnsItsClock}
+use Rattle.rules.specs.Jobs.{Queued, queueIn, QueueAsClaimed, AddsJob, RemovesJob, LeavesJobs, FirstInFirstOut, QueueRefuses, PrecedesBy, TakesItsJob, LearnsItsClock}
 use Rattle.rules.specs.Forecast.{openedFor, Figures, runFigures, forecastFigures}
 use Rattle.rules.specs.Bench.{mainframeWith, answering, accepted, listing, listingAnswers, stepsUnderLock, answersUnderLock, StoredValues, stepsF, equalStores, setToWhatItWas, twoPages, twoPagesFigures, oneJob, oneJobAnswers, noOtherJob, noOtherJobAnswers, collectedJob, collectedJobAnswers, fullTwice, fullTwiceAnswers, jobsForecast, jobsFigures}
 use Rattle.step_close.specs.Sequence.{closedInSequence}
@@ -238,7 +238,8 @@ pub record TaskQueue : Type 0 where
   -- "An enqueue precedes in happens-before-1 the dequeue that returns its job, ..
   pub precedes : (n : ℕ) (es : List Event) (i p v j q : ℕ) → Returns es i p v j q → Before n es i j
   pub one-job : OfAnswers (AnswersAs (mainframeWith 3 1 1) oneJob oneJobAnswers)
-  -- .. and of itself no other": it is returned once, and where others are returned too, they are told nothing of it
+  -- .. and of itself no other": what it precedes, it precedes by a later step of its card or by that dequeue, which is one; other dequeues are told nothing
+  pub no-other-way : (n : ℕ) (es : List Event) (i p v j : ℕ) → Took es i p (Enqueue v) → Before n es i j → PrecedesBy n es i p v j
   pub one-dequeue : (es : List Event) (i p v j j′ q q′ : ℕ) → Returns es i p v j q → Returns es i p v j′ q′ → j ≡ j′
   pub one-enqueue : (es : List Event) (i i′ p p′ v v′ j q : ℕ) → Returns es i p v j q → Returns es i′ p′ v′ j q → i ≡ i′
   pub no-other : OfAnswers (AnswersAs (mainframeWith 3 1 1) noOtherJob noOtherJobAnswers)
