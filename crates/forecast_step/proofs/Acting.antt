@@ -2,6 +2,7 @@
 -- code, `write-laws` and `act-laws`. Rests on Foreseeing. Assumes nothing.
 use Prim.Native.Nat.{ℕ, _/_, _≤_, _<_}
 use native.Mathlib.Omega.{arith}
+use native.Mathlib.Decide.{ℕ-discrete}
 use mathlib.Core.Path.{_≡_, refl, sym, ap, _∙_}
 use mathlib.Core.Bool.{Bool, true, false, not}
 use mathlib.Core.Logic.{_⊎_, inl, inr}
@@ -10,14 +11,14 @@ use lib.ListN.{length, getD, set, length-set}
 use lib.Dec.{eqb}
 use borrow.Author.Needs.{needs}
 use Rattle.limits.specs.Limits.{pageWidth}
-use Rattle.rules.specs.State.{mainframe, Counts, Marks, dirtyAt, State, hasArrived}
+use Rattle.rules.specs.State.{mainframe, Counts, Marks, dirtyAt, State, own as ownOf, hasArrived}
 use Rattle.rules.specs.Steps.{pageOfWord, wantsCollection, want}
-use Rattle.rules.specs.Refusals.{stepOf, Action, Read, Write, Acquire, Release, Arrive, Want, TallyAdd, TallyRead, actionOf, objectBound}
+use Rattle.rules.specs.Refusals.{stepOf, Action, Read, Write, Acquire, Release, Arrive, Want, TallyAdd, TallyRead, Enqueue, Dequeue, actionOf, objectBound}
 use Rattle.rules.specs.Forecast.{bare, writtenFor, forecastAfter}
 use Rattle.rules.proofs.Foretold.{seenIn, refusal-foretold}
-use Rattle.rules.proofs.inorder.Accepted.{Accepted, accepted-says, present-says, object-there, acquire-there, release-there}
-use Rattle.rules.proofs.inorder.KindsOfSteps.{known-says, objectIn, kind-reads, kind-writes, kind-acquires, kind-releases, kind-arrives, kind-wants, kind-adds, kind-totals}
-use Rattle.layout.specs.Areas.{dirtyPlace, stateIn}
+use Rattle.rules.proofs.inorder.Accepted.{Accepted, accepted-says, present-says, object-there, acquire-there, release-there, late-enqueue, late-dequeue}
+use Rattle.rules.proofs.inorder.KindsOfSteps.{known-says, objectIn, kind-reads, kind-writes, kind-acquires, kind-releases, kind-arrives, kind-wants, kind-adds, kind-totals, kind-enqueues, kind-dequeues}
+use Rattle.layout.specs.Areas.{dirtyPlace, marksIn, stateIn}
 use Rattle.layout.specs.inner.Marks.{dirtyMark}
 use Rattle.layout.proofs.MarkLaws.{dirty-mark-written}
 use Rattle.refusals.specs.inner.Needed.{WriteOf}
@@ -26,7 +27,7 @@ use Rattle.refusals.proofs.ByKind.{page-of-word}
 use Rattle.refusals.proofs.Marked.{dirty-seen}
 use Rattle.barrier_marks.specs.inner.Effects.{Wanted}
 use Rattle.forecast_step.specs.Memory.{forecastIn}
-use Rattle.forecast_step.specs.inner.Parts.{ActsForeseen, LockForeseen, ArrivalForeseen, AcceptedForeseen, Shows, PageWritten}
+use Rattle.forecast_step.specs.inner.Parts.{ActsForeseen, LockForeseen, ArrivalForeseen, RoomForeseen, JobForeseen, AcceptedForeseen, Shows, PageWritten}
 use Rattle.forecast_step.proofs.Foreseeing.{counts-seen, marks-seen, counted-foreseen, pages-foreseen, marks-shown}
 
 -- ---- a write
@@ -59,6 +60,9 @@ pub ruleset write-laws = (page-of-word, page-stays, page-marked, needs)
 
 is-read : (k : ℕ) → 1 ≤ k → k ≤ 6 → (k ≡ 2 → ⊥) → (k ≡ 3 → ⊥) → (k ≡ 4 → ⊥) → (k ≡ 5 → ⊥) → (k ≡ 6 → ⊥) → k ≡ 1
 is-read k from to a b c d e = omega arith
+
+is-total : (k : ℕ) → 8 ≤ k → k ≤ 11 → (k ≡ 8 → ⊥) → (k ≡ 10 → ⊥) → (k ≡ 11 → ⊥) → k ≡ 9
+is-total k from to a b c = omega arith
 
 module _ (own m : List ℕ) (k p o : ℕ) (h : AcceptedForeseen own m k p o) where
   accepted : Accepted mainframe (h .foreseen .state) (stepOf k p o (h .value))
@@ -134,17 +138,53 @@ module _ (own m : List ℕ) (k p o : ℕ) (h : AcceptedForeseen own m k p o) whe
   unfolding forecastAfter want wantsCollection bare forecastIn seenIn seen
   wish-shown m′ e d = left-by Want own m′ (kind-wants k p o 0 e) (record { entries = h .foreseen .entries; marks = d .marks; is = marks-shown own m m′ _ (d .is [] [] []) })
 
+  -- an enqueue finds room
+  pub enqueue-foreseen : k ≡ 10 → RoomForeseen own m p
+  unfolding stepOf seen stateIn marksIn mainframe
+  enqueue-foreseen e =
+      let s = h .foreseen .state in
+      let jobs = ap (λ (n : Marks). n .jobs) (marks-seen own m (h .foreseen)) in
+      record {
+        acts = acts;
+        room =
+            omega (
+              arith,
+              jobs,
+              h .foreseen .in-order .few-jobs,
+              late-enqueue mainframe s (ownOf s p) p (h .value) (rw (kind-enqueues k p o (h .value) e) at (accepted .not-late)),
+            );
+      }
+
+  -- an enqueue was done
+  pub enqueue-shown : (own′ m′ : List ℕ) → k ≡ 10 → Shows own′ m′ (forecastAfter mainframe (forecastIn own m) p (Enqueue 0))
+      → Shows own′ m′ (forecastAfter mainframe (forecastIn own m) p (actionOf (stepOf k p o 0)))
+  enqueue-shown own′ m′ e d = left-by (Enqueue 0) own′ m′ (kind-enqueues k p o 0 e) d
+
+  -- a dequeue finds a job
+  pub dequeue-foreseen : k ≡ 11 → JobForeseen own m p
+  unfolding stepOf seen stateIn marksIn
+  dequeue-foreseen e =
+      let s = h .foreseen .state in
+      let jobs = ap (λ (n : Marks). n .jobs) (marks-seen own m (h .foreseen)) in
+      record { acts = acts; some = omega (arith, jobs, late-dequeue mainframe s (ownOf s p) p (rw (kind-dequeues k p o (h .value) e) at (accepted .not-late))) }
+
+  -- a dequeue was done
+  pub dequeue-shown : (own′ m′ : List ℕ) → k ≡ 11 → Shows own′ m′ (forecastAfter mainframe (forecastIn own m) p Dequeue)
+      → Shows own′ m′ (forecastAfter mainframe (forecastIn own m) p (actionOf (stepOf k p o 0)))
+  dequeue-shown own′ m′ e d = left-by Dequeue own′ m′ (kind-dequeues k p o 0 e) d
+
   -- the other kinds leave all as it is
-  pub others-leave : (k ≡ 2 → ⊥) → (k ≡ 3 → ⊥) → (k ≡ 4 → ⊥) → (k ≡ 5 → ⊥) → (k ≡ 6 → ⊥) → Shows own m (forecastAfter mainframe (forecastIn own m) p (actionOf (stepOf k p o 0)))
+  pub others-leave : (k ≡ 2 → ⊥) → (k ≡ 3 → ⊥) → (k ≡ 4 → ⊥) → (k ≡ 5 → ⊥) → (k ≡ 6 → ⊥) → (k ≡ 10 → ⊥) → (k ≡ 11 → ⊥)
+      → Shows own m (forecastAfter mainframe (forecastIn own m) p (actionOf (stepOf k p o 0)))
   unfolding stepOf forecastAfter
-  others-leave no-write no-acquire no-release no-arrival no-wish = go (known-says k (accepted .known-kind))
+  others-leave no-write no-acquire no-release no-arrival no-wish no-enqueue no-dequeue = go (known-says k (accepted .known-kind)) (ℕ-discrete k 8)
     where
       as-it-was : Shows own m (forecastIn own m)
       as-it-was = record { entries = h .foreseen .entries; marks = h .foreseen .marks; is = refl }
 
-      go : ((1 ≤ k) × (k ≤ 6)) ⊎ ((k ≡ 8) ⊎ (k ≡ 9)) → Shows own m (forecastAfter mainframe (forecastIn own m) p (actionOf (stepOf k p o 0)))
-      go (inl l) = left-by (Read o) own m (kind-reads k p o 0 (is-read k (l .0) (l .1) no-write no-acquire no-release no-arrival no-wish)) as-it-was
-      go (inr (inl e)) = left-by (TallyAdd o 0) own m (kind-adds k p o 0 e) as-it-was
-      go (inr (inr e)) = left-by (TallyRead o) own m (kind-totals k p o 0 e) as-it-was
+      go : ((1 ≤ k) × (k ≤ 6)) ⊎ ((8 ≤ k) × (k ≤ 11)) → Dec (k ≡ 8) → Shows own m (forecastAfter mainframe (forecastIn own m) p (actionOf (stepOf k p o 0)))
+      go (inl l) d = left-by (Read o) own m (kind-reads k p o 0 (is-read k (l .0) (l .1) no-write no-acquire no-release no-arrival no-wish)) as-it-was
+      go (inr l) (yes e) = left-by (TallyAdd o 0) own m (kind-adds k p o 0 e) as-it-was
+      go (inr l) (no e) = left-by (TallyRead o) own m (kind-totals k p o 0 (is-total k (l .0) (l .1) e no-enqueue no-dequeue)) as-it-was
 
-pub ruleset act-laws = (write-there, write-shown, acquire-on-lock, acquire-shown, release-on-lock, release-shown, arrival-foreseen, arrival-shown, wish-shown, others-leave, needs)
+pub ruleset act-laws = (write-there, write-shown, acquire-on-lock, acquire-shown, release-on-lock, release-shown, arrival-foreseen, arrival-shown, wish-shown, enqueue-foreseen, enqueue-shown, dequeue-foreseen, dequeue-shown, others-leave, needs)

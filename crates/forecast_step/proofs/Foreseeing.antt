@@ -1,9 +1,10 @@
 -- What a forecast shows of the state in order that it foretells, and what the functions may so ask of the marks. Rests on Foretold of the crate
 -- rules. Assumes nothing.
-use Prim.Native.Nat.{ℕ, zero, suc, _+_, _-_, _≤_}
+use Prim.Native.Nat.{ℕ, zero, suc, _+_, _-_, _≤_, _<_}
 use native.Mathlib.Omega.{arith}
 use mathlib.Core.Path.{_≡_, ap}
 use mathlib.Core.Bool.{true, false}
+use mathlib.Core.Logic.{_⊎_}
 use mathlib.Core.List.{List, [], _∷_}
 use lib.ListN.{getD}
 use Rattle.rules.specs.InOrder.{present, presentHolder, dirtyPages}
@@ -38,6 +39,8 @@ pub record ForecastInOrder (lim : Limits) (f : Forecast) : Type 0 where
   pub lines : LinesInOrder (f .counts) (f .marks)
   pub room : f .standing + dirtyFor f ≤ lim .records
   pub own-fits : (p : ℕ) → ownFor f p ≤ lim .intervals
+  pub first-there : (lim .jobs ≡ 0) ⊎ (f .marks .first < lim .jobs)
+  pub few-jobs : f .marks .jobs ≤ lim .jobs
 
 seen-in-order : (lim : Limits) (s : State) (e : List ℕ) → InOrder lim s → ((p : ℕ) → ownIn (s .clocks) p ≡ getD e p 0) → ForecastInOrder lim (seenIn s e)
 unfolding seenIn bare presentHolder present dirtyAt hasArrived dirtyFor dirtyPages ownFor own clock
@@ -52,6 +55,8 @@ seen-in-order lim s e o owns =
       lines = o .lines;
       room = o .room;
       own-fits = λ p. rw (← owns p) (o .own-fits p);
+      first-there = o .first-there;
+      few-jobs = o .few-jobs;
     }
 
 -- ---- the forecast in memory

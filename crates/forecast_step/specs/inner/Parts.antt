@@ -4,13 +4,13 @@ use mathlib.Core.Path.{_≡_}
 use mathlib.Core.Bool.{false, cond}
 use mathlib.Core.List.{List}
 use lib.ListN.{length}
-use Rattle.limits.specs.Limits.{processorLimit}
+use Rattle.limits.specs.Limits.{jobLimit, processorLimit}
 use Rattle.limits.specs.inner.Sizes.{markArea}
 use Rattle.rules.specs.State.{mainframe, hasArrived}
 use Rattle.rules.specs.Steps.{wantsCollection}
 use Rattle.rules.specs.Refusals.{stepOf}
 use Rattle.rules.specs.Forecast.{Forecast, bare, forecastRefusal, writtenFor, roundFor, collectedFor}
-use Rattle.layout.specs.inner.Marks.{processorCount, lockCount}
+use Rattle.layout.specs.inner.Marks.{processorCount, lockCount, jobsMark}
 use Rattle.refusals.specs.inner.Parts.{seen}
 use Rattle.forecast_step.specs.Memory.{forecastIn}
 use Rattle.forecast_step.specs.inner.Needed.{Foreseen}
@@ -33,10 +33,20 @@ pub record LockForeseen (own m : List ℕ) (p l : ℕ) : Type 0 where
   pub acts : ActsForeseen own m p
   pub lock : l < lockCount m
 
--- the same, and p has not arrived
+-- it acts, and p has not arrived
 pub record ArrivalForeseen (own m : List ℕ) (p : ℕ) : Type 0 where
   pub acts : ActsForeseen own m p
   pub not-arrived : hasArrived (seen m) p ≡ false
+
+-- it acts, and the queue has room for a job
+pub record RoomForeseen (own m : List ℕ) (p : ℕ) : Type 0 where
+  pub acts : ActsForeseen own m p
+  pub room : jobsMark m < jobLimit
+
+-- it acts, and a job waits
+pub record JobForeseen (own m : List ℕ) (p : ℕ) : Type 0 where
+  pub acts : ActsForeseen own m p
+  pub some : 1 ≤ jobsMark m
 
 -- no row refuses a step with these fields, whatever its value was
 pub record AcceptedForeseen (own m : List ℕ) (kind p object : ℕ) : Type 0 where
