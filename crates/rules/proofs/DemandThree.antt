@@ -21,7 +21,7 @@ use Rattle.rules.proofs.inorder.OpenedInOrder.{opened-in-order, opening
 use Rattle.rules.proofs.InOrderRuns.{answers-in-order}
 use Rattle.rules.proofs.order.Timeline.{Timeline, counts-stay}
 use Rattle.rules.proofs.order.Ghosts.{ghostAt}
-use Rattle.rules.proofs.order.ActionKinds.{read-no-acquire}
+use Rattle.rules.proofs.order.ActionKinds.{read-no-acquire, read-no-dequeue}
 use Rattle.rules.proofs.order.Allowed.{took-allowed, took-read-page}
 use Rattle.rules.proofs.order.NumbersFollow.{knows-all-writes, last-is-last-written}
 use Rattle.rules.proofs.demand.WeakHalf.{weak-half}
@@ -37,7 +37,7 @@ module _ (lim : Limits) (c : Counts) (es : List Event) (r : Timeline lim c es) w
       let n = counts-stay lim c es r j in
       let l = took-read-page lim c es r j p w took in
       let inv = inv-at lim c es r w j (sync .ordered) (rw n at l) j (omega arith) in
-      let all = knows-all-writes lim c es r w j p (Read w) took (read-no-acquire w) (λ i q v e d. sync .before i q v e) in
+      let all = knows-all-writes lim c es r w j p (Read w) took (read-no-acquire w) (read-no-dequeue w) (λ i q v e d. sync .before i q v e) in
       reads-last lim (pageOfWord lim w) (offsetOfWord lim w) (r .state j) (ghostAt lim c es r w j) p (r .ordered j) (offset-in-page lim w (r .words-there)) (ok .from)
       (rw n (ok .to)) l inv all
       ∙ last-is-last-written lim c es r w j

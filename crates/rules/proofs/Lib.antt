@@ -11,6 +11,11 @@ pub mod LocksFree
 pub mod StoresNoted
 pub mod TallyReads
 pub mod TallyCases
+pub mod FirstOut
+pub mod JobsTold
+pub mod QueueSpace
+pub mod QueueSteps
+pub mod QueueCases
 pub mod SkippingCases
 pub mod WordsMoved
 pub mod FewWords

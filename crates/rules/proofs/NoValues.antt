@@ -21,6 +21,10 @@ module _ (lim : Limits) (f : Forecast) where
   unfolding stepOf forecastRefusal refusalBy fits usesValue actionOf objectBound lateRefusal
   add-foreseen p t v = refl
 
+  enqueue-foreseen : (p o v : ℕ) → forecastRefusal lim f (stepOf 10 p o v) ≡ forecastRefusal lim f (stepOf 10 p o 0)
+  unfolding stepOf forecastRefusal refusalBy fits usesValue actionOf objectBound lateRefusal
+  enqueue-foreseen p o v = refl
+
   write-leaves : (p w v : ℕ) → forecastNext lim f (stepOf 2 p w v) ≡ forecastNext lim f (stepOf 2 p w 0)
   unfolding forecastNext stepOf actionOf forecastAfter
   write-leaves p w v = rw (write-foreseen p w v) refl
@@ -29,14 +33,18 @@ module _ (lim : Limits) (f : Forecast) where
   unfolding forecastNext stepOf actionOf forecastAfter
   add-leaves p t v = rw (add-foreseen p t v) refl
 
+  enqueue-leaves : (p o v : ℕ) → forecastNext lim f (stepOf 10 p o v) ≡ forecastNext lim f (stepOf 10 p o 0)
+  unfolding forecastNext stepOf actionOf forecastAfter
+  enqueue-leaves p o v = rw (enqueue-foreseen p o v) refl
+
 -- the forecast of a list is that of the same list without its values
 forecast-without : (lim : Limits) (f : Forecast) (ts : List Step) → forecastFigures lim f ts ≡ forecastFigures lim f (map withoutValue ts)
 unfolding forecastFigures
 forecast-without lim f [] = refl
 forecast-without lim f (t ∷ ts) =
-    let after : forecastNext lim f t ≡ forecastNext lim f (withoutValue t) = without-value (forecastNext lim f) (write-leaves lim f) (add-leaves lim f) t in
+    let after : forecastNext lim f t ≡ forecastNext lim f (withoutValue t) = without-value (forecastNext lim f) (write-leaves lim f) (add-leaves lim f) (enqueue-leaves lim f) t in
     ap₂ (λ (r : ℕ) (g : Forecast). record { refusal = r; standing = g .standing; dirty = dirtyFor g } ∷ forecastFigures lim g ts)
-    (without-value (forecastRefusal lim f) (write-foreseen lim f) (add-foreseen lim f) t) after
+    (without-value (forecastRefusal lim f) (write-foreseen lim f) (add-foreseen lim f) (enqueue-foreseen lim f) t) after
     ∙ ap (λ (l : List Figures). record { refusal = forecastRefusal lim f (withoutValue t); standing = forecastNext lim f (withoutValue t) .standing; dirty = dirtyFor (forecastNext lim f (withoutValue t)) } ∷ l)
     (forecast-without lim (forecastNext lim f (withoutValue t)) ts)
 

@@ -7,7 +7,8 @@ use mathlib.Core.Bool.{Bool, true, false, cond, false≢true}
 use mathlib.Core.Logic.{_↔_, _⊎_, inl, inr}
 use lib.Dec.{eqb}
 use borrow.Author.Tests.{eqb-true, eqb-false, lt-ltb, ne-eqb}
-use Rattle.rules.specs.State.{Limits, Processor, dirtyAt, State, clock, own, hasArrived}
+use Rattle.clock.specs.Clocks.{entryOf}
+use Rattle.rules.specs.State.{Limits, Processor, Job, clockOf, dirtyAt, State, clock, own, hasArrived}
 use Rattle.rules.specs.Lines.{waits}
 use Rattle.rules.specs.InOrder.{present, dirtyPages}
 use Rattle.rules.specs.Close.{anyDirty, ticked, recorded}
@@ -124,9 +125,12 @@ closing-finds-room lim s p f a =
 pub record AllFreed (s : State) : Type 0 where
   pub no-records : s .records .standing ≡ 0
   pub no-intervals : (p : ℕ) → own s p ≡ 0
+  -- L9: "sets the clocks of queued jobs to zeros"
+  pub jobs-know-nothing : (k q : ℕ) → entryOf (clockOf (s .clocks) (Job k)) q ≡ 0
 
 -- it does after every collection
 pub collection-frees : (lim : Limits) (s : State) → AllFreed (collected lim s .after)
 unfolding collected emptied own clock
 collection-frees lim s =
-    record { no-records = refl; no-intervals = λ p. entry-all-cleared (allFetched lim s (s .counts .processors) .after .clocks) (Processor p) p }
+    let c = allFetched lim s (s .counts .processors) .after .clocks in
+    record { no-records = refl; no-intervals = λ p. entry-all-cleared c (Processor p) p; jobs-know-nothing = λ k q. entry-all-cleared c (Job k) q }

@@ -7,7 +7,7 @@ use mathlib.Core.Path.{_≡_}
 use mathlib.Core.Bool.{Bool, true, false, cond}
 use mathlib.Core.List.{List}
 use lib.Dec.{eqb}
-use Rattle.rules.specs.Order.{Event, eventAt, isArrival, Groups, countedOff, groupsBefore, rounds, Before, program, lock, round, granted, chain}
+use Rattle.rules.specs.Order.{Event, eventAt, isArrival, Groups, countedOff, groupsBefore, rounds, Before, program, lock, round, granted, job, chain}
 
 -- ---- the rounds before a place never fall with the place
 
@@ -56,6 +56,7 @@ before-goes-forward n es i j (round p q b from to h) = go (decLt i j)
     go (yes k) = k
     go (no k) = absurd (omega (arith, h, rounds-never-fall n es j i (omega (arith, k))))
 before-goes-forward n es i j (granted p q l a b serves to h) = omega (arith, h)
+before-goes-forward n es i j (job p v q r) = omega (arith, r .waited)
 before-goes-forward n es i j (chain k a b) = omega (arith, before-goes-forward n es i k a, before-goes-forward n es k j b)
 
 -- no step is before itself
@@ -72,6 +73,7 @@ before-from n es i j (program p a b from to h) = from .accepted
 before-from n es i j (lock p q l from to h) = from .accepted
 before-from n es i j (round p q b from to h) = from .accepted
 before-from n es i j (granted p q l a b serves to h) = serves .release .accepted
+before-from n es i j (job p v q r) = r .enqueue .accepted
 before-from n es i j (chain k a b) = before-from n es i k a
 
 -- the later end too
@@ -80,4 +82,5 @@ before-to n es i j (program p a b from to h) = to .accepted
 before-to n es i j (lock p q l from to h) = to .accepted
 before-to n es i j (round p q b from to h) = to .accepted
 before-to n es i j (granted p q l a b serves to h) = to .accepted
+before-to n es i j (job p v q r) = r .dequeue .accepted
 before-to n es i j (chain k a b) = before-to n es k j b

@@ -11,16 +11,18 @@ use mathlib.Core.Path.{_≡_, refl, sym, ap, ap₂, _∙_}
 use mathlib.Core.Logic.{_⊎_, inl, inr}
 use mathlib.Core.Bool.{Bool, true, false, cond, _&&_}
 use mathlib.Core.List.{List}
-use lib.ListN.{length, take}
+use lib.ListN.{length, take, getD}
 use lib.Dec.{ltb, eqb}
 use borrow.Author.Tests.{eqb-true, eqb-false, eq-eqb, ne-eqb}
-use Rattle.lists.specs.Tables.{total}
+use Rattle.lists.specs.Tables.{total, cell}
 use Rattle.lists.proofs.Tables.{total-same}
 use Rattle.limits.specs.Limits.{wordValues}
 use Rattle.rules.specs.State.{Limits, Counts, Shared, postedOf, addsOf, State}
 use Rattle.rules.specs.Tallies.{tallyAdded, tallyTotal, totalAfter, posting}
 use Rattle.rules.specs.Opening.{Opening, openingRefusal, opened}
-use Rattle.rules.specs.Refusals.{Step, Action, Read, Write, Acquire, Release, Arrive, Want, TallyAdd, TallyRead, Unknown, actionOf, effect}
+use Rattle.rules.specs.Steps.{enqueue}
+use Rattle.rules.specs.Close.{closed}
+use Rattle.rules.specs.Refusals.{Step, Action, Read, Write, Acquire, Release, Arrive, Want, TallyAdd, TallyRead, Enqueue, Dequeue, Unknown, actionOf, effect}
 use Rattle.rules.specs.Runs.{answers, stateAfter}
 use Rattle.rules.specs.Order.{Event, events, eventAt, Took, rounds}
 use Rattle.rules.specs.Demand.{valueField}
@@ -178,8 +180,13 @@ module _ (lim : Limits) (c : Counts) (es : List Event) (r : Timeline lim c es) (
       up : (i : ℕ) → i ≤ j → round i ≤ round j
       up i l = rounds-never-fall n es i j l
 
+  -- shared values with the same tallies
+  same-tallies : (j : ℕ) (h h′ : Shared) → h′ .posted ≡ h .posted → h′ .adds ≡ h .adds → Tallied j h → Tallied j h′
+  unfolding postedOf addsOf
+  same-tallies j h h′ a b ih = record { posted = ap (λ (l : List ℕ). getD l t 0) a ∙ ih .posted; adds = λ q. ap (λ (l : List (List ℕ)). cell 0 l q t) b ∙ ih .adds q }
+
   -- an accepted step, by its action
-  stepped : (j p : ℕ) (a : Action) → Took es j p a → Tallied j (r .state j .shared) → Tallied (suc j) (sharedAfter (r .state j) p a)
+  stepped : (j p : ℕ) (a : Action) → Took es j p a → Tallied j (r .state j .shared) → Tallied (suc j) (sharedAfter lim (r .state j) p a)
   unfolding sharedAfter addsBy arrivesBy
   stepped j p (Read w) took ih = quiet j (r .state j .shared) (rounds-after-step lim c es r j p (Read w) took) (took-adds es t j p (Read w) took) ih
   stepped j p (Write w v) took ih = quiet j (r .state j .shared) (rounds-after-step lim c es r j p (Write w v) took) (took-adds es t j p (Write w v) took) ih
@@ -197,6 +204,8 @@ module _ (lim : Limits) (c : Counts) (es : List Event) (r : Timeline lim c es) (
   stepped j p (TallyAdd u v) took ih =
       adding j (r .state j .shared) p u v (rounds-after-step lim c es r j p (TallyAdd u v) took) (took .processor) (took-adds es t j p (TallyAdd u v) took) ih
   stepped j p (TallyRead u) took ih = quiet j (r .state j .shared) (rounds-after-step lim c es r j p (TallyRead u) took) (took-adds es t j p (TallyRead u) took) ih
+  stepped j p (Enqueue u) took ih = same-tallies (suc j) (r .state j .shared) (enqueue lim (r .state j) p u .shared) (unfold enqueue closed in refl) (unfold enqueue closed in refl) (quiet j (r .state j .shared) (rounds-after-step lim c es r j p (Enqueue u) took) (took-adds es t j p (Enqueue u) took) ih)
+  stepped j p Dequeue took ih = quiet j (r .state j .shared) (rounds-after-step lim c es r j p Dequeue took) (took-adds es t j p Dequeue took) ih
   stepped j p Unknown took ih = quiet j (r .state j .shared) (rounds-after-step lim c es r j p Unknown took) (took-adds es t j p Unknown took) ih
 
   -- so it is at every place of the list

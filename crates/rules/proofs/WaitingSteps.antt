@@ -16,7 +16,7 @@ use Rattle.rules.specs.InOrder.{present, inOrder}
 use Rattle.rules.specs.Lines.{firstInLine, lineOf, lockHanded}
 use Rattle.rules.specs.Close.{anyDirty, raised, ticked, closed}
 use Rattle.rules.specs.Steps.{learned, acquire, lockTold, waiterTold, release}
-use Rattle.rules.specs.Refusals.{Step, Action, Write, Acquire, Release, Arrive, actionOf, effect, refusal, next}
+use Rattle.rules.specs.Refusals.{Step, Action, Write, Acquire, Release, Arrive, Enqueue, Dequeue, actionOf, effect, refusal, next}
 use Rattle.rules.specs.Rows.{Comes, NoRowApplies}
 use Rattle.rules.specs.Waiting.{lineIn, WaitsInLine, GoesTo, LinesAsClaimed}
 use Rattle.rules.proofs.state.Lines.{waiting, waiting-not}
@@ -50,6 +50,8 @@ module _ (lim : Limits) (s : State) (t : Step) (ordered : inOrder lim s ≡ true
           its-own = λ k e. absurd (not-released k (sym is ∙ e));
           has-interval = λ w v e. absurd (not-written w v (sym is ∙ e));
           has-room = λ w v e. absurd (not-written w v (sym is ∙ e));
+          has-place = λ v e. absurd (not-enqueued v (sym is ∙ e));
+          has-job = λ e. absurd (not-dequeued (sym is ∙ e));
         }
       where
         other-kind : Acquire l ≡ Arrive → ⊥
@@ -63,6 +65,12 @@ module _ (lim : Limits) (s : State) (t : Step) (ordered : inOrder lim s ≡ true
 
         not-written : (w v : ℕ) → Acquire l ≡ Write w v → ⊥
         not-written w v e = let z : _≡_ {A = ℕ} 0 1 = cc in omega arith
+
+        not-enqueued : (v : ℕ) → Acquire l ≡ Enqueue v → ⊥
+        not-enqueued v e = let z : _≡_ {A = ℕ} 0 1 = cc in omega arith
+
+        not-dequeued : Acquire l ≡ Dequeue → ⊥
+        not-dequeued e = let z : _≡_ {A = ℕ} 0 1 = cc in omega arith
 
     asked : refusal lim s t ≡ 0
     asked = refusal-is-not-one lim s t ordered ∙ accepted-exactly-when lim s t (in-order-says lim s ordered) .1 no-row

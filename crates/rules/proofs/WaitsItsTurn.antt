@@ -23,7 +23,7 @@ use Rattle.rules.specs.Close.{closed}
 use Rattle.rules.specs.Lines.{waits, waitsFor, turnOf, inLine, waiterAt, firstInLine, lineOf, withWaiter, lockAsked, lockHanded}
 use Rattle.rules.specs.InOrder.{inOrder}
 use Rattle.rules.specs.Steps.{atBarrier, allArrived}
-use Rattle.rules.specs.Refusals.{Step, Action, Read, Write, Acquire, Release, Arrive, Want, TallyAdd, TallyRead, Unknown, actionOf, refusalInOrder, effect, nextInOrder, refusal, next}
+use Rattle.rules.specs.Refusals.{Step, Action, Read, Write, Acquire, Release, Arrive, Want, TallyAdd, TallyRead, Enqueue, Dequeue, Unknown, actionOf, refusalInOrder, effect, nextInOrder, refusal, next}
 use Rattle.rules.specs.Runs.{stateInOrder}
 use Rattle.rules.specs.Order.{counted, isReleaseOf}
 use Rattle.rules.specs.Waiting.{lineIn, InTurn}
@@ -184,6 +184,8 @@ module _ (lim : Limits) (s : State) (t : Step) (ordered : inOrder lim s ≡ true
       by-action Want e is = refl
       by-action (TallyAdd j v) e is = refl
       by-action (TallyRead j) e is = refl
+      by-action (Enqueue j) e is = refl
+      by-action Dequeue e is = refl
       by-action Unknown e is = refl
 
       go : Dec (refusal lim s t ≡ 0) → lineIn (next lim s t) l ≡ lineIn s l

@@ -22,5 +22,7 @@ pub mod KeptShared
 pub mod KeptFetch
 pub mod KeptLocks
 pub mod KeptBarrier
+pub mod KeptQueue
+pub mod OwnEntries
 pub mod Kept
 pub mod Standing

@@ -9,6 +9,7 @@ pub mod InvWrite
 pub mod InvTicks
 pub mod InvMoves
 pub mod InvLocks
+pub mod InvQueue
 pub mod InvBarrier
 pub mod InvRound
 pub mod InvCollect

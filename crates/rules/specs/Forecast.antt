@@ -11,8 +11,8 @@ use Rattle.rules.specs.InOrder.{dirtyPages}
 use Rattle.rules.specs.Lines.{lockAsked, lockHanded}
 use Rattle.rules.specs.Opening.{zeroPages, zeroMarks}
 use Rattle.rules.specs.Close.{anyDirty, cleaned}
-use Rattle.rules.specs.Steps.{pageOfWord, allArrived, wantsCollection}
-use Rattle.rules.specs.Refusals.{Step, Action, Read, Write, Acquire, Release, Arrive, Want, TallyAdd, TallyRead, Unknown, actionOf, refusalBy, answer, next}
+use Rattle.rules.specs.Steps.{pageOfWord, allArrived, wantsCollection, withNewJob, withoutOldest}
+use Rattle.rules.specs.Refusals.{Step, Action, Read, Write, Acquire, Release, Arrive, Want, TallyAdd, TallyRead, Enqueue, Dequeue, Unknown, actionOf, refusalBy, answer, next}
 
 -- the counts, the own entry of each processor (by its number), which pages are dirty, how many records stand, and the marks
 pub record Forecast : Type 0 where
@@ -22,16 +22,16 @@ pub record Forecast : Type 0 where
   pub standing : ℕ
   pub marks : Marks
 
--- a state of which only these are known: no clock, no page, no record and no tally has anything in it
+-- a state of which only these are known: no clock, no page, no record, no tally and no job has anything in it
 unfoldable pub bare : Forecast → State
 bare f =
     record {
       counts = f .counts;
-      clocks = record { processors = []; locks = []; barrier = []; applied = []; intervals = [] };
+      clocks = record { processors = []; locks = []; barrier = []; applied = []; intervals = []; jobs = [] };
       pages = record { copies = []; twins = []; dirty = f .dirty };
       records = record { standing = f .standing; slots = [] };
       marks = f .marks;
-      shared = record { posted = []; adds = [] };
+      shared = record { posted = []; adds = []; values = [] };
     }
 
 -- the own entry of a processor
@@ -103,6 +103,8 @@ forecastAfter lim f p Arrive = completedFor (barrierFor (closedFor f p) p)
 forecastAfter lim f p Want = marksFor f (withWanted (f .marks) (cond (wantsCollection (bare f)) (f .marks .wanted) 1))
 forecastAfter lim f p (TallyAdd t v) = f
 forecastAfter lim f p (TallyRead t) = f
+forecastAfter lim f p (Enqueue v) = let f₁ = closedFor f p in marksFor f₁ (withNewJob (f₁ .marks))
+forecastAfter lim f p Dequeue = let f₁ = closedFor f p in marksFor f₁ (withoutOldest lim (f₁ .marks))
 forecastAfter lim f p Unknown = f
 
 -- what a step leaves, refused or not

@@ -8,7 +8,7 @@ use Rattle.lists.specs.Tables.{every, any, total}
 use Rattle.limits.specs.Limits.{slotHead}
 use Rattle.clock.specs.Clocks.{covered, entryOf}
 use Rattle.diff.specs.Reading.{readRefusal}
-use Rattle.rules.specs.State.{Limits, Counts, Holder, Processor, Lock, Barrier, Applied, Interval, clockOf, copyOf, twinOf, dirtyAt, Record, recordIn, Marks, State, clock, own, holder, hasArrived}
+use Rattle.rules.specs.State.{Limits, Counts, Holder, Processor, Lock, Barrier, Applied, Interval, Job, clockOf, copyOf, twinOf, dirtyAt, Record, recordIn, Marks, State, clock, own, holder, hasArrived}
 use Rattle.rules.specs.Lines.{waits, waitsFor, turnOf}
 
 -- a present processor: "Cards numbered from 1; 0 means nobody"
@@ -31,6 +31,7 @@ everyHolder lim t =
     && t Barrier
     && everyPage lim (λ p g. t (Applied p g))
     && everyProcessor lim (λ p. every (lim .intervals) (λ k. t (Interval p (suc k))))
+    && every (lim .jobs) (λ k. t (Job k))
 
 -- ---- "its size is the fixed one"
 
@@ -66,6 +67,8 @@ sized lim s =
     && eqb (length (s .marks .turns)) (suc (lim .processors))
     && eqb (length (s .shared .posted)) (lim .tallies)
     && rowsSized lim (lim .tallies) (s .shared .adds)
+    && eqb (length (s .clocks .jobs)) (lim .jobs)
+    && eqb (length (s .shared .values)) (lim .jobs)
 
 -- ---- "counts of cards, pages and locks are in range"
 
@@ -86,6 +89,7 @@ presentHolder s (Lock l) = ltb l (s .counts .locks)
 presentHolder s Barrier = true
 presentHolder s (Applied p g) = present s p && ltb g (s .counts .pages)
 presentHolder s (Interval p i) = present s p
+presentHolder s (Job k) = true
 
 -- every number of a list is 0
 unfoldable pub allZero : List ℕ → Bool
@@ -223,6 +227,13 @@ linesSound s =
 unfoldable pub holdersAway : Limits → State → Bool
 holdersAway lim s = every (lim .locks) (λ l. eqb (holder s l) 0 || not (hasArrived s (holder s l)))
 
+-- ---- L9: "A state in order has at most 32 jobs, and their clocks keep the bound of every clock": for the clocks see `entriesKnown`, which holds
+-- of every place of the queue
+
+-- the oldest job has one of its places, if it has any, and there are no more jobs than places
+unfoldable pub queueSound : Limits → State → Bool
+queueSound lim s = (eqb (lim .jobs) 0 || ltb (s .marks .first) (lim .jobs)) && leb (s .marks .jobs) (lim .jobs)
+
 -- all of the above
 unfoldable pub inOrder : Limits → State → Bool
 inOrder lim s =
@@ -239,3 +250,4 @@ inOrder lim s =
     && someoneMissing s
     && linesSound s
     && holdersAway lim s
+    && queueSound lim s

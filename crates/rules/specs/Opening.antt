@@ -31,6 +31,7 @@ zeroClocks lim =
       barrier = zeros (lim .processors);
       applied = rows (lim .processors) (replicate (lim .pages) (zeros (lim .processors)));
       intervals = rows (lim .processors) ([] ∷ replicate (lim .intervals) (zeros (lim .processors)));
+      jobs = replicate (lim .jobs) (zeros (lim .processors));
     }
 
 -- "Each card starts with a copy of 256 words, all 0", and every page is clean
@@ -51,11 +52,13 @@ zeroMarks lim =
       wanted = 0;
       awaited = replicate (suc (lim .processors)) 0;
       turns = replicate (suc (lim .processors)) 0;
+      first = 0;
+      jobs = 0;
     }
 
--- nothing is posted or added
+-- nothing is posted or added, and no job has been put anywhere
 unfoldable pub zeroShared : Limits → Shared
-zeroShared lim = record { posted = replicate (lim .tallies) 0; adds = rows (lim .processors) (replicate (lim .tallies) 0) }
+zeroShared lim = record { posted = replicate (lim .tallies) 0; adds = rows (lim .processors) (replicate (lim .tallies) 0); values = replicate (lim .jobs) 0 }
 
 -- the state that an accepted opening leaves
 unfoldable pub opened : Limits → Counts → State

@@ -7,7 +7,7 @@ use mathlib.Core.Logic.{_⊎_}
 use mathlib.Core.List.{List, [], _∷_}
 use lib.ListN.{getD}
 use lib.Dec.{eqb}
-use Rattle.rules.specs.Refusals.{Step, Action, Acquire, Release, Arrive, actionOf, Answer}
+use Rattle.rules.specs.Refusals.{Step, Action, Acquire, Release, Arrive, Enqueue, Dequeue, actionOf, Answer}
 
 -- a step of the list: its fields, and whether it was accepted. "A step is accepted exactly when its refusal is 0"
 pub record Event : Type 0 where
@@ -79,6 +79,22 @@ pub record Serves (es : List Event) (l i p a q : ℕ) : Type 0 where
   pub waited : a < i
   pub next : counted (isAcquireOf l) es a ≡ counted (isReleaseOf l) es i + 1
 
+-- L9: an accepted enqueue
+unfoldable pub isEnqueue : Event → Bool
+isEnqueue e = e .accepted && eqb (e .step .kind) 10
+
+-- an accepted dequeue
+unfoldable pub isDequeue : Event → Bool
+isDequeue e = e .accepted && eqb (e .step .kind) 11
+
+-- "the dequeue that returns its job": the queue is "first in first out" and empty at the opening, so the dequeue that has m others before it returns the
+-- job of the enqueue that has m others before it
+pub record Returns (es : List Event) (i p v j q : ℕ) : Type 0 where
+  pub enqueue : Took es i p (Enqueue v)
+  pub dequeue : Took es j q Dequeue
+  pub waited : i < j
+  pub same : counted isEnqueue es i ≡ counted isDequeue es j
+
 -- the step at place i is before the step at place j
 pub data Before (n : ℕ) (es : List Event) : ℕ → ℕ → Type 0 where
   -- "a card's steps in their order"
@@ -89,6 +105,8 @@ pub data Before (n : ℕ) (es : List Event) : ℕ → ℕ → Type 0 where
   round : {i j : ℕ} (p q : ℕ) (b : Action) → Took es i p Arrive → Took es j q b → rounds n es i < rounds n es j → Before n es i j
   -- L1: "the release precedes the waiter's next step", and so each later one
   granted : {i j : ℕ} (p q l a : ℕ) (b : Action) → Serves es l i p a q → Took es j q b → i < j → Before n es i j
+  -- L9: "An enqueue precedes in happens-before-1 the dequeue that returns its job, and of itself no other"
+  job : {i j : ℕ} (p v q : ℕ) → Returns es i p v j q → Before n es i j
   -- "what follows by chaining"
   chain : {i j : ℕ} (k : ℕ) → Before n es i k → Before n es k j → Before n es i j
 

@@ -7,7 +7,7 @@ use Rattle.rules.specs.State.{Limits, dirtyAt, State, own, holder, hasAr
 use Rattle.rules.specs.InOrder.{present, dirtyPages}
 use Rattle.rules.specs.Lines.{waits}
 use Rattle.rules.specs.Steps.{pageOfWord}
-use Rattle.rules.specs.Refusals.{Step, Write, Acquire, Release, Arrive, actionOf, knownKind, fits}
+use Rattle.rules.specs.Refusals.{Step, Write, Acquire, Release, Arrive, Enqueue, Dequeue, actionOf, knownKind, fits}
 
 -- the rows for every step, down to 6
 pub record Addressed (lim : Limits) (s : State) (t : Step) : Type 0 where
@@ -44,3 +44,7 @@ pub record NoRowApplies (lim : Limits) (s : State) (t : Step) : Type 0 where
   -- 10: and there is room for a record
   pub has-room : (w v : ℕ) → actionOf t ≡ Write w v → dirtyAt (s .pages) (t .processor) (pageOfWord lim w) ≡ false
       → s .records .standing + dirtyPages s ≡ lim .records → ⊥
+  -- 19: who enqueues finds a free place
+  pub has-place : (v : ℕ) → actionOf t ≡ Enqueue v → s .marks .jobs ≡ lim .jobs → ⊥
+  -- 20: who dequeues finds a job
+  pub has-job : actionOf t ≡ Dequeue → s .marks .jobs ≡ 0 → ⊥

@@ -6,10 +6,10 @@ use mathlib.Core.List.{List, [], _∷_, _++_, map}
 use lib.ListN.{length, getD, take, drop}
 use lib.Dec.{eqb}
 use Rattle.lists.specs.Tables.{put, cell, putCell}
-use Rattle.limits.specs.Limits.{processorLimit, pageLimit, pageWidth, lockLimit, recordLimit, intervalLimit, tallyLimit, slotHead}
+use Rattle.limits.specs.Limits.{processorLimit, pageLimit, pageWidth, lockLimit, recordLimit, intervalLimit, tallyLimit, jobLimit, slotHead}
 use Rattle.clock.specs.Clocks.{entryOf}
 
--- how many processors, pages, words of a page, locks, records, intervals of a processor and tallies there can be
+-- how many processors, pages, words of a page, locks, records, intervals of a processor, tallies and jobs of the queue there can be
 pub record Limits : Type 0 where
   pub processors : ℕ
   pub pages : ℕ
@@ -18,8 +18,9 @@ pub record Limits : Type 0 where
   pub records : ℕ
   pub intervals : ℕ
   pub tallies : ℕ
+  pub jobs : ℕ
 
--- those of document 01, with document 02's tallies
+-- those of document 01, with document 02's tallies and queue
 unfoldable pub mainframe : Limits
 mainframe =
     record {
@@ -30,6 +31,7 @@ mainframe =
       records = recordLimit;
       intervals = intervalLimit;
       tallies = tallyLimit;
+      jobs = jobLimit;
     }
 
 -- how many processors, pages and locks the opening gave: the others are absent
@@ -39,13 +41,14 @@ pub record Counts : Type 0 where
   pub locks : ℕ
 
 -- whoever has a clock: "Each card has a clock, and for each page an applied clock. A lock has a clock. The barrier has a clock. Each
--- interval keeps the clock of its card just after closing"
+-- interval keeps the clock of its card just after closing". L9: a job, by its place in the queue, "the value with the card's clock"
 pub data Holder : Type 0 where
   Processor : ℕ → Holder
   Lock : ℕ → Holder
   Barrier : Holder
   Applied : ℕ → ℕ → Holder
   Interval : ℕ → ℕ → Holder
+  Job : ℕ → Holder
 
 pub record Clocks : Type 0 where
   pub processors : List (List ℕ)
@@ -53,6 +56,7 @@ pub record Clocks : Type 0 where
   pub barrier : List ℕ
   pub applied : List (List (List ℕ))
   pub intervals : List (List (List ℕ))
+  pub jobs : List (List ℕ)
 
 -- the clock of a holder
 unfoldable pub clockOf : Clocks → Holder → List ℕ
@@ -61,19 +65,22 @@ clockOf c (Lock l) = getD (c .locks) l []
 clockOf c Barrier = c .barrier
 clockOf c (Applied p g) = cell [] (c .applied) p g
 clockOf c (Interval p i) = cell [] (c .intervals) p i
+clockOf c (Job k) = getD (c .jobs) k []
 
 -- the clocks with one of them replaced
 unfoldable pub withClock : Clocks → Holder → List ℕ → Clocks
 withClock c (Processor p) v =
-    record { processors = put [] (c .processors) p v; locks = c .locks; barrier = c .barrier; applied = c .applied; intervals = c .intervals }
+    record { processors = put [] (c .processors) p v; locks = c .locks; barrier = c .barrier; applied = c .applied; intervals = c .intervals; jobs = c .jobs }
 withClock c (Lock l) v =
-    record { processors = c .processors; locks = put [] (c .locks) l v; barrier = c .barrier; applied = c .applied; intervals = c .intervals }
+    record { processors = c .processors; locks = put [] (c .locks) l v; barrier = c .barrier; applied = c .applied; intervals = c .intervals; jobs = c .jobs }
 withClock c Barrier v =
-    record { processors = c .processors; locks = c .locks; barrier = v; applied = c .applied; intervals = c .intervals }
+    record { processors = c .processors; locks = c .locks; barrier = v; applied = c .applied; intervals = c .intervals; jobs = c .jobs }
 withClock c (Applied p g) v =
-    record { processors = c .processors; locks = c .locks; barrier = c .barrier; applied = putCell [] (c .applied) p g v; intervals = c .intervals }
+    record { processors = c .processors; locks = c .locks; barrier = c .barrier; applied = putCell [] (c .applied) p g v; intervals = c .intervals; jobs = c .jobs }
 withClock c (Interval p i) v =
-    record { processors = c .processors; locks = c .locks; barrier = c .barrier; applied = c .applied; intervals = putCell [] (c .intervals) p i v }
+    record { processors = c .processors; locks = c .locks; barrier = c .barrier; applied = c .applied; intervals = putCell [] (c .intervals) p i v; jobs = c .jobs }
+withClock c (Job k) v =
+    record { processors = c .processors; locks = c .locks; barrier = c .barrier; applied = c .applied; intervals = c .intervals; jobs = put [] (c .jobs) k v }
 
 -- a clock of which every entry is 0
 unfoldable pub cleared : List ℕ → List ℕ
@@ -133,35 +140,42 @@ appended r new =
 
 -- "A lock has a holder. The barrier has an arrived mark for each card and a mark that collection is wanted". "The lock's record gains its
 -- line of waiters" (document 02, L1), which is kept with those who stand in it, by processor: the lock that it waits for, plus 1, or 0; and
--- its turn, how many of that lock's waiters stand before it
+-- its turn, how many of that lock's waiters stand before it. The queue (L9): the place of the oldest job, and how many jobs wait
 pub record Marks : Type 0 where
   pub holders : List ℕ
   pub arrived : List ℕ
   pub wanted : ℕ
   pub awaited : List ℕ
   pub turns : List ℕ
+  pub first : ℕ
+  pub jobs : ℕ
 
 -- the marks with other arrived marks, the rest kept
 abbrev pub withArrived : Marks → List ℕ → Marks
-withArrived m l = record { holders = m .holders; arrived = l; wanted = m .wanted; awaited = m .awaited; turns = m .turns }
+withArrived m l = record { holders = m .holders; arrived = l; wanted = m .wanted; awaited = m .awaited; turns = m .turns; first = m .first; jobs = m .jobs }
 
 -- with another wish
 abbrev pub withWanted : Marks → ℕ → Marks
-withWanted m w = record { holders = m .holders; arrived = m .arrived; wanted = w; awaited = m .awaited; turns = m .turns }
+withWanted m w = record { holders = m .holders; arrived = m .arrived; wanted = w; awaited = m .awaited; turns = m .turns; first = m .first; jobs = m .jobs }
 
 -- with another holder of a lock
 unfoldable pub withHolder : Marks → ℕ → ℕ → Marks
-withHolder m l p = record { holders = put 0 (m .holders) l p; arrived = m .arrived; wanted = m .wanted; awaited = m .awaited; turns = m .turns }
+withHolder m l p = record { holders = put 0 (m .holders) l p; arrived = m .arrived; wanted = m .wanted; awaited = m .awaited; turns = m .turns; first = m .first; jobs = m .jobs }
 
 -- with other waiters and turns
 abbrev pub withLines : Marks → List ℕ → List ℕ → Marks
-withLines m a t = record { holders = m .holders; arrived = m .arrived; wanted = m .wanted; awaited = a; turns = t }
+withLines m a t = record { holders = m .holders; arrived = m .arrived; wanted = m .wanted; awaited = a; turns = t; first = m .first; jobs = m .jobs }
+
+-- with another place of the oldest job, and another number of jobs
+abbrev pub withQueue : Marks → ℕ → ℕ → Marks
+withQueue m f j = record { holders = m .holders; arrived = m .arrived; wanted = m .wanted; awaited = m .awaited; turns = m .turns; first = f; jobs = j }
 
 -- what the processors share beside the pages. The tallies (document 02, L4): of each "the total posted at the last completed round", and the adds of
--- each processor since
+-- each processor since. The queue (L9): of each of its places the value of the job there
 pub record Shared : Type 0 where
   pub posted : List ℕ
   pub adds : List (List ℕ)
+  pub values : List ℕ
 
 -- the posted total of a tally
 unfoldable pub postedOf : Shared → ℕ → ℕ
@@ -170,6 +184,14 @@ postedOf h t = getD (h .posted) t 0
 -- what a processor has added to it since
 unfoldable pub addsOf : Shared → ℕ → ℕ → ℕ
 addsOf h p t = cell 0 (h .adds) p t
+
+-- the value of the job at a place of the queue
+abbrev pub jobValue : Shared → ℕ → ℕ
+jobValue h k = getD (h .values) k 0
+
+-- with another value there
+abbrev pub withJobValue : Shared → ℕ → ℕ → Shared
+withJobValue h k v = record { posted = h .posted; adds = h .adds; values = put 0 (h .values) k v }
 
 pub record State : Type 0 where
   pub counts : Counts

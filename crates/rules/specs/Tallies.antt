@@ -8,7 +8,7 @@ use Rattle.rules.specs.State.{Shared, postedOf, addsOf}
 
 -- "Kind 8 adds the value to the tally named by the object"
 unfoldable pub tallyAdded : Shared → ℕ → ℕ → ℕ → Shared
-tallyAdded h p t v = record { posted = h .posted; adds = putCell 0 (h .adds) p t ((addsOf h p t + v) % wordValues) }
+tallyAdded h p t v = record { posted = h .posted; adds = putCell 0 (h .adds) p t ((addsOf h p t + v) % wordValues); values = h .values }
 
 -- "Kind 9 answers the posted total plus the card's own adds since, wrapped"
 unfoldable pub tallyTotal : Shared → ℕ → ℕ → ℕ
@@ -20,4 +20,4 @@ totalAfter h n t = (postedOf h t + total n (λ k. addsOf h (suc k) t)) % wordVal
 
 -- every tally posted, and nothing added since
 unfoldable pub posting : Shared → ℕ → Shared
-posting h n = record { posted = tabulate (length (h .posted)) (totalAfter h n); adds = map (map (λ add. 0)) (h .adds) }
+posting h n = record { posted = tabulate (length (h .posted)) (totalAfter h n); adds = map (map (λ add. 0)) (h .adds); values = h .values }

@@ -11,7 +11,7 @@ use Rattle.rules.specs.State.{Limits, State, own, holder, hasArrived}
 use Rattle.rules.specs.Lines.{waits}
 use Rattle.rules.specs.InOrder.{present}
 use Rattle.rules.specs.Steps.{pageOfWord}
-use Rattle.rules.specs.Refusals.{TallyAdd, Step, Action, Read, Write, Acquire, Release, Arrive, actionOf, knownKind, objectBound, usesValue, fits, holdsAny, lateRefusal, refusalBy, refusalInOrder}
+use Rattle.rules.specs.Refusals.{TallyAdd, Step, Action, Read, Write, Acquire, Release, Arrive, Enqueue, Dequeue, actionOf, knownKind, objectBound, usesValue, fits, holdsAny, lateRefusal, refusalBy, refusalInOrder}
 use Rattle.rules.proofs.inorder.KindsOfSteps.{objectIn, object-in}
 use Rattle.rules.proofs.inorder.KeptParts.{among-says, among-when}
 
@@ -54,6 +54,23 @@ late-arrive lim s e p z = go (holdsAny lim s p) refl z
     go : (b : Bool) → holdsAny lim s p ≡ b → cond {A = ℕ} b 18 0 ≡ 0 → holdsAny lim s p ≡ false
     go true d z = absurd (omega (arith, z))
     go false d z = d
+
+-- an enqueue that is not refused finds room, and a dequeue a job
+pub late-enqueue : (lim : Limits) (s : State) (e p v : ℕ) → lateRefusal lim s e p (Enqueue v) ≡ 0 → s .marks .jobs ≡ lim .jobs → ⊥
+unfolding lateRefusal
+late-enqueue lim s e p v z same = go (eqb (s .marks .jobs) (lim .jobs)) refl z
+  where
+    go : (b : Bool) → eqb (s .marks .jobs) (lim .jobs) ≡ b → cond {A = ℕ} b 19 0 ≡ 0 → ⊥
+    go true d z = omega (arith, z)
+    go false d z = eqb-false (s .marks .jobs) (lim .jobs) d same
+
+pub late-dequeue : (lim : Limits) (s : State) (e p : ℕ) → lateRefusal lim s e p Dequeue ≡ 0 → s .marks .jobs ≡ 0 → ⊥
+unfolding lateRefusal
+late-dequeue lim s e p z same = go (eqb (s .marks .jobs) 0) refl z
+  where
+    go : (b : Bool) → eqb (s .marks .jobs) 0 ≡ b → cond {A = ℕ} b 20 0 ≡ 0 → ⊥
+    go true d z = omega (arith, z)
+    go false d z = eqb-false (s .marks .jobs) 0 d same
 
 -- ---- a present processor is 1 to the number of processors
 

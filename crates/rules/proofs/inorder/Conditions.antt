@@ -10,7 +10,7 @@ use Rattle.lists.proofs.Conditions.{conjoined}
 use Rattle.clock.specs.Clocks.{entryOf}
 use Rattle.rules.specs.State.{Limits, Counts, Lock, Applied, Interval, clockOf, copyOf, twinOf, dirtyAt, Record, State, own, holder, hasArrived}
 use Rattle.rules.specs.Lines.{waits, waitsFor, turnOf}
-use Rattle.rules.specs.InOrder.{present, everyProcessor, everyPage, everyHolder, slotSize, rowsSized, sized, inRange, countsInRange, presentHolder, allZero, absentZero, laterIntervalsZero, entriesKnown, appliedKnown, recordSound, recordsSound, roomKept, dirtyHaveInterval, holdersPresent, holdersAway, someoneMissing, standBefore, waiterSound, apartInLine, linesSound, inOrder}
+use Rattle.rules.specs.InOrder.{present, everyProcessor, everyPage, everyHolder, slotSize, rowsSized, sized, inRange, countsInRange, presentHolder, allZero, absentZero, laterIntervalsZero, entriesKnown, appliedKnown, recordSound, recordsSound, roomKept, dirtyHaveInterval, holdersPresent, holdersAway, queueSound, someoneMissing, standBefore, waiterSound, apartInLine, linesSound, inOrder}
 
 -- of the size
 unfoldable pub sizedTests : Limits → State → List Bool
@@ -35,6 +35,8 @@ sizedTests lim s =
     ∷ eqb (length (s .marks .turns)) (suc (lim .processors))
     ∷ eqb (length (s .shared .posted)) (lim .tallies)
     ∷ rowsSized lim (lim .tallies) (s .shared .adds)
+    ∷ eqb (length (s .clocks .jobs)) (lim .jobs)
+    ∷ eqb (length (s .shared .values)) (lim .jobs)
     ∷ []
 
 -- the test is the conjunction of the list
@@ -124,6 +126,7 @@ orderTests lim s =
     ∷ someoneMissing s
     ∷ linesSound s
     ∷ holdersAway lim s
+    ∷ queueSound lim s
     ∷ []
 
 -- the test is the conjunction of the list

@@ -14,7 +14,7 @@ use Rattle.lists.proofs.Tables.{every-at, every-holds}
 use Rattle.lists.proofs.Conditions.{and-left, and-right, and-both, conjoined, Given, conjoined-at, conjoined-holds}
 use Rattle.clock.specs.Clocks.{covered, entryOf}
 use Rattle.clock.proofs.Laws.{covered→Covers, Covers→covered}
-use Rattle.rules.specs.State.{Limits, Holder, Processor, Lock, Barrier, Applied, Interval}
+use Rattle.rules.specs.State.{Limits, Holder, Processor, Lock, Barrier, Applied, Interval, Job}
 use Rattle.rules.specs.InOrder.{everyProcessor, everyPage, everyHolder, allZero}
 use Rattle.rules.proofs.inorder.Facts.{Within}
 
@@ -66,6 +66,7 @@ holderTests lim t =
     ∷ t Barrier
     ∷ everyPage lim (λ (p g : ℕ). t (Applied p g))
     ∷ everyProcessor lim (λ (p : ℕ). every (lim .intervals) (λ (k : ℕ). t (Interval p (suc k))))
+    ∷ every (lim .jobs) (λ (k : ℕ). t (Job k))
     ∷ []
 
 holder-tests : (lim : Limits) (t : Holder → Bool) → everyHolder lim t ≡ conjoined (holderTests lim t)
@@ -83,6 +84,7 @@ every-holder-at lim t h e = go h (λ i. conjoined-at (holderTests lim t) i (sym 
     go Barrier part w = part 2
     go (Applied p g) part w = every-page-at lim (λ (p g : ℕ). t (Applied p g)) p g (part 3) (w .0) (w .1) (w .2)
     go (Interval p i) part w = every-interval-at lim (λ (p i : ℕ). t (Interval p i)) p i (part 4) (w .0) (w .1) (w .2) (w .3)
+    go (Job k) part w = every-at (lim .jobs) (λ (k : ℕ). t (Job k)) k (part 5) w
 
 -- a test that each clock passes
 pub every-holder-holds : (lim : Limits) (t : Holder → Bool) → ((h : Holder) → Within lim h → t h ≡ true) → everyHolder lim t ≡ true
@@ -95,6 +97,7 @@ every-holder-holds lim t h =
     (h Barrier tt)
     (every-page-holds lim (λ (p g : ℕ). t (Applied p g)) (λ p g k l m. h (Applied p g) (k, l, m)))
     (every-interval-holds lim (λ (p i : ℕ). t (Interval p i)) (λ p i k l m n. h (Interval p i) (k, l, m, n)))
+    (every-holds (lim .jobs) (λ (k : ℕ). t (Job k)) (λ k l. h (Job k) l))
 
 -- whether the tables have a place for a holder
 pub has-place : (lim : Limits) (h : Holder) → Dec (Within lim h)
@@ -123,6 +126,7 @@ has-place lim (Interval p i) = go (decLe 1 p) (decLe p (lim .processors)) (decLe
     go (yes a) (yes b) (no c) d = no (λ w. c (w .2))
     go (yes a) (no b) c d = no (λ w. b (w .1))
     go (no a) b c d = no (λ w. a (w .0))
+has-place lim (Job k) = decLe (suc k) (lim .jobs)
 
 -- a fact about a holder that has a place and about one that has none
 pub by-place : {A : Type 0} (lim : Limits) (h : Holder) → (Within lim h → A) → ((Within lim h → ⊥) → A) → A

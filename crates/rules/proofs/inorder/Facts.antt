@@ -11,7 +11,7 @@ use Rattle.lists.proofs.Tables.{Passes}
 use Rattle.limits.specs.Limits.{slotHead}
 use Rattle.clock.specs.Clocks.{entryOf}
 use Rattle.diff.specs.Reading.{readRefusal}
-use Rattle.rules.specs.State.{Limits, Counts, Holder, Processor, Lock, Barrier, Applied, Interval, clockOf, copyOf, twinOf, dirtyAt, Marks, addsOf, State, clock, own, holder, hasArrived}
+use Rattle.rules.specs.State.{Limits, Counts, Holder, Processor, Lock, Barrier, Applied, Interval, Job, clockOf, copyOf, twinOf, dirtyAt, Marks, addsOf, State, clock, own, holder, hasArrived}
 use Rattle.rules.specs.Lines.{waits, turnOf}
 use Rattle.rules.specs.InOrder.{present, slotSize, presentHolder, recordAt, sameNotice, dirtyPages}
 use Rattle.rules.proofs.state.Lines.{Lines}
@@ -24,6 +24,7 @@ Within lim (Lock l) = l < lim .locks
 Within lim Barrier = Unit
 Within lim (Applied p g) = (1 ≤ p) × (p ≤ lim .processors) × (g < lim .pages)
 Within lim (Interval p i) = (1 ≤ p) × (p ≤ lim .processors) × (1 ≤ i) × (i ≤ lim .intervals)
+Within lim (Job k) = k < lim .jobs
 
 -- the lengths of the tables, and that nobody's places are empty
 pub record Sized (lim : Limits) (s : State) : Type 0 where
@@ -37,6 +38,7 @@ pub record Sized (lim : Limits) (s : State) : Type 0 where
   pub nobody-interval : length (getD (s .clocks .intervals) 0 []) ≡ 0
   pub interval-row : (p : ℕ) → 1 ≤ p → p ≤ lim .processors → length (getD (s .clocks .intervals) p []) ≡ suc (lim .intervals)
   pub no-interval : (p : ℕ) → 1 ≤ p → p ≤ lim .processors → length (clockOf (s .clocks) (Interval p 0)) ≡ 0
+  pub jobs : length (s .clocks .jobs) ≡ lim .jobs
   pub clocks : (h : Holder) → Within lim h → length (clockOf (s .clocks) h) ≡ lim .processors
   pub copies : length (s .pages .copies) ≡ suc (lim .processors)
   pub nobody-copy : length (getD (s .pages .copies) 0 []) ≡ 0
@@ -57,6 +59,7 @@ pub record Sized (lim : Limits) (s : State) : Type 0 where
   pub awaited : length (s .marks .awaited) ≡ suc (lim .processors)
   pub turns : length (s .marks .turns) ≡ suc (lim .processors)
   pub posted : length (s .shared .posted) ≡ lim .tallies
+  pub values : length (s .shared .values) ≡ lim .jobs
   pub adds : length (s .shared .adds) ≡ suc (lim .processors)
   pub nobody-adds : length (getD (s .shared .adds) 0 []) ≡ 0
   pub adds-row : (p : ℕ) → 1 ≤ p → p ≤ lim .processors → length (getD (s .shared .adds) p []) ≡ lim .tallies
@@ -109,6 +112,8 @@ pub record InOrder (lim : Limits) (s : State) : Type 0 where
   pub someone-missing : Passes (s .counts .processors) (λ k. not (hasArrived s (suc k)))
   pub lines : LinesInOrder (s .counts) (s .marks)
   pub holder-away : (l : ℕ) → (holder s l ≡ 0) ⊎ (hasArrived s (holder s l) ≡ false)
+  pub first-there : (lim .jobs ≡ 0) ⊎ (s .marks .first < lim .jobs)
+  pub few-jobs : s .marks .jobs ≤ lim .jobs
 
 -- ---- what follows at once
 

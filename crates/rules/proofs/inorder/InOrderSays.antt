@@ -3,8 +3,8 @@ use Prim.Native.Nat.{ℕ, suc, _+_, _≤_, _<_}
 use native.Mathlib.Omega.{arith}
 use native.Mathlib.Nat.{lt-of-not-le}
 use native.Mathlib.Decide.{decLt}
-use mathlib.Core.Path.{_≡_, sym, ap, _∙_}
-use mathlib.Core.Bool.{Bool, true, false, not, _&&_, _||_, false≢true}
+use mathlib.Core.Path.{_≡_, sym, ap, _∙_, refl}
+use mathlib.Core.Bool.{Bool, true, false, not, _&&_, _||_, false≢true, and-eq-true-iff}
 use mathlib.Core.Logic.{_⊎_, inl, inr}
 use mathlib.Core.List.{List, []}
 use lib.ListN.{getD}
@@ -18,7 +18,7 @@ use Rattle.clock.specs.Clocks.{entryOf}
 use Rattle.diff.specs.Reading.{readRefusal}
 use Rattle.rules.specs.State.{addsOf, Limits, Holder, Processor, Lock, Applied, Interval, clockOf, copyOf, twinOf, dirtyAt, State, clock, own, holder, hasArrived}
 use Rattle.rules.specs.Lines.{waits, waitsFor, turnOf}
-use Rattle.rules.specs.InOrder.{present, everyProcessor, everyPage, everyHolder, slotSize, sized, inRange, presentHolder, allZero, absentZero, laterIntervalsZero, entriesKnown, appliedKnown, recordAt, diffLegal, recordSound, sameNotice, recordsSound, roomKept, dirtyHaveInterval, holdersPresent, holdersAway, someoneMissing, standBefore, waiterSound, apartInLine, inOrder}
+use Rattle.rules.specs.InOrder.{present, everyProcessor, everyPage, everyHolder, slotSize, sized, inRange, presentHolder, allZero, absentZero, laterIntervalsZero, entriesKnown, appliedKnown, recordAt, diffLegal, recordSound, sameNotice, recordsSound, roomKept, dirtyHaveInterval, holdersPresent, holdersAway, queueSound, someoneMissing, standBefore, waiterSound, apartInLine, inOrder}
 use Rattle.rules.proofs.state.Lines.{ahead, Lines}
 use Rattle.rules.proofs.state.Waiters.{awaits, turnAt, waits-for-when, waiter-waits}
 use Rattle.rules.proofs.inorder.Facts.{Within, Sized, RecordSound, LinesInOrder, InOrder}
@@ -53,6 +53,7 @@ module _ (lim : Limits) (s : State) where
             nobody-interval = intervals .nobody;
             interval-row = intervals .row;
             no-interval = λ p h k. eqb-true _ _ (every-processor-at lim _ p (part 4) h k);
+            jobs = eqb-true _ _ (part 20);
             clocks = λ h w. eqb-true _ _ (every-holder-at lim _ h (part 5) w);
             copies = copies .processors;
             nobody-copy = copies .nobody;
@@ -73,6 +74,7 @@ module _ (lim : Limits) (s : State) where
             awaited = eqb-true _ _ (part 16);
             turns = eqb-true _ _ (part 17);
             posted = eqb-true _ _ (part 18);
+            values = eqb-true _ _ (part 21);
             adds = adds .processors;
             nobody-adds = adds .nobody;
             adds-row = adds .row;
@@ -232,6 +234,18 @@ module _ (lim : Limits) (s : State) where
       go (inl k) = inl (eqb-true _ _ k)
       go (inr k) = inr k
 
+  first-there-says : queueSound lim s ≡ true → (lim .jobs ≡ 0) ⊎ (s .marks .first < lim .jobs)
+  unfolding queueSound
+  first-there-says e = go (eqb (lim .jobs) 0) refl (and-eq-true-iff (eqb (lim .jobs) 0 || ltb (s .marks .first) (lim .jobs)) (leb (s .marks .jobs) (lim .jobs)) .0 e .0)
+    where
+      go : (b : Bool) → eqb (lim .jobs) 0 ≡ b → (b || ltb (s .marks .first) (lim .jobs)) ≡ true → (lim .jobs ≡ 0) ⊎ (s .marks .first < lim .jobs)
+      go true z h = inl (eqb-true (lim .jobs) 0 z)
+      go false z h = inr (ltb-true (s .marks .first) (lim .jobs) h)
+
+  few-jobs-says : queueSound lim s ≡ true → s .marks .jobs ≤ lim .jobs
+  unfolding queueSound
+  few-jobs-says e = leb-true (s .marks .jobs) (lim .jobs) (and-eq-true-iff (eqb (lim .jobs) 0 || ltb (s .marks .first) (lim .jobs)) (leb (s .marks .jobs) (lim .jobs)) .0 e .1)
+
   holder-away-says : Sized lim s → holdersAway lim s ≡ true → (l : ℕ) → (holder s l ≡ 0) ⊎ (hasArrived s (holder s l) ≡ false)
   unfolding holdersAway Within
   holder-away-says z e l =
@@ -338,4 +352,6 @@ in-order-says lim s e = go (λ i. conjoined-at (orderTests lim s) i (sym (order-
           someone-missing = any-at _ _ (part 10);
           lines = lines-say s (λ i. conjoined-at (lineTests s) i (sym (line-tests s) ∙ part 11));
           holder-away = holder-away-says lim s z (part 12);
+          first-there = first-there-says lim s (part 13);
+          few-jobs = few-jobs-says lim s (part 13);
         }

@@ -6,7 +6,7 @@ use mathlib.Core.Bool.{Bool, true, false, not, _&&_, _||_}
 use mathlib.Core.Logic.{_⊎_, inl, inr}
 use mathlib.Core.List.{[]}
 use lib.ListN.{getD}
-use lib.Dec.{leb, eqb}
+use lib.Dec.{leb, eqb, ltb}
 use borrow.Author.Tests.{leb-false, not-false, lt-ltb, le-leb, eqb-true, eq-eqb, ne-eqb}
 use Rattle.lists.specs.Tables.{every}
 use Rattle.lists.proofs.Tables.{every-holds, any-holds}
@@ -16,7 +16,7 @@ use Rattle.clock.specs.Clocks.{entryOf}
 use Rattle.diff.specs.Reading.{readRefusal}
 use Rattle.rules.specs.State.{Limits, Holder, Lock, Applied, Interval, clockOf, copyOf, twinOf, dirtyAt, addsOf, State, clock, own, holder, hasArrived}
 use Rattle.rules.specs.Lines.{waits, waitsFor, turnOf}
-use Rattle.rules.specs.InOrder.{present, everyProcessor, everyHolder, slotSize, sized, inRange, countsInRange, presentHolder, allZero, absentZero, laterIntervalsZero, entriesKnown, appliedKnown, recordAt, diffLegal, recordSound, sameNotice, recordsSound, roomKept, dirtyHaveInterval, holdersPresent, holdersAway, someoneMissing, standBefore, waiterSound, apartInLine, linesSound, inOrder}
+use Rattle.rules.specs.InOrder.{present, everyProcessor, everyHolder, slotSize, sized, inRange, countsInRange, presentHolder, allZero, absentZero, laterIntervalsZero, entriesKnown, appliedKnown, recordAt, diffLegal, recordSound, sameNotice, recordsSound, roomKept, dirtyHaveInterval, holdersPresent, holdersAway, queueSound, someoneMissing, standBefore, waiterSound, apartInLine, linesSound, inOrder}
 use Rattle.rules.proofs.state.Lines.{ahead}
 use Rattle.rules.proofs.state.Waiters.{awaits, turnAt, waits-for-says}
 use Rattle.rules.proofs.inorder.Facts.{Sized, RecordSound, LinesInOrder, InOrder}
@@ -52,6 +52,8 @@ module _ (lim : Limits) (s : State) where
       (eq-eqb _ _ (z .turns))
       (eq-eqb _ _ (z .posted))
       (rows-sized-when lim (lim .tallies) (s .shared .adds) (adds-rows lim s z))
+      (eq-eqb _ _ (z .jobs))
+      (eq-eqb _ _ (z .values))
 
 in-range-when : (most n : ℕ) → 1 ≤ n → n ≤ most → inRange most n ≡ true
 unfolding inRange
@@ -140,6 +142,18 @@ module _ (lim : Limits) (s : State) (o : InOrder lim s) where
       go l (inl k) = inl (eq-eqb _ _ k)
       go l (inr k) = inr k
 
+  queue-when : queueSound lim s ≡ true
+  unfolding queueSound
+  queue-when = and-both (eqb (lim .jobs) 0 || ltb (s .marks .first) (lim .jobs)) (leb (s .marks .jobs) (lim .jobs)) (go (o .first-there)) (le-leb (s .marks .jobs) (lim .jobs) (o .few-jobs))
+    where
+      go : (lim .jobs ≡ 0) ⊎ (s .marks .first < lim .jobs) → (eqb (lim .jobs) 0 || ltb (s .marks .first) (lim .jobs)) ≡ true
+      go (inl z) = rw (eq-eqb (lim .jobs) 0 z)
+      go (inr z) = rw (lt-ltb (s .marks .first) (lim .jobs) z) (at (eqb (lim .jobs) 0))
+        where
+          at : (b : Bool) → (b || true) ≡ true
+          at true = refl
+          at false = refl
+
   holders-away-when : holdersAway lim s ≡ true
   unfolding holdersAway
   holders-away-when = every-holds (lim .locks) _ (λ l k. either-or (eqb (holder s l) 0) (not (hasArrived s (holder s l))) (go l (o .holder-away l)))
@@ -218,3 +232,4 @@ in-order-when lim s o =
     (someone-missing-when lim s o)
     (lines-when s (o .lines))
     (holders-away-when lim s o)
+    (queue-when lim s o)

@@ -9,10 +9,11 @@ use borrow.Author.Tests.{eqb-true, eqb-false}
 use Rattle.rules.specs.State.{Limits, dirtyAt, State, clock, own, holder, hasArrived}
 use Rattle.rules.specs.InOrder.{present, dirtyPages}
 use Rattle.rules.specs.Steps.{pageOfWord, read}
-use Rattle.rules.specs.Refusals.{Step, Action, Read, Write, Acquire, Release, Arrive, Want, TallyAdd, TallyRead, Unknown, actionOf, lateRefusal, refusalInOrder, effect, nextInOrder}
+use Rattle.rules.specs.Refusals.{Step, Action, Read, Write, Acquire, Release, Arrive, Want, TallyAdd, TallyRead, Enqueue, Dequeue, Unknown, actionOf, lateRefusal, refusalInOrder, effect, nextInOrder}
 use Rattle.rules.proofs.inorder.Facts.{InOrder}
 use Rattle.rules.proofs.inorder.KeptParts.{Parts, parts-of, in-order-of}
-use Rattle.rules.proofs.inorder.Accepted.{add-there, Accepted, accepted-says, read-on-page, write-on-page, acquire-there, release-there, late-acquire, late-arrive}
+use Rattle.rules.proofs.inorder.Accepted.{add-there, Accepted, accepted-says, read-on-page, write-on-page, acquire-there, release-there, late-acquire, late-arrive, late-enqueue, late-dequeue}
+use Rattle.rules.proofs.inorder.KeptQueue.{enqueue-parts, dequeue-parts}
 use Rattle.rules.specs.Tallies.{tallyAdded}
 use Rattle.rules.proofs.inorder.KeptShared.{shared-changed, added-in-order}
 use Rattle.rules.proofs.inorder.KeptFetch.{fetched-parts, MayDirty, write-parts}
@@ -61,6 +62,8 @@ effect-parts lim s t (TallyAdd j v) e f acc =
     shared-changed lim s (tallyAdded (s .shared) (t .processor) j v) f
     (added-in-order lim (s .counts) (s .shared) (t .processor) j v (f .counts) (f .shared) (acc .processor-present) (add-there lim s t j v e acc))
 effect-parts lim s t (TallyRead j) e f acc = f
+effect-parts lim s t (Enqueue j) e f acc = enqueue-parts lim s (t .processor) j f (acc .processor-present) (late-enqueue lim s (own s (t .processor)) (t .processor) j (rw e at (acc .not-late)))
+effect-parts lim s t Dequeue e f acc = dequeue-parts lim s (t .processor) f (acc .processor-present) (late-dequeue lim s (own s (t .processor)) (t .processor) (rw e at (acc .not-late)))
 effect-parts lim s t Unknown e f acc = f
 
 -- what an accepted step does keeps order

@@ -20,6 +20,7 @@ use Rattle.rules.specs.Refusals.{holdsAny}
 use Rattle.rules.proofs.state.Holders.{barrier-carries}
 use Rattle.rules.proofs.state.Fetches.{all-fetched-keep}
 use Rattle.rules.proofs.state.Waiters.{waiter-waits}
+use Rattle.rules.proofs.inorder.Facts.{Within}
 use Rattle.rules.proofs.inorder.KeptParts.{presentAmong, among-says, among-when, arrivedIn, CountsInOrder, MarksInOrder, Parts}
 use Rattle.rules.proofs.inorder.KeptLines.{arrived-lines, cleared-lines}
 use Rattle.rules.proofs.inorder.KeptMoves.{OwnKept, kept-again}
@@ -52,6 +53,8 @@ arrived-set lim n k p c f a awake free missing =
       someone-missing = missing;
       lines = arrived-lines n k (f .lines) p (λ i l h e d. false≢true (sym awake ∙ ap (waits k) d ∙ waiter-waits k i l e));
       holder-away = λ l. away l (f .holder-away l);
+      first-there = f .first-there;
+      few-jobs = f .few-jobs;
     }
   where
     away : (l : ℕ) → (getD (k .holders) l 0 ≡ 0) ⊎ (arrivedIn k (getD (k .holders) l 0) ≡ false)
@@ -76,6 +79,8 @@ arrived-cleared lim n k marks c f l =
       someone-missing = record { at = 0; below = c .some-processor; passes = ap not (clear 1) };
       lines = cleared-lines n k (f .lines) marks;
       holder-away = λ l. inr (clear (getD (k .holders) l 0));
+      first-there = f .first-there;
+      few-jobs = f .few-jobs;
     }
   where
     clear : (q : ℕ) → not (eqb (getD (map (λ mark. 0) marks) q 0) 0) ≡ false
@@ -87,7 +92,7 @@ arrived-cleared lim n k marks c f l =
 barrier-learned : (lim : Limits) (s : State) (p : ℕ) → Parts lim s → presentAmong (s .counts) p ≡ true
     → OwnKept lim (s .counts) (closed s p .clocks) (learned (closed s p .clocks) Barrier (Processor p))
 unfolding closed
-barrier-learned lim s p f a = carrier-learned lim (s .counts) (closed s p .clocks) Barrier p (f .counts) (closed-parts lim s p f a .clocks) (barrier-carries (s .counts)) a
+barrier-learned lim s p f a = carrier-learned lim (s .counts) (closed s p .clocks) Barrier p (f .counts) (closed-parts lim s p f a .clocks) (barrier-carries (s .counts)) (unfold Within in tt) a
 
 -- whoever holds no lock is the holder of none
 holds-none : (lim : Limits) (s : State) (p : ℕ) → Parts lim s → presentAmong (s .counts) p ≡ true → holdsAny lim s p ≡ false → (l : ℕ) → getD (s .marks .holders) l 0 ≡ p → ⊥

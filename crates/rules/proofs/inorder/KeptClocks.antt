@@ -11,7 +11,7 @@ use borrow.Author.Tests.{ne-eqb}
 use Rattle.lists.specs.Tables.{cell}
 use Rattle.lists.proofs.Tables.{get-put-other, length-put-within, cell-put}
 use Rattle.clock.specs.Clocks.{entryOf}
-use Rattle.rules.specs.State.{Limits, Counts, Holder, Processor, Lock, Barrier, Applied, Interval, Clocks, clockOf, withClock}
+use Rattle.rules.specs.State.{Limits, Counts, Holder, Processor, Lock, Barrier, Applied, Interval, Job, Clocks, clockOf, withClock}
 use Rattle.rules.proofs.state.Holders.{sameHolder, same-holder, clock-of-with}
 use Rattle.rules.proofs.inorder.Facts.{Within}
 use Rattle.rules.proofs.inorder.Rows.{rows-put-cell}
@@ -43,6 +43,7 @@ sized-with lim c (Processor p) v w l f =
       applied = f .applied;
       intervals = f .intervals;
       no-interval = f .no-interval;
+      jobs = f .jobs;
       clocks = clocks-with lim c (Processor p) v l f;
     }
 sized-with lim c (Lock i) v w l f =
@@ -53,6 +54,7 @@ sized-with lim c (Lock i) v w l f =
       applied = f .applied;
       intervals = f .intervals;
       no-interval = f .no-interval;
+      jobs = f .jobs;
       clocks = clocks-with lim c (Lock i) v l f;
     }
 sized-with lim c Barrier v w l f =
@@ -63,6 +65,7 @@ sized-with lim c Barrier v w l f =
       applied = f .applied;
       intervals = f .intervals;
       no-interval = f .no-interval;
+      jobs = f .jobs;
       clocks = clocks-with lim c Barrier v l f;
     }
 sized-with lim c (Applied p g) v w l f =
@@ -73,6 +76,7 @@ sized-with lim c (Applied p g) v w l f =
       applied = rows-put-cell [] lim (lim .pages) (c .applied) p g v (f .applied) (w .0) (w .1) (w .2);
       intervals = f .intervals;
       no-interval = f .no-interval;
+      jobs = f .jobs;
       clocks = clocks-with lim c (Applied p g) v l f;
     }
 sized-with lim c (Interval p i) v w l f =
@@ -83,6 +87,7 @@ sized-with lim c (Interval p i) v w l f =
       applied = f .applied;
       intervals = rows-put-cell [] lim (suc (lim .intervals)) (c .intervals) p i v (f .intervals) (w .0) (w .1) (omega (arith, w .3));
       no-interval = λ q a b. ap length (cell-put [] (c .intervals) p i q 0 v ∙ other q (w .2)) ∙ f .no-interval q a b;
+      jobs = f .jobs;
       clocks = clocks-with lim c (Interval p i) v l f;
     }
   where
@@ -92,6 +97,17 @@ sized-with lim c (Interval p i) v w l f =
         go : (b : Bool) → cond (b && false) v (cell [] (c .intervals) q 0) ≡ cell [] (c .intervals) q 0
         go true = refl
         go false = refl
+sized-with lim c (Job k) v w l f =
+    record {
+      processors = f .processors;
+      nobody-clock = f .nobody-clock;
+      locks = f .locks;
+      applied = f .applied;
+      intervals = f .intervals;
+      no-interval = f .no-interval;
+      jobs = length-put-within [] (c .jobs) k v (omega (arith, w, f .jobs)) ∙ f .jobs;
+      clocks = clocks-with lim c (Job k) v l f;
+    }
 
 -- ---- one clock replaced
 

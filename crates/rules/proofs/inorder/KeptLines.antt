@@ -11,7 +11,7 @@ use lib.Dec.{eqb}
 use borrow.Author.Tests.{eq-eqb, ne-eqb}
 use Rattle.lists.specs.Tables.{put}
 use Rattle.lists.proofs.Tables.{get-put-other, get-map}
-use Rattle.rules.specs.State.{Counts, Marks, withArrived, withWanted, withHolder}
+use Rattle.rules.specs.State.{Counts, Marks, withArrived, withWanted, withQueue, withHolder}
 use Rattle.rules.specs.Lines.{inLine, firstInLine, withWaiter, withoutWaiter, lockHanded}
 use Rattle.rules.proofs.state.Lines.{Lines, lines-same, asked-lines, handed-lines}
 use Rattle.rules.proofs.state.Waiters.{awaits, turnAt, holderIn, in-line-is, found-stands, no-first, asker-awaits, asker-turn, other-awaits, other-turn, handed-holder, waits-on, waits-no-more, moves-up, stands-still}
@@ -146,5 +146,8 @@ module _ (n : Counts) (m : Marks) (f : LinesInOrder n m) where
       }
 
   -- the wish is in no condition
+  pub queue-lines : (g j : ℕ) → LinesInOrder n (withQueue m g j)
+  queue-lines g j = record { lines = f .lines; for-present = f .for-present; for-held = f .for-held; by-another = f .by-another; not-arrived = f .not-arrived }
+
   pub wanted-lines : (w : ℕ) → LinesInOrder n (withWanted m w)
   wanted-lines w = record { lines = f .lines; for-present = f .for-present; for-held = f .for-held; by-another = f .by-another; not-arrived = f .not-arrived }

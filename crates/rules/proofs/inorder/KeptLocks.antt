@@ -15,12 +15,12 @@ use Rattle.rules.specs.State.{Limits, Counts, Processor, Lock, Clocks, w
 use Rattle.rules.specs.Lines.{waits, turnOf, inLine, waiterAt, firstInLine, withWaiter, lockAsked, withoutWaiter, lockHanded}
 use Rattle.rules.specs.Close.{closed}
 use Rattle.rules.specs.Steps.{learned, acquire, lockTold, waiterTold, release, wantsCollection, want}
-use Rattle.rules.proofs.state.Holders.{Knows, lock-carries}
+use Rattle.rules.proofs.state.Holders.{lock-carries}
 use Rattle.rules.proofs.state.Waiters.{holderIn, awake-says, found-stands, moved-up-at, length-moved-up}
 use Rattle.rules.proofs.inorder.Facts.{LinesInOrder}
 use Rattle.rules.proofs.inorder.KeptParts.{presentAmong, among-says, among-when, arrivedIn, CountsInOrder, ClocksInOrder, MarksInOrder, Parts}
 use Rattle.rules.proofs.inorder.KeptLines.{taken-lines, waiter-lines, handed-in-order, wanted-lines}
-use Rattle.rules.proofs.inorder.KeptMoves.{OwnKept, kept-again, knows-within}
+use Rattle.rules.proofs.inorder.KeptMoves.{OwnKept, kept-again, lock-within}
 use Rattle.rules.proofs.inorder.KeptRounds.{processor-learned, carrier-handed}
 use Rattle.rules.proofs.inorder.KeptClose.{closed-parts}
 use Rattle.rules.proofs.inorder.KeptFetch.{marks-changed, moved-parts}
@@ -64,6 +64,8 @@ module _ (lim : Limits) (n : Counts) (c : CountsInOrder lim n) where
         someone-missing = f .someone-missing;
         lines = lines;
         holder-away = away-holds lim n k f l q away;
+        first-there = f .first-there;
+        few-jobs = f .few-jobs;
       }
 
   -- a present processor that neither waits nor has arrived asks for a lock that it does not hold
@@ -97,6 +99,8 @@ module _ (lim : Limits) (n : Counts) (c : CountsInOrder lim n) where
             someone-missing = f .someone-missing;
             lines = waiter-lines n k (f .lines) l p (omega (arith, b .1)) h (awake-says k p awake) missing held other;
             holder-away = f .holder-away;
+            first-there = f .first-there;
+            few-jobs = f .few-jobs;
           }
 
       go : (d : Bool) → eqb (holderIn k l) 0 ≡ d → MarksInOrder lim n (cond d (withHolder k l (suc p)) (withWaiter k l (suc p) (inLine (n .processors) k l)))
@@ -141,6 +145,8 @@ module _ (lim : Limits) (n : Counts) (c : CountsInOrder lim n) where
         someone-missing = f .someone-missing;
         lines = unfold lockHanded withHolder withoutWaiter in handed-in-order n k (f .lines) l;
         holder-away = away-holds lim n k f l q (first-away k l (f .lines));
+        first-there = f .first-there;
+        few-jobs = f .few-jobs;
       }
     where
       first-at-most : firstInLine (n .processors) k l ≤ n .processors
@@ -166,7 +172,7 @@ acquire-parts lim s p l f a h awake missing other =
     in-order = closed-parts lim s p f a .clocks
 
     learns : (b : Bool) → OwnKept lim (s .counts) (closed s p .clocks) (cond b (learned (closed s p .clocks) (Processor p) (Lock l)) (closed s p .clocks))
-    learns true = processor-learned lim (s .counts) (closed s p .clocks) p (Lock l) (f .counts) in-order a (knows-within lim (s .counts) (f .counts) (Lock l) (unfold Knows in h))
+    learns true = processor-learned lim (s .counts) (closed s p .clocks) p (Lock l) (f .counts) in-order a (lock-within lim (s .counts) (f .counts) l h)
     learns false = record { in-order = in-order; own-kept = λ q. refl }
 
 -- the clocks of a release: the lock's becomes the processor's, and the longest waiter learns it; no own entry rises
@@ -179,13 +185,13 @@ release-moves lim s p l f a h = kept-again freed (learns (firstInLine (s .counts
     c = lockTold (closed s p .clocks) p l
 
     freed : OwnKept lim (s .counts) (closed s p .clocks) c
-    freed = carrier-handed lim (s .counts) (closed s p .clocks) (Lock l) p (f .counts) (closed-parts lim s p f a .clocks) (lock-carries (s .counts) l h) a
+    freed = carrier-handed lim (s .counts) (closed s p .clocks) (Lock l) p (f .counts) (closed-parts lim s p f a .clocks) (lock-carries (s .counts) l h) (lock-within lim (s .counts) (f .counts) l h) a
 
     learns : (q : ℕ) → (q ≡ 0) ⊎ (presentAmong (s .counts) q ≡ true) → OwnKept lim (s .counts) c (waiterTold c q l)
     learns q (inl e) = rw (eq-eqb q 0 e) (record { in-order = freed .in-order; own-kept = λ i. refl })
     learns q (inr e) =
         rw (ne-eqb q 0 (λ z. omega (arith, z, among-says (s .counts) q e .0)))
-        (processor-learned lim (s .counts) c q (Lock l) (f .counts) (freed .in-order) e (knows-within lim (s .counts) (f .counts) (Lock l) (unfold Knows in h)))
+        (processor-learned lim (s .counts) c q (Lock l) (f .counts) (freed .in-order) e (lock-within lim (s .counts) (f .counts) l h))
 
 -- a release of a present lock
 pub release-parts : (lim : Limits) (s : State) (p l : ℕ) → Parts lim s → presentAmong (s .counts) p ≡ true → l < s .counts .locks → Parts lim (release s p l)
@@ -223,6 +229,8 @@ wish-set lim n k w f =
       someone-missing = f .someone-missing;
       lines = wanted-lines n k (f .lines) w;
       holder-away = f .holder-away;
+      first-there = f .first-there;
+      few-jobs = f .few-jobs;
     }
 
 -- wanting collection

@@ -11,7 +11,7 @@ use lib.ListN.{length}
 use lib.Dec.{ltb, eqb}
 use borrow.Author.Tests.{eqb-true, lt-ltb, ne-eqb}
 use Rattle.clock.specs.Clocks.{entryOf}
-use Rattle.rules.specs.State.{Limits, Counts, Holder, Processor, Lock, Barrier, Applied, Interval, Clocks, clockOf, withClock}
+use Rattle.rules.specs.State.{Limits, Counts, Holder, Processor, Lock, Barrier, Applied, Interval, Job, Clocks, clockOf, withClock}
 use Rattle.rules.proofs.state.Holders.{sameHolder, other-holder, clock-of-with-same, clock-of-with-other, Knows, knows-no-applied, knows-no-interval, Carrier}
 use Rattle.rules.proofs.inorder.Facts.{Within}
 use Rattle.rules.proofs.inorder.KeptParts.{presentAmong, among-says, among-when, holderAmong, ownIn, CountsInOrder, ClocksInOrder}
@@ -40,24 +40,25 @@ knows-present n (Lock l) k = lt-ltb l (n .locks) k
 knows-present n Barrier k = refl
 knows-present n (Applied p g) k = absurd k
 knows-present n (Interval p i) k = absurd k
+knows-present n (Job i) k = refl
 
-pub knows-within : (lim : Limits) (n : Counts) → CountsInOrder lim n → (h : Holder) → Knows n h → Within lim h
-unfolding Knows Within
-knows-within lim n c (Processor p) k = (k .0, omega (arith, k .1, c .processors-fit))
-knows-within lim n c (Lock l) k = omega (arith, k, c .locks-fit)
-knows-within lim n c Barrier k = tt
-knows-within lim n c (Applied p g) k = absurd k
-knows-within lim n c (Interval p i) k = absurd k
+pub present-within : (lim : Limits) (n : Counts) → CountsInOrder lim n → (p : ℕ) → presentAmong n p ≡ true → Within lim (Processor p)
+unfolding Within
+present-within lim n c p a = let k = among-says n p a in (k .0, omega (arith, k .1, c .processors-fit))
+
+pub lock-within : (lim : Limits) (n : Counts) → CountsInOrder lim n → (l : ℕ) → l < n .locks → Within lim (Lock l)
+unfolding Within
+lock-within lim n c l k = omega (arith, k, c .locks-fit)
 
 -- a carrier gets a clock of which every processor knows its entry
-pub carrier-set : (lim : Limits) (n : Counts) (c : Clocks) (h : Holder) (v : List ℕ) → CountsInOrder lim n → ClocksInOrder lim n c → Carrier n h
+pub carrier-set : (lim : Limits) (n : Counts) (c : Clocks) (h : Holder) (v : List ℕ) → CountsInOrder lim n → ClocksInOrder lim n c → Carrier n h → Within lim h
     → length v ≡ lim .processors → ((q : ℕ) → entryOf v q ≤ ownIn c q) → OwnKept lim n c (withClock c h v)
-carrier-set lim n c h v k f carrier w e =
+carrier-set lim n c h v k f carrier place w e =
     record {
       in-order =
           replaced-in-order lim n c h v f
           (record {
-            within = knows-within lim n k h (carrier .knows);
+            within = place;
             present = knows-present n h (carrier .knows);
             whole = w;
             own-grows = λ q. omega (arith, kept q);

@@ -13,7 +13,7 @@ use Rattle.lists.proofs.Tables.{Passes}
 use Rattle.limits.specs.Limits.{slotHead}
 use Rattle.clock.specs.Clocks.{entryOf}
 use Rattle.diff.specs.Reading.{readRefusal}
-use Rattle.rules.specs.State.{Limits, Counts, Holder, Processor, Lock, Barrier, Applied, Interval, Clocks, clockOf, Pages, copyOf, twinOf, dirtyAt, Records, recordIn, Marks, Shared, addsOf, State, clock, own, holder, hasArrived}
+use Rattle.rules.specs.State.{Limits, Counts, Holder, Processor, Lock, Barrier, Applied, Interval, Job, Clocks, clockOf, Pages, copyOf, twinOf, dirtyAt, Records, recordIn, Marks, Shared, addsOf, State, clock, own, holder, hasArrived}
 use Rattle.rules.specs.Lines.{waits, turnOf}
 use Rattle.rules.specs.InOrder.{present, slotSize, presentHolder, recordAt, sameNotice, dirtyPages}
 use Rattle.rules.proofs.inorder.Facts.{Within, LinesInOrder, InOrder}
@@ -41,6 +41,7 @@ holderAmong n (Lock l) = ltb l (n .locks)
 holderAmong n Barrier = true
 holderAmong n (Applied p g) = presentAmong n p && ltb g (n .pages)
 holderAmong n (Interval p i) = presentAmong n p
+holderAmong n (Job k) = true
 
 -- a processor's own entry, by the clocks alone
 abbrev pub ownIn : Clocks → ℕ → ℕ
@@ -75,6 +76,7 @@ pub record ClocksSized (lim : Limits) (c : Clocks) : Type 0 where
   pub applied : Rows lim (lim .pages) (c .applied)
   pub intervals : Rows lim (suc (lim .intervals)) (c .intervals)
   pub no-interval : (p : ℕ) → 1 ≤ p → p ≤ lim .processors → length (clockOf c (Interval p 0)) ≡ 0
+  pub jobs : length (c .jobs) ≡ lim .jobs
   pub clocks : (h : Holder) → Within lim h → length (clockOf c h) ≡ lim .processors
 
 -- the clocks, with the counts
@@ -129,10 +131,13 @@ pub record MarksInOrder (lim : Limits) (n : Counts) (k : Marks) : Type 0 where
   pub someone-missing : Passes (n .processors) (λ i. not (arrivedIn k (suc i)))
   pub lines : LinesInOrder n k
   pub holder-away : (l : ℕ) → (getD (k .holders) l 0 ≡ 0) ⊎ (arrivedIn k (getD (k .holders) l 0) ≡ false)
+  pub first-there : (lim .jobs ≡ 0) ⊎ (k .first < lim .jobs)
+  pub few-jobs : k .jobs ≤ lim .jobs
 
 -- the shared values, with the counts
 pub record SharedInOrder (lim : Limits) (n : Counts) (h : Shared) : Type 0 where
   pub posted : length (h .posted) ≡ lim .tallies
+  pub values : length (h .values) ≡ lim .jobs
   pub adds : Rows lim (lim .tallies) (h .adds)
   pub absent-adds : (p t : ℕ) → 1 ≤ p → presentAmong n p ≡ false → addsOf h p t ≡ 0
 
@@ -155,6 +160,7 @@ holder-among s (Lock l) = refl
 holder-among s Barrier = refl
 holder-among s (Applied p g) = refl
 holder-among s (Interval p i) = refl
+holder-among s (Job k) = refl
 
 -- a state in order has its parts in order
 pub parts-of : (lim : Limits) (s : State) → InOrder lim s → Parts lim s
@@ -180,6 +186,7 @@ parts-of lim s f =
                   applied = applied-rows lim s (f .sized);
                   intervals = interval-rows lim s (f .sized);
                   no-interval = f .sized .no-interval;
+                  jobs = f .sized .jobs;
                   clocks = f .sized .clocks;
                 };
             absent-clock = λ h q e. f .absent-clock h q (holder-among s h ∙ e);
@@ -231,8 +238,10 @@ parts-of lim s f =
             someone-missing = f .someone-missing;
             lines = f .lines;
             holder-away = f .holder-away;
+            first-there = f .first-there;
+            few-jobs = f .few-jobs;
           };
-      shared = record { posted = f .sized .posted; adds = adds-rows lim s (f .sized); absent-adds = f .absent-adds };
+      shared = record { posted = f .sized .posted; values = f .sized .values; adds = adds-rows lim s (f .sized); absent-adds = f .absent-adds };
       room = f .room;
       dirty-has-interval = f .dirty-has-interval;
     }
@@ -254,6 +263,7 @@ in-order-of lim s f =
             nobody-interval = f .clocks .sized .intervals .nobody;
             interval-row = f .clocks .sized .intervals .row;
             no-interval = f .clocks .sized .no-interval;
+            jobs = f .clocks .sized .jobs;
             clocks = f .clocks .sized .clocks;
             copies = f .pages .copies .processors;
             nobody-copy = f .pages .copies .nobody;
@@ -274,6 +284,7 @@ in-order-of lim s f =
             awaited = f .marks .awaited;
             turns = f .marks .turns;
             posted = f .shared .posted;
+            values = f .shared .values;
             adds = f .shared .adds .processors;
             nobody-adds = f .shared .adds .nobody;
             adds-row = f .shared .adds .row;
@@ -315,4 +326,6 @@ in-order-of lim s f =
       someone-missing = f .marks .someone-missing;
       lines = f .marks .lines;
       holder-away = f .marks .holder-away;
+      first-there = f .marks .first-there;
+      few-jobs = f .marks .few-jobs;
     }

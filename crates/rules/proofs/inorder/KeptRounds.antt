@@ -17,7 +17,7 @@ use Rattle.rules.proofs.state.Holders.{clock-of-with-same, Knows, Carri
 use Rattle.rules.proofs.inorder.Facts.{Within}
 use Rattle.rules.proofs.inorder.Rows.{rows-map-all}
 use Rattle.rules.proofs.inorder.KeptParts.{presentAmong, among-says, among-when, ownIn, CountsInOrder, ClocksSized, ClocksInOrder}
-use Rattle.rules.proofs.inorder.KeptMoves.{OwnKept, kept-again, knows-within, carrier-set, interval-set, own-same, own-other, processor-set}
+use Rattle.rules.proofs.inorder.KeptMoves.{OwnKept, kept-again, present-within, carrier-set, interval-set, own-same, own-other, processor-set}
 
 -- ---- one clock learns another
 
@@ -29,7 +29,7 @@ processor-learned lim n c p from k f a w =
     record {
       in-order =
           processor-set lim n c p v k f a
-          (omega (arith, length-joined (clockOf c (Processor p)) (clockOf c from), f .sized .clocks (Processor p) (knows-within lim n k (Processor p) (among-says n p a)), f .sized .clocks from w))
+          (omega (arith, length-joined (clockOf c (Processor p)) (clockOf c from), f .sized .clocks (Processor p) (present-within lim n k p a), f .sized .clocks from w))
           (λ q. omega (arith, entry q)) (omega (arith, entry p, f .known from p, f .own-fits p)) (λ q d. omega (arith, entry q, f .known from q, f .known (Processor p) q));
       own-kept = λ q. go q (ℕ-discrete q p);
     }
@@ -45,20 +45,20 @@ processor-learned lim n c p from k f a w =
     go q (no d) = own-other c p q v d
 
 -- a carrier learns a processor's clock
-pub carrier-learned : (lim : Limits) (n : Counts) (c : Clocks) (h : Holder) (p : ℕ) → CountsInOrder lim n → ClocksInOrder lim n c → Carrier n h → presentAmong n p ≡ true
+pub carrier-learned : (lim : Limits) (n : Counts) (c : Clocks) (h : Holder) (p : ℕ) → CountsInOrder lim n → ClocksInOrder lim n c → Carrier n h → Within lim h → presentAmong n p ≡ true
     → OwnKept lim n c (learned c h (Processor p))
 unfolding learned Knows
-carrier-learned lim n c h p k f carrier a =
-    carrier-set lim n c h (joined (clockOf c h) (clockOf c (Processor p))) k f carrier
-    (omega (arith, length-joined (clockOf c h) (clockOf c (Processor p)), f .sized .clocks (Processor p) (knows-within lim n k (Processor p) (among-says n p a)), f .sized .clocks h (knows-within lim n k h (carrier .knows))))
+carrier-learned lim n c h p k f carrier place a =
+    carrier-set lim n c h (joined (clockOf c h) (clockOf c (Processor p))) k f carrier place
+    (omega (arith, length-joined (clockOf c h) (clockOf c (Processor p)), f .sized .clocks (Processor p) (present-within lim n k p a), f .sized .clocks h place))
     (λ q. omega (arith, entryOf-joined (clockOf c h) (clockOf c (Processor p)) q, f .known h q, f .known (Processor p) q))
 
 -- a carrier's clock becomes a processor's
-pub carrier-handed : (lim : Limits) (n : Counts) (c : Clocks) (h : Holder) (p : ℕ) → CountsInOrder lim n → ClocksInOrder lim n c → Carrier n h → presentAmong n p ≡ true
+pub carrier-handed : (lim : Limits) (n : Counts) (c : Clocks) (h : Holder) (p : ℕ) → CountsInOrder lim n → ClocksInOrder lim n c → Carrier n h → Within lim h → presentAmong n p ≡ true
     → OwnKept lim n c (withClock c h (clockOf c (Processor p)))
 unfolding Knows
-carrier-handed lim n c h p k f carrier a =
-    carrier-set lim n c h (clockOf c (Processor p)) k f carrier (f .sized .clocks (Processor p) (knows-within lim n k (Processor p) (among-says n p a))) (f .known (Processor p))
+carrier-handed lim n c h p k f carrier place a =
+    carrier-set lim n c h (clockOf c (Processor p)) k f carrier place (f .sized .clocks (Processor p) (present-within lim n k p a)) (f .known (Processor p))
 
 -- ---- a round completes
 
@@ -76,7 +76,7 @@ unfolding clockOf Within
 round-clocks lim n c k f =
     let r = all-learned lim n c (n .processors) k f (omega arith) in
     kept-again r
-    (carrier-set lim n (allLearned c (n .processors)) Barrier (cleared (c .barrier)) k (r .in-order) (barrier-carries n) (length-cleared (c .barrier) ∙ f .sized .clocks Barrier tt)
+    (carrier-set lim n (allLearned c (n .processors)) Barrier (cleared (c .barrier)) k (r .in-order) (barrier-carries n) tt (length-cleared (c .barrier) ∙ f .sized .clocks Barrier tt)
     (λ q. omega (arith, entry-cleared (c .barrier) q)))
 
 -- ---- an interval ends
@@ -147,6 +147,7 @@ sized-cleared lim c f =
       applied = rows-map-all lim (lim .pages) (c .applied) cleared (f .applied);
       intervals = rows-map-all lim (suc (lim .intervals)) (c .intervals) cleared (f .intervals);
       no-interval = λ p h k. length-all-cleared c (Interval p 0) ∙ f .no-interval p h k;
+      jobs = length-map (c .jobs) cleared ∙ f .jobs;
       clocks = λ h w. length-all-cleared c h ∙ f .clocks h w;
     }
 

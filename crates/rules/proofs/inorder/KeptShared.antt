@@ -1,8 +1,8 @@
 -- The shared values stay in order when a processor adds to a tally, and when the adds of a round are posted. Rests on KeptParts. Assumes nothing.
-use Prim.Native.Nat.{ℕ, _+_, _%_, _≤_, _<_}
+use Prim.Native.Nat.{ℕ, _+_, _%_, _<_}
 use native.Mathlib.Omega.{arith}
 use mathlib.Core.Path.{_≡_, sym, ap, _∙_}
-use mathlib.Core.Bool.{Bool, true, false, false≢true}
+use mathlib.Core.Bool.{true, false≢true}
 use mathlib.Core.List.{List, [], map}
 use lib.ListN.{length, getD}
 use Rattle.lists.proofs.Tables.{by-put-cell, get-map}
@@ -35,6 +35,7 @@ added-in-order lim n h p t v c f a l =
     let b = among-says n p a in
     record {
       posted = f .posted;
+      values = f .values;
       adds = rows-put-cell 0 lim (lim .tallies) (h .adds) p t ((addsOf h p t + v) % wordValues) (f .adds) (b .0) (omega (arith, b .1, c .processors-fit)) l;
       absent-adds = λ q u k z.
           by-put-cell (λ x. x ≡ 0) 0 (h .adds) p t q u ((addsOf h p t + v) % wordValues)
@@ -51,6 +52,7 @@ unfolding posting addsOf
 posted-in-order lim n h k f =
     record {
       posted = length-tabulate (length (h .posted)) (totalAfter h k) ∙ f .posted;
+      values = f .values;
       adds = rows-map-all lim (lim .tallies) (h .adds) (λ add. 0) (f .adds);
       absent-adds = λ q t l z. no-adds-left (h .adds) q t;
     }

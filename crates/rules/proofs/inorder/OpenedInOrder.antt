@@ -3,7 +3,7 @@ use Prim.Native.Nat.{ℕ, zero, suc, _≤_, _<_}
 use native.Mathlib.Omega.{arith}
 use mathlib.Core.Path.{_≡_, refl, sym, ap, _∙_}
 use mathlib.Core.Bool.{Bool, true, false, cond, not, _&&_, false≢true}
-use mathlib.Core.Logic.{inl}
+use mathlib.Core.Logic.{inl, _⊎_, inr}
 use mathlib.Core.List.{List, [], _∷_}
 use lib.ListN.{length, getD, replicate, length-replicate, getD-replicate}
 use lib.Dec.{eqb}
@@ -12,46 +12,17 @@ use Rattle.lists.proofs.Tables.{total-zero}
 use Rattle.lists.proofs.Conditions.{conjoined-at}
 use Rattle.clock.specs.Clocks.{zeros, entryOf}
 use Rattle.clock.proofs.Laws.{entryOf-zeros}
-use Rattle.rules.specs.State.{postedOf, addsOf, Limits, Counts, Holder, Processor, Lock, Barrier, Applied, Interval, clockOf, copyOf, twinOf, dirtyAt, clock, own, holder, hasArrived}
+use Rattle.rules.specs.State.{postedOf, addsOf, Limits, Counts, Holder, Processor, Lock, Barrier, Applied, Interval, Job, clockOf, copyOf, twinOf, dirtyAt, clock, own, holder, hasArrived}
 use Rattle.rules.specs.Lines.{waits, turnOf}
 use Rattle.rules.specs.InOrder.{slotSize, countsInRange, dirtyPages, inOrder}
 use Rattle.rules.specs.Opening.{zeroShared, Opening, openingRefusal, rows, zeroClocks, zeroPages, zeroMarks, opened}
 use Rattle.rules.proofs.state.Waiters.{awaits}
 use Rattle.rules.proofs.inorder.Facts.{Within, Sized, LinesInOrder, InOrder}
 use Rattle.rules.proofs.inorder.Everywhere.{entry-none}
-use Rattle.rules.proofs.inorder.Rows.{Rows}
+use Rattle.rules.proofs.inorder.Rows.{replicated, rows-all, row-at, rows-sized}
 use Rattle.rules.proofs.inorder.Conditions.{countsTests, counts-tests}
 use Rattle.rules.proofs.inorder.InOrderSays.{in-range-says}
 use Rattle.rules.proofs.inorder.InOrderWhen.{in-order-when}
-
--- ---- lists and tables of equal elements
-
--- what holds of the element and of the default holds at every place
-replicated : {A : Type 0} (P : A → Type 0) (n i : ℕ) (a d : A) → P a → P d → P (getD (replicate n a) i d)
-replicated P zero i a d x y = y
-replicated P (suc n) zero a d x y = x
-replicated P (suc n) (suc i) a d x y = replicated P n i a d x y
-
-module _ {A : Type 0} where
-  -- what holds of the row and of the empty row holds of every row
-  rows-all : (P : List A → Type 0) (n : ℕ) (row : List A) (p : ℕ) → P row → P [] → P (getD (rows n row) p [])
-  unfolding rows
-  rows-all P n row zero x y = y
-  rows-all P n row (suc p) x y = replicated P n p row [] x y
-
-  row-at : (n : ℕ) (row : List A) (p : ℕ) → 1 ≤ p → p ≤ n → getD (rows n row) p [] ≡ row
-  unfolding rows
-  row-at n row zero h k = absurd (omega arith)
-  row-at n row (suc p) h k = getD-replicate n p row [] k
-
-  rows-sized : (lim : Limits) (m : ℕ) (row : List A) → length row ≡ m → Rows lim m (rows (lim .processors) row)
-  unfolding rows
-  rows-sized lim m row e =
-      record {
-        processors = ap suc (length-replicate (lim .processors) row);
-        nobody = refl;
-        row = λ p h k. ap length (row-at (lim .processors) row p h k) ∙ e;
-      }
 
 -- ---- the clocks
 
@@ -79,6 +50,7 @@ opened-entry lim h q = go h
         row : (i : ℕ) → none-yet (getD ([] ∷ replicate (lim .intervals) (zeros (lim .processors))) i [])
         row zero = entry-none q
         row (suc i) = replicated none-yet (lim .intervals) i (zeros (lim .processors)) [] z (entry-none q)
+    go (Job k) = replicated none-yet (lim .jobs) k (zeros (lim .processors)) [] z (entry-none q)
 
 length-zeros : (n : ℕ) → length (zeros n) ≡ n
 unfolding zeros
@@ -96,6 +68,7 @@ opened-clock lim (Interval p zero) w = absurd (omega (arith, w .2))
 opened-clock lim (Interval p (suc i)) w =
     ap (λ (row : List (List ℕ)). getD row (suc i) []) (row-at (lim .processors) ([] ∷ replicate (lim .intervals) (zeros (lim .processors))) p (w .0) (w .1))
     ∙ getD-replicate (lim .intervals) i (zeros (lim .processors)) [] (w .3)
+opened-clock lim (Job k) w = getD-replicate (lim .jobs) k (zeros (lim .processors)) [] w
 
 -- ---- the pages
 
@@ -132,6 +105,11 @@ opened-clean lim p g =
     ap (λ (n : ℕ). not (eqb n 0))
     (rows-all (λ (row : List ℕ). getD row g 0 ≡ 0) (lim .processors) (replicate {A = ℕ} (lim .pages) 0) p
     (replicated (λ (n : ℕ). n ≡ 0) (lim .pages) g 0 0 refl refl) refl)
+
+-- the queue has its first place, or none
+some-place : (m : ℕ) → (m ≡ 0) ⊎ (0 < m)
+some-place zero = inl refl
+some-place (suc m) = inr (omega arith)
 
 -- nothing is posted
 pub opened-none-posted : (lim : Limits) (t : ℕ) → postedOf (zeroShared lim) t ≡ 0
@@ -206,6 +184,7 @@ module _ (lim : Limits) (c : Counts) where
         processors = processors .processors;
         nobody-clock = processors .nobody;
         locks = length-replicate (lim .locks) (zeros (lim .processors));
+        jobs = length-replicate (lim .jobs) (zeros (lim .processors));
         applied = applied .processors;
         nobody-applied = applied .nobody;
         applied-row = applied .row;
@@ -234,6 +213,7 @@ module _ (lim : Limits) (c : Counts) where
         awaited = length-replicate (suc (lim .processors)) 0;
         turns = length-replicate (suc (lim .processors)) 0;
         posted = length-replicate (lim .tallies) 0;
+        values = length-replicate (lim .jobs) 0;
         adds = adds .processors;
         nobody-adds = adds .nobody;
         adds-row = adds .row;
@@ -279,6 +259,8 @@ module _ (lim : Limits) (c : Counts) where
             someone-missing = record { at = 0; below = processors .0; passes = ap not (opened-not-arrived 1) };
             lines = opened-no-lines;
             holder-away = λ l. inl (opened-not-held l);
+            first-there = unfold zeroMarks in some-place (lim .jobs);
+            few-jobs = unfold zeroMarks in omega arith;
           }
 
 -- an accepted opening has its counts in range

@@ -9,7 +9,7 @@ use lib.ListN.{length, List·getD-eq-default}
 use lib.Dec.{eqb}
 use Rattle.lists.specs.Tables.{cell}
 use Rattle.clock.specs.Clocks.{entryOf}
-use Rattle.rules.specs.State.{addsOf, Limits, Holder, Processor, Lock, Barrier, Applied, Interval, clockOf, copyOf, twinOf, dirtyAt, State, holder, hasArrived}
+use Rattle.rules.specs.State.{addsOf, Limits, Holder, Processor, Lock, Barrier, Applied, Interval, Job, clockOf, copyOf, twinOf, dirtyAt, State, holder, hasArrived}
 use Rattle.rules.specs.Lines.{waits, turnOf}
 use Rattle.rules.proofs.inorder.Facts.{Within, Sized}
 use Rattle.rules.proofs.inorder.Everywhere.{has-place, entry-past, entry-none}
@@ -61,6 +61,11 @@ module _ (lim : Limits) (s : State) (z : Sized lim s) where
       go (no a) b = outside (λ w. a (w .0))
   clock-outside (Interval p (suc i)) w =
       cell-outside [] lim (suc (lim .intervals)) (s .clocks .intervals) interval-rows p (suc i) (λ k. w (k .0, k .1, omega arith, omega (arith, k .2)))
+  clock-outside (Job k) w = List·getD-eq-default (s .clocks .jobs) [] (past (decLe (suc k) (lim .jobs)))
+    where
+      past : Dec (k < lim .jobs) → length (s .clocks .jobs) ≤ k
+      past (yes h) = absurd (w h)
+      past (no h) = omega (arith, z .jobs)
 
   -- an entry outside is 0
   pub entry-outside : (h : Holder) (q : ℕ) → (Within lim h → ⊥) → entryOf (clockOf (s .clocks) h) q ≡ 0

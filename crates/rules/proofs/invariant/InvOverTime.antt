@@ -18,7 +18,7 @@ use Rattle.rules.specs.Close.{closed}
 use Rattle.rules.specs.Fetch.{fetched}
 use Rattle.rules.specs.Steps.{pageOfWord, offsetOfWord, read, write, want}
 use Rattle.rules.specs.Tallies.{tallyAdded}
-use Rattle.rules.specs.Refusals.{Action, Read, Write, Acquire, Release, Arrive, Want, Unknown, effect, TallyAdd, TallyRead}
+use Rattle.rules.specs.Refusals.{Action, Read, Write, Acquire, Release, Arrive, Want, Unknown, effect, TallyAdd, TallyRead, Enqueue, Dequeue}
 use Rattle.rules.specs.Order.{Event, eventAt, Took, Before, Ordered}
 use Rattle.rules.specs.Demand.{valueField, EarlierWrite}
 use Rattle.rules.proofs.inorder.KindsOfSteps.{known-action}
@@ -28,7 +28,7 @@ use Rattle.rules.proofs.inorder.Accepted.{Accepted, read-on-page, write
 use Rattle.rules.proofs.order.Timeline.{Timeline, Moment, Refused, Taken, moment, counts-stay}
 use Rattle.rules.proofs.order.Ghosts.{Ghost, noGhost, closedGhost, ghostAfter, ghostAt, ghost-refused, ghost-taken}
 use Rattle.rules.proofs.StrictOrder.{before-goes-forward}
-use Rattle.rules.proofs.order.ActionKinds.{write-no-acquire}
+use Rattle.rules.proofs.order.ActionKinds.{write-no-acquire, write-no-dequeue}
 use Rattle.rules.proofs.order.MarksAfter.{restsIn, rests}
 use Rattle.rules.proofs.order.Allowed.{Allowed, took-allowed}
 use Rattle.rules.proofs.order.Numbers.{knowing, known-at-most-writes}
@@ -41,6 +41,7 @@ use Rattle.rules.proofs.invariant.InvEmpty.{inv-without-records}
 use Rattle.rules.proofs.invariant.InvFetch.{fetch-keeps}
 use Rattle.rules.proofs.invariant.InvWrite.{store-elsewhere-keeps, store-there-keeps}
 use Rattle.rules.proofs.invariant.InvLocks.{acquire-keeps, release-keeps}
+use Rattle.rules.proofs.invariant.InvQueue.{enqueue-keeps, dequeue-keeps}
 use Rattle.rules.proofs.invariant.InvArrive.{arrive-keeps}
 use Rattle.rules.proofs.invariant.InvClose.{close-keeps}
 
@@ -143,6 +144,12 @@ module _ (lim : Limits) (c : Counts) (es : List Event) (r : Timeline lim c es) (
       pub release-kept : (x : ℕ) → x < s .counts .locks → Inv (lim .words) g o (effect lim s p (Release x) .after) (ghostAfter w s p (Release x) (ghost t))
       release-kept x there = release-keeps lim g o s (ghost t) p h k closing (known-at-most-writes lim c es r w t) x there w
 
+      pub enqueue-kept : (v : ℕ) → Inv (lim .words) g o (effect lim s p (Enqueue v) .after) (ghostAfter w s p (Enqueue v) (ghost t))
+      enqueue-kept v = enqueue-keeps lim g o s (ghost t) p h k closing (known-at-most-writes lim c es r w t) (r .ordered t .sized .jobs) w v
+
+      pub dequeue-kept : Inv (lim .words) g o (effect lim s p Dequeue .after) (ghostAfter w s p Dequeue (ghost t))
+      dequeue-kept = dequeue-keeps lim g o s (ghost t) p h k closing (known-at-most-writes lim c es r w t) (r .ordered t .sized .jobs) w
+
       pub arrive-kept : Inv (lim .words) g o (effect lim s p Arrive .after) (ghostAfter w s p Arrive (ghost t))
       arrive-kept = arrive-keeps lim g o s (ghost t) p h k (r .ordered t) in-page closing (rw (counts-stay lim c es r t) (knowing lim c es r w t)) w
 
@@ -154,13 +161,15 @@ module _ (lim : Limits) (c : Counts) (es : List Event) (r : Timeline lim c es) (
       read-keeps t p (ok .from) (ok .to) ih x (read-on-page lim (r .state t) (eventAt es t .step) x (took .action) acc)
   by-action j t p (Write x v) ordered l less took acc ok ih =
       write-keeps t p (ok .from) (ok .to) ih x v (write-on-page lim (r .state t) (eventAt es t .step) x v (took .action) acc) (ok .not-resting)
-      (λ e. knows-all-writes lim c es r w t p (Write w v) (rw e at took) (write-no-acquire w v) (write-before-write j t p v ordered less (rw e at took)))
+      (λ e. knows-all-writes lim c es r w t p (Write w v) (rw e at took) (write-no-acquire w v) (write-no-dequeue w v) (write-before-write j t p v ordered less (rw e at took)))
   by-action j t p (Acquire x) ordered l less took acc ok ih = acquire-kept t p (ok .from) (ok .to) ih l x (acquire-there lim (r .state t) (eventAt es t .step) x (took .action) acc)
   by-action j t p (Release x) ordered l less took acc ok ih = release-kept t p (ok .from) (ok .to) ih l x (release-there lim (r .state t) (eventAt es t .step) x (took .action) acc)
   by-action j t p Arrive ordered l less took acc ok ih = arrive-kept t p (ok .from) (ok .to) ih l
   by-action j t p Want ordered l less took acc ok ih = want-keeps t p (ok .from) (ok .to) ih
   by-action j t p (TallyAdd x v) ordered l less took acc ok ih = unfold effect ghostAfter in shared-aside (lim .words) g o (r .state t) (ghost t) (tallyAdded (r .state t .shared) p x v) ih
   by-action j t p (TallyRead x) ordered l less took acc ok ih = unfold effect ghostAfter in ih
+  by-action j t p (Enqueue x) ordered l less took acc ok ih = enqueue-kept t p (ok .from) (ok .to) ih l x
+  by-action j t p Dequeue ordered l less took acc ok ih = dequeue-kept t p (ok .from) (ok .to) ih l
   by-action j t p Unknown ordered l less took acc ok ih = absurd (known-action (eventAt es t .step) (acc .known-kind) (took .action))
 
   pub inv-at : (j : ℕ) → WritesOrdered j → g < c .pages → (t : ℕ) → t ≤ j → InvAt t

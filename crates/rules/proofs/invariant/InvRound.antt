@@ -9,7 +9,7 @@ use lib.ListN.{length}
 use lib.Dec.{eqb}
 use borrow.Author.Tests.{eqb-true, eq-eqb, ne-eqb}
 use Rattle.lists.proofs.Tables.{every-at}
-use Rattle.rules.specs.State.{Limits, Counts, Holder, Processor, Lock, Barrier, Applied, Interval, cleared, dirtyAt, State, withClocks, standing, hasArrived, Shared, withShared, withMarks, withClock}
+use Rattle.rules.specs.State.{Limits, Counts, Holder, Processor, Lock, Barrier, Applied, Interval, Job, cleared, dirtyAt, State, withClocks, standing, hasArrived, withMarks, withClock}
 use Rattle.rules.specs.Close.{closed}
 use Rattle.rules.specs.Steps.{atBarrier, allArrived, allLearned, roundDone}
 use Rattle.rules.proofs.state.Holders.{sameHolder, Knows, barrier-carries}
@@ -71,6 +71,7 @@ module _ (f : Holder → ℕ) where
   round-number n Barrier k = refl
   round-number n (Applied p g) k = absurd k
   round-number n (Interval p i) k = absurd k
+  round-number n (Job j) k = sym (all-learned-other (n .processors) (Job j) (λ i. refl))
 
 -- ---- the round
 

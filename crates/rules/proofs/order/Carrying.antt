@@ -8,8 +8,8 @@ use mathlib.Core.Path.{_≡_, refl, sym, _∙_}
 use mathlib.Core.Bool.{Bool, true, false, false≢true}
 use mathlib.Core.Logic.{_⊎_, inl, inr}
 use mathlib.Core.List.{List}
-use Rattle.rules.specs.Refusals.{Action, Acquire, Release, Arrive, actionOf}
-use Rattle.rules.specs.Order.{Event, eventAt, Took, rounds, Serves, Before, program, lock, round, granted, chain}
+use Rattle.rules.specs.Refusals.{Action, Acquire, Release, Arrive, Enqueue, Dequeue, actionOf}
+use Rattle.rules.specs.Order.{Event, eventAt, Took, rounds, Serves, Before, program, lock, round, granted, Returns, job, chain}
 use Rattle.rules.proofs.StrictOrder.{never-falls}
 use Rattle.rules.proofs.order.ActionKinds.{isAcquire}
 
@@ -30,6 +30,8 @@ pub record Telling (n : ℕ) (es : List Event) (known lockKnown : ℕ → ℕ �
   pub waits-for : (t q l : ℕ) → WaitsFor t q l → waits t q ≡ true
   -- a release tells the waiter that it serves
   pub grant-tells : (i p a q l : ℕ) → Serves es l i p a q → known (suc i) p ≤ known (suc i) q
+  -- L9: an enqueue tells the dequeue that returns its job
+  pub job-tells : (i p v j q : ℕ) → Returns es i p v j q → known (suc i) p ≤ known (suc j) q
   -- a completed round tells everybody
   pub round-tells : (i p : ℕ) → Took es i p Arrive → (t : ℕ) → rounds n es i < rounds n es t → (q : ℕ) → known (suc i) p ≤ known t q
 
@@ -92,16 +94,21 @@ module _ {n : ℕ} {es : List Event} {known lockKnown : ℕ → ℕ → ℕ} {wa
   carries i j (granted p q l a b serves to h) x told =
       let mine = knows-after x i p (Release l) (serves .release) refl told in
       rw (to .processor) (told-at-once x j q (omega (arith, mine, f .grant-tells i p a q l serves, never-falls (λ t. known t q) (f .grows q) (suc i) (suc j) (omega (arith, h)))))
+  carries i j (job p v q r) x told =
+      let mine = knows-after x i p (Enqueue v) (r .enqueue) refl told in
+      rw (r .dequeue .processor) (told-at-once x j q (omega (arith, mine, f .job-tells i p v j q r)))
   carries i j (chain k a b) x told = carries k j b x (carries i k a x told)
 
   -- and at a step that is no acquire its processor knows it before the step
-  pub carries-strictly : (i j : ℕ) → Before n es i j → ((l : ℕ) → actionOf (eventAt es j .step) ≡ Acquire l → ⊥) → (x : ℕ) → Tells x i → x ≤ known j (eventAt es j .step .processor)
+  pub carries-strictly : (i j : ℕ) → Before n es i j → ((l : ℕ) → actionOf (eventAt es j .step) ≡ Acquire l → ⊥) → (actionOf (eventAt es j .step) ≡ Dequeue → ⊥) → (x : ℕ) → Tells x i → x ≤ known j (eventAt es j .step .processor)
   unfolding isAcquire
-  carries-strictly i j (program p a b from to h) none-acquired x told = rw (to .processor) ((rw (from .processor) at told) .at j (omega (arith, h)) (f .acts-awake j p b to))
-  carries-strictly i j (lock p q l from to h) none-acquired x told = absurd (none-acquired l (to .action))
-  carries-strictly i j (round p q b from to h) none-acquired x told =
+  carries-strictly i j (program p a b from to h) none-acquired none-removed x told =
+      rw (to .processor) ((rw (from .processor) at told) .at j (omega (arith, h)) (f .acts-awake j p b to))
+  carries-strictly i j (lock p q l from to h) none-acquired none-removed x told = absurd (none-acquired l (to .action))
+  carries-strictly i j (round p q b from to h) none-acquired none-removed x told =
       rw (to .processor) (omega (arith, knows-after x i p Arrive from refl told, f .round-tells i p from j (omega (arith, h)) q))
-  carries-strictly i j (granted p q l a b serves to h) none-acquired x told =
+  carries-strictly i j (granted p q l a b serves to h) none-acquired none-removed x told =
       let mine = knows-after x i p (Release l) (serves .release) refl told in
       rw (to .processor) (omega (arith, mine, f .grant-tells i p a q l serves, never-falls (λ t. known t q) (f .grows q) (suc i) j (omega (arith, h))))
-  carries-strictly i j (chain k a b) none-acquired x told = carries-strictly k j b none-acquired x (carries i k a x told)
+  carries-strictly i j (job p v q r) none-acquired none-removed x told = absurd (none-removed (r .dequeue .action))
+  carries-strictly i j (chain k a b) none-acquired none-removed x told = carries-strictly k j b none-acquired none-removed x (carries i k a x told)

@@ -12,9 +12,9 @@ use borrow.Author.Tests.{eq-eqb, lt-ltb, not-true}
 use Rattle.lists.specs.Tables.{every, any}
 use Rattle.lists.proofs.Tables.{every-at, any-holds}
 use Rattle.lists.proofs.Conditions.{conjoined, conjoined-at, Given, conjoined-holds}
-use Rattle.rules.specs.Refusals.{Action, Read, Write, Acquire, Release, Arrive, Want, TallyAdd, TallyRead, Unknown, actionOf}
-use Rattle.rules.specs.Order.{Event, noEvent, eventAt, Took, isArrival, countedOff, groupsBefore, rounds, counted, isAcquireOf, isReleaseOf, Serves, Before, program, lock, round, granted, chain}
-use Rattle.rules.proofs.order.ActionKinds.{arrivesBy, isAcquire}
+use Rattle.rules.specs.Refusals.{Action, Read, Write, Acquire, Release, Arrive, Want, TallyAdd, TallyRead, Enqueue, Dequeue, Unknown, actionOf}
+use Rattle.rules.specs.Order.{Event, noEvent, eventAt, Took, isArrival, countedOff, groupsBefore, rounds, counted, isAcquireOf, isReleaseOf, Serves, Before, program, lock, round, granted, Returns, job, isEnqueue, isDequeue, chain}
+use Rattle.rules.proofs.order.ActionKinds.{arrivesBy, isAcquire, addsJob, removesJob, took-enqueue, took-dequeue}
 
 -- the five ways in which a step is before another
 pub data Edge : Type 0 where
@@ -22,6 +22,7 @@ pub data Edge : Type 0 where
   ByLock : Edge
   ByRound : Edge
   ByGrant : Edge
+  ByJob : Edge
   ByChain : Edge
 
 numberOf : Edge → ℕ
@@ -29,7 +30,8 @@ numberOf ByProgram = 0
 numberOf ByLock = 1
 numberOf ByRound = 2
 numberOf ByGrant = 3
-numberOf ByChain = 4
+numberOf ByJob = 4
+numberOf ByChain = 5
 
 -- the edge e and no other
 unfoldable pub just : Edge → Edge → Bool
@@ -42,6 +44,7 @@ has some (program p a b t u h) = some ByProgram
 has some (lock p q l t u h) = some ByLock
 has some (round p q b t u h) = some ByRound
 has some (granted p q l a b s u h) = some ByGrant
+has some (job p v q r) = some ByJob
 has some (chain k x y) = some ByChain || has some x || has some y
 
 -- ---- one edge, decided
@@ -55,6 +58,8 @@ isRelease Arrive = false
 isRelease Want = false
 isRelease (TallyAdd j x) = false
 isRelease (TallyRead j) = false
+isRelease (Enqueue j) = false
+isRelease Dequeue = false
 isRelease Unknown = false
 
 -- the lock that an action takes or frees
@@ -67,6 +72,8 @@ lockOf Arrive = 0
 lockOf Want = 0
 lockOf (TallyAdd j x) = 0
 lockOf (TallyRead j) = 0
+lockOf (Enqueue j) = 0
+lockOf Dequeue = 0
 lockOf Unknown = 0
 
 -- the processor and the action at a place
@@ -92,11 +99,13 @@ tests ByLock n es i j =
 tests ByRound n es i j = eventAt es i .accepted ∷ eventAt es j .accepted ∷ arrivesBy (actionAt es i) ∷ ltb (rounds n es i) (rounds n es j) ∷ []
 tests ByGrant n es i j =
     eventAt es i .accepted ∷ eventAt es j .accepted ∷ isRelease (actionAt es i) ∷ ltb i j ∷ any i (λ a. conjoined (grantTests es i j a)) ∷ []
+tests ByJob n es i j =
+    isEnqueue (eventAt es i) ∷ isDequeue (eventAt es j) ∷ ltb i j ∷ eqb (counted isEnqueue es i) (counted isDequeue es j) ∷ []
 tests ByChain n es i j = false ∷ []
 
 -- whether there is such an edge; who unfolds it unfolds what it computes with
 unfoldable pub joins : Edge → ℕ → List Event → ℕ → ℕ → Bool
-unfolding tests grantTests isRelease lockOf isAcquire arrivesBy actionOf eventAt noEvent rounds groupsBefore countedOff isArrival counted isAcquireOf isReleaseOf conjoined any
+unfolding tests grantTests isRelease lockOf isAcquire arrivesBy actionOf eventAt noEvent rounds groupsBefore countedOff isArrival counted isAcquireOf isReleaseOf isEnqueue isDequeue conjoined any
 joins e n es i j = conjoined (tests e n es i j)
 
 module _ (n : ℕ) (es : List Event) (i j : ℕ) where
@@ -129,6 +138,17 @@ module _ (n : ℕ) (es : List Event) (i j : ℕ) where
           (eq-eqb _ _
           (ap (λ (x : ℕ). counted (isAcquireOf x) es a) lock-is ∙ s .next ∙ ap (λ (x : ℕ). counted (isReleaseOf x) es i + 1) (sym lock-is)))
 
+  -- an accepted enqueue and an accepted dequeue by their events
+  enqueue-is : (k p v : ℕ) → Took es k p (Enqueue v) → isEnqueue (eventAt es k) ≡ true
+  enqueue-is k p v t = took-enqueue es k p (Enqueue v) t ∙ (unfold addsJob in refl)
+
+  dequeue-is : (k p : ℕ) → Took es k p Dequeue → isDequeue (eventAt es k) ≡ true
+  dequeue-is k p t = took-dequeue es k p Dequeue t ∙ (unfold removesJob in refl)
+
+  job-joins : (p v q : ℕ) → Returns es i p v j q → joins ByJob n es i j ≡ true
+  unfolding joins
+  job-joins p v q r = rw (enqueue-is i p v (r .enqueue), dequeue-is j q (r .dequeue), lt-ltb i j (omega (arith, r .waited)), eq-eqb (counted isEnqueue es i) (counted isDequeue es j) (r .same))
+
 -- ---- places that no edge leads out of
 
 module _ (dropped : Edge → Bool) (n : ℕ) (es : List Event) (inside : ℕ → Bool) where
@@ -137,7 +157,7 @@ module _ (dropped : Edge → Bool) (n : ℕ) (es : List Event) (inside : ℕ →
   stays e = every (length es) (λ j. every (length es) (λ i. not (inside i && joins e n es i j) || inside j))
 
   kinds : List Bool
-  kinds = (dropped ByProgram || stays ByProgram) ∷ (dropped ByLock || stays ByLock) ∷ (dropped ByRound || stays ByRound) ∷ (dropped ByGrant || stays ByGrant) ∷ []
+  kinds = (dropped ByProgram || stays ByProgram) ∷ (dropped ByLock || stays ByLock) ∷ (dropped ByRound || stays ByRound) ∷ (dropped ByGrant || stays ByGrant) ∷ (dropped ByJob || stays ByJob) ∷ []
 
   -- nor one of any kind that is not dropped
   unfoldable pub closedUnder : Bool
@@ -181,6 +201,8 @@ module _ (dropped : Edge → Bool) (n : ℕ) (es : List Event) (inside : ℕ →
       edge-stays ByRound i j (conjoined-at kinds 2 c) f (t .accepted) (u .accepted) (round-joins n es i j p q b t u (omega (arith, h)))
   before-stays c i j (granted p q l a b s u h) f =
       edge-stays ByGrant i j (conjoined-at kinds 3 c) f (s .release .accepted) (u .accepted) (grant-joins n es i j p q l a b s u (omega (arith, h)))
+  before-stays c i j (job p v q r) f =
+      edge-stays ByJob i j (conjoined-at kinds 4 c) f (r .enqueue .accepted) (r .dequeue .accepted) (job-joins n es i j p v q r)
   before-stays c i j (chain k x y) f = λ start.
       let g = or-first (dropped ByChain || has dropped x) (has dropped y) f in
       before-stays c k j y (or-second (dropped ByChain || has dropped x) (has dropped y) f) (before-stays c i k x (or-second (dropped ByChain) (has dropped x) g) start)
@@ -197,6 +219,7 @@ has-none n es i j (program p a b t u h) = refl
 has-none n es i j (lock p q l t u h) = refl
 has-none n es i j (round p q b t u h) = refl
 has-none n es i j (granted p q l a b s u h) = refl
+has-none n es i j (job p v q r) = refl
 has-none n es i j (chain k x y) = rw (has-none n es i k x, has-none n es k j y)
 
 module _ (n : ℕ) (es : List Event) (i j : ℕ) where
@@ -214,24 +237,26 @@ module _ (n : ℕ) (es : List Event) (i j : ℕ) where
       go false h = absurd (false≢true (sym to ∙ before-stays (just e) n es inside c i j x h from))
 
   -- where no edge joins the two, every derivation is a chain
-  pub only-chained : joins ByProgram n es i j ≡ false → joins ByLock n es i j ≡ false → joins ByRound n es i j ≡ false → joins ByGrant n es i j ≡ false
+  pub only-chained : joins ByProgram n es i j ≡ false → joins ByLock n es i j ≡ false → joins ByRound n es i j ≡ false → joins ByGrant n es i j ≡ false → joins ByJob n es i j ≡ false
       → (x : Before n es i j) → has (just ByChain) x ≡ true
   unfolding has just
-  only-chained no-program no-lock no-round no-grant (program p a b t u h) = absurd (false≢true (sym no-program ∙ program-joins n es i j p a b t u (omega (arith, h))))
-  only-chained no-program no-lock no-round no-grant (lock p q l t u h) = absurd (false≢true (sym no-lock ∙ lock-joins n es i j p q l t u (omega (arith, h))))
-  only-chained no-program no-lock no-round no-grant (round p q b t u h) = absurd (false≢true (sym no-round ∙ round-joins n es i j p q b t u (omega (arith, h))))
-  only-chained no-program no-lock no-round no-grant (granted p q l a b s u h) = absurd (false≢true (sym no-grant ∙ grant-joins n es i j p q l a b s u (omega (arith, h))))
-  only-chained no-program no-lock no-round no-grant (chain k x y) = refl
+  only-chained no-program no-lock no-round no-grant no-job (program p a b t u h) = absurd (false≢true (sym no-program ∙ program-joins n es i j p a b t u (omega (arith, h))))
+  only-chained no-program no-lock no-round no-grant no-job (lock p q l t u h) = absurd (false≢true (sym no-lock ∙ lock-joins n es i j p q l t u (omega (arith, h))))
+  only-chained no-program no-lock no-round no-grant no-job (round p q b t u h) = absurd (false≢true (sym no-round ∙ round-joins n es i j p q b t u (omega (arith, h))))
+  only-chained no-program no-lock no-round no-grant no-job (granted p q l a b s u h) = absurd (false≢true (sym no-grant ∙ grant-joins n es i j p q l a b s u (omega (arith, h))))
+  only-chained no-program no-lock no-round no-grant no-job (job p v q r) = absurd (false≢true (sym no-job ∙ job-joins n es i j p v q r))
+  only-chained no-program no-lock no-round no-grant no-job (chain k x y) = refl
 
   cutTests : (ℕ → Bool) → List Bool
   cutTests inside = closedUnder noEdge n es inside ∷ inside i ∷ not (inside j) ∷ []
 
   -- place i is inside, place j is not, and no edge leads out
-  cut : (ℕ → Bool) → Bool
+  unfoldable pub cut : (ℕ → Bool) → Bool
   unfolding cutTests noEdge closedUnder conjoined
   cut inside = conjoined (cutTests inside)
 
-  cut-not-before : (inside : ℕ → Bool) → cut inside ≡ true → Before n es i j → ⊥
+  -- then the one is not before the other
+  pub cut-not-before : (inside : ℕ → Bool) → cut inside ≡ true → Before n es i j → ⊥
   unfolding cut
   cut-not-before inside h =
       not-before inside (conjoined-at (cutTests inside) 0 h) (conjoined-at (cutTests inside) 1 h) (not-true (inside j) (conjoined-at (cutTests inside) 2 h))

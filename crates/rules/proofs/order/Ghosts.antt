@@ -1,16 +1,17 @@
 -- What is counted beside a run, for one word w, to prove what its reads answer; none of it is in the state. Rests on Holders and Timeline.
 -- Assumes nothing.
-use Prim.Native.Nat.{ℕ, zero, suc, _+_, _≤_, max}
+use Prim.Native.Nat.{ℕ, zero, suc, _+_, _≤_, max, _-_}
 use native.Mathlib.Omega.{arith}
-use mathlib.Core.Path.{_≡_, refl, sym, _∙_}
+use mathlib.Core.Path.{_≡_, refl, sym, ap, _∙_}
 use mathlib.Core.Bool.{Bool, true, false, cond, _&&_}
 use mathlib.Core.List.{List}
-use lib.Dec.{eqb}
+use lib.ListN.{length}
+use lib.Dec.{eqb, ltb}
 use borrow.Author.Tests.{eqb-false, ne-eqb}
-use Rattle.rules.specs.State.{Limits, Counts, Holder, Processor, Lock, Barrier, Applied, Interval, State, holder}
+use Rattle.rules.specs.State.{Limits, Counts, Holder, Processor, Lock, Barrier, Applied, Interval, Job, State, holder}
 use Rattle.rules.specs.Lines.{firstInLine}
-use Rattle.rules.specs.Steps.{atBarrier, allArrived, wantsCollection}
-use Rattle.rules.specs.Refusals.{Action, Read, Write, Acquire, Release, Arrive, Want, TallyAdd, TallyRead, Unknown, actionOf}
+use Rattle.rules.specs.Steps.{atBarrier, allArrived, wantsCollection, freePlace}
+use Rattle.rules.specs.Refusals.{Action, Read, Write, Acquire, Release, Arrive, Want, TallyAdd, TallyRead, Enqueue, Dequeue, Unknown, actionOf}
 use Rattle.rules.specs.Order.{Event, eventAt, Took}
 use Rattle.rules.specs.Demand.{valueField}
 use Rattle.rules.proofs.state.Holders.{sameHolder}
@@ -43,6 +44,7 @@ roundNumbers f (Lock l) = f (Lock l)
 roundNumbers f Barrier = 0
 roundNumbers f (Applied p g) = 0
 roundNumbers f (Interval p i) = 0
+roundNumbers f (Job k) = f (Job k)
 
 -- whether the arrival of p completes the round, and whether the round then collects
 unfoldable pub completes : State → ℕ → Bool
@@ -70,6 +72,15 @@ freedNumbers γ p l = withNumber (γ .known) (Lock l) (γ .known (Processor p))
 unfoldable pub grantedNumbers : (Holder → ℕ) → ℕ → ℕ → Holder → ℕ
 grantedNumbers f q l = cond (eqb q 0) f (learnedNumbers f (Processor q) (Lock l))
 
+-- the free place of the queue, by the clocks of its places
+unfoldable pub ghostPlace : State → ℕ
+ghostPlace s = let k = s .marks .first + s .marks .jobs in cond (ltb k (length (s .clocks .jobs))) k (k - length (s .clocks .jobs))
+
+-- it is that of the rules where the table of clocks has its size
+pub ghost-place : (lim : Limits) (s : State) → length (s .clocks .jobs) ≡ lim .jobs → ghostPlace s ≡ freePlace lim s
+unfolding ghostPlace freePlace
+ghost-place lim s e = ap (λ (m : ℕ). cond (ltb (s .marks .first + s .marks .jobs) m) (s .marks .first + s .marks .jobs) (s .marks .first + s .marks .jobs - m)) e
+
 -- what an accepted step of processor p, taken in the state s, does to the counts for the word w
 unfoldable pub ghostAfter : ℕ → State → ℕ → Action → Ghost → Ghost
 ghostAfter w s p (Read x) γ = γ
@@ -96,6 +107,10 @@ ghostAfter w s p Arrive γ =
 ghostAfter w s p Want γ = γ
 ghostAfter w s p (TallyAdd j x) γ = γ
 ghostAfter w s p (TallyRead j) γ = γ
+ghostAfter w s p (Enqueue j) γ =
+    record { writes = γ .writes; last = γ .last; base = γ .base; writer = writerClosed γ p; known = withNumber (γ .known) (Job (ghostPlace s)) (γ .known (Processor p)) }
+ghostAfter w s p Dequeue γ =
+    record { writes = γ .writes; last = γ .last; base = γ .base; writer = writerClosed γ p; known = learnedNumbers (γ .known) (Processor p) (Job (s .marks .first)) }
 ghostAfter w s p Unknown γ = γ
 
 module _ (lim : Limits) (c : Counts) (es : List Event) (r : Timeline lim c es) (w : ℕ) where

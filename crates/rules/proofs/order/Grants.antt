@@ -15,7 +15,7 @@ use Rattle.lists.proofs.Tables.{get-put, total-zero}
 use Rattle.rules.specs.State.{Limits, Counts, Marks, withHolder, State, holder}
 use Rattle.rules.specs.Lines.{waitsFor, inLine, firstInLine, withWaiter, lockAsked, lockHanded}
 use Rattle.rules.specs.Opening.{opened}
-use Rattle.rules.specs.Refusals.{Action, Read, Write, Acquire, Release, Arrive, Want, TallyAdd, TallyRead, Unknown, effect}
+use Rattle.rules.specs.Refusals.{Action, Read, Write, Acquire, Release, Arrive, Want, TallyAdd, TallyRead, Enqueue, Dequeue, Unknown, effect}
 use Rattle.rules.specs.Order.{Event, Took, counted, isAcquireOf, isReleaseOf, Serves}
 use Rattle.rules.proofs.state.Lines.{waiting, waiting-not}
 use Rattle.rules.proofs.state.Waiters.{awaits, holderIn, awake-says, in-line-is, asker-awaits, asker-turn, handed-holder, one-more-waits, one-fewer-waits, nobody-leaves, other-line-asked, other-line-handed}
@@ -122,6 +122,8 @@ module _ (n : ℕ) (s : State) (same : s .counts .processors ≡ n) (l : ℕ) wh
   step-accounts p Want al = refl
   step-accounts p (TallyAdd j x) al = refl
   step-accounts p (TallyRead j) al = refl
+  step-accounts p (Enqueue j) al = refl
+  step-accounts p Dequeue al = refl
   step-accounts p Unknown al = refl
 
 -- ---- over time

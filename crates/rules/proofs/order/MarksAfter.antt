@@ -12,8 +12,8 @@ use Rattle.rules.specs.State.{Limits, Marks, withArrived, withWanted, St
 use Rattle.rules.specs.Lines.{waits, lockAsked, lockHanded}
 use Rattle.rules.specs.Close.{closed}
 use Rattle.rules.specs.Fetch.{fetched}
-use Rattle.rules.specs.Steps.{read, write, acquire, release, atBarrier, allArrived, roundDone, allFetched, noneFetched, emptied, collected, wantsCollection, arrive, want}
-use Rattle.rules.specs.Refusals.{Action, Read, Write, Acquire, Release, Arrive, Want, TallyAdd, TallyRead, Unknown, effect}
+use Rattle.rules.specs.Steps.{read, write, acquire, release, atBarrier, allArrived, roundDone, allFetched, noneFetched, emptied, collected, wantsCollection, arrive, want, enqueue, dequeue}
+use Rattle.rules.specs.Refusals.{Action, Read, Write, Acquire, Release, Arrive, Want, TallyAdd, TallyRead, Enqueue, Dequeue, Unknown, effect}
 use Rattle.rules.proofs.state.Fetches.{all-fetched-marks}
 use Rattle.rules.proofs.state.Waiters.{awaits, turnAt, holderIn, asked-arrived, handed-arrived}
 use Rattle.rules.proofs.inorder.KeptParts.{arrivedIn}
@@ -26,7 +26,7 @@ abbrev arrivedMarks : State → ℕ → List ℕ
 arrivedMarks s p = put 0 (s .marks .arrived) p 1
 
 -- what depends on neither the arrived marks nor the wish stays
-arrive-keeps : (f : Marks → List ℕ) → ((m : Marks) (l : List ℕ) → f (withArrived m l) ≡ f m) → ((m : Marks) (w : ℕ) → f (withWanted m w) ≡ f m)
+pub arrive-keeps : (f : Marks → List ℕ) → ((m : Marks) (l : List ℕ) → f (withArrived m l) ≡ f m) → ((m : Marks) (w : ℕ) → f (withWanted m w) ≡ f m)
     → (lim : Limits) (s : State) (p : ℕ) → f (arrive lim s p .after .marks) ≡ f (s .marks)
 unfolding arrive collected emptied roundDone atBarrier closed
 arrive-keeps f marks-kept wish-kept lim s p = go (allArrived (atBarrier s p)) (wantsCollection (atBarrier s p))
@@ -145,6 +145,8 @@ linesAfter s p Arrive = s .marks
 linesAfter s p Want = s .marks
 linesAfter s p (TallyAdd j x) = s .marks
 linesAfter s p (TallyRead j) = s .marks
+linesAfter s p (Enqueue j) = s .marks
+linesAfter s p Dequeue = s .marks
 linesAfter s p Unknown = s .marks
 
 -- the same holders, waiters and turns
@@ -155,7 +157,7 @@ pub record SameLines (m m′ : Marks) : Type 0 where
 
 -- they are those of the state that the step leaves
 pub lines-after : (lim : Limits) (s : State) (p : ℕ) (a : Action) → SameLines (effect lim s p a .after .marks) (linesAfter s p a)
-unfolding effect read write acquire release want closed fetched linesAfter
+unfolding effect read write acquire release want closed fetched linesAfter enqueue dequeue
 lines-after lim s p (Read x) = record { holders = refl; awaited = refl; turns = refl }
 lines-after lim s p (Write x v) = record { holders = refl; awaited = refl; turns = refl }
 lines-after lim s p (Acquire l) = record { holders = refl; awaited = refl; turns = refl }
@@ -169,6 +171,8 @@ lines-after lim s p Arrive =
 lines-after lim s p Want = record { holders = refl; awaited = refl; turns = refl }
 lines-after lim s p (TallyAdd j x) = record { holders = refl; awaited = refl; turns = refl }
 lines-after lim s p (TallyRead j) = record { holders = refl; awaited = refl; turns = refl }
+lines-after lim s p (Enqueue j) = record { holders = refl; awaited = refl; turns = refl }
+lines-after lim s p Dequeue = record { holders = refl; awaited = refl; turns = refl }
 lines-after lim s p Unknown = record { holders = refl; awaited = refl; turns = refl }
 
 module _ (lim : Limits) (s : State) (p : ℕ) (a : Action) where
@@ -196,6 +200,8 @@ arrivedAfter s p Arrive q = cond (completes s p) false (cond (eqb q p) true (has
 arrivedAfter s p Want q = hasArrived s q
 arrivedAfter s p (TallyAdd j x) q = hasArrived s q
 arrivedAfter s p (TallyRead j) q = hasArrived s q
+arrivedAfter s p (Enqueue j) q = hasArrived s q
+arrivedAfter s p Dequeue q = hasArrived s q
 arrivedAfter s p Unknown q = hasArrived s q
 
 arrived-after-arrive : (lim : Limits) (s : State) (p q : ℕ) → hasArrived (arrive lim s p .after) q ≡ arrivedAfter s p Arrive q
@@ -208,7 +214,7 @@ arrived-after-arrive lim s p q = ap (λ (l : List ℕ). marked l q) (arrive-arri
 
 -- it is the mark in the state that the step leaves
 pub arrived-after : (lim : Limits) (s : State) (p : ℕ) (a : Action) (q : ℕ) → hasArrived (effect lim s p a .after) q ≡ arrivedAfter s p a q
-unfolding effect read write acquire release want closed fetched hasArrived arrivedAfter
+unfolding effect read write acquire release want closed fetched hasArrived arrivedAfter enqueue dequeue
 arrived-after lim s p (Read x) q = refl
 arrived-after lim s p (Write x v) q = refl
 arrived-after lim s p (Acquire k) q = ap (λ (l : List ℕ). not (eqb (getD l q 0) 0)) (asked-arrived (s .counts .processors) (s .marks) k p)
@@ -217,4 +223,6 @@ arrived-after lim s p Arrive q = arrived-after-arrive lim s p q
 arrived-after lim s p Want q = refl
 arrived-after lim s p (TallyAdd j x) q = refl
 arrived-after lim s p (TallyRead j) q = refl
+arrived-after lim s p (Enqueue j) q = refl
+arrived-after lim s p Dequeue q = refl
 arrived-after lim s p Unknown q = refl

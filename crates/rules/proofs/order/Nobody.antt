@@ -12,7 +12,7 @@ use Rattle.lists.proofs.Tables.{get-put, get-put-other}
 use Rattle.rules.specs.State.{Limits, Counts, Marks, withHolder, State, hasArrived}
 use Rattle.rules.specs.Lines.{inLine, firstInLine, withWaiter, lockAsked, withoutWaiter, lockHanded}
 use Rattle.rules.specs.Opening.{zeroMarks, opened}
-use Rattle.rules.specs.Refusals.{Step, Action, Read, Write, Acquire, Release, Arrive, Want, TallyAdd, TallyRead, Unknown, actionOf, refusalInOrder, effect, nextInOrder}
+use Rattle.rules.specs.Refusals.{Step, Action, Read, Write, Acquire, Release, Arrive, Want, TallyAdd, TallyRead, Enqueue, Dequeue, Unknown, actionOf, refusalInOrder, effect, nextInOrder}
 use Rattle.rules.proofs.state.Waiters.{holderIn, moved-up-at}
 use Rattle.rules.proofs.inorder.Accepted.{accepted-says, present-says}
 use Rattle.rules.proofs.order.Ghosts.{completes}
@@ -48,6 +48,8 @@ not-marked-after s p Arrive h e = rw (ne-eqb 0 p (λ z. omega arith), e) (go (co
 not-marked-after s p Want h e = e
 not-marked-after s p (TallyAdd j x) h e = e
 not-marked-after s p (TallyRead j) h e = e
+not-marked-after s p (Enqueue j) h e = e
+not-marked-after s p Dequeue h e = e
 not-marked-after s p Unknown h e = e
 
 -- ---- the marks of waiting
@@ -86,6 +88,8 @@ awake-after s p Arrive h f = f
 awake-after s p Want h f = f
 awake-after s p (TallyAdd j x) h f = f
 awake-after s p (TallyRead j) h f = f
+awake-after s p (Enqueue j) h f = f
+awake-after s p Dequeue h f = f
 awake-after s p Unknown h f = f
 
 -- ---- runs

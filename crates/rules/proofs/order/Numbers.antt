@@ -9,7 +9,7 @@ use mathlib.Core.List.{List}
 use lib.Dec.{eqb}
 use Rattle.rules.specs.State.{Limits, Counts, Holder, Processor, Lock, Barrier, State, holder}
 use Rattle.rules.specs.Lines.{firstInLine}
-use Rattle.rules.specs.Refusals.{Action, Read, Write, Acquire, Release, Arrive, Want, TallyAdd, TallyRead, Unknown}
+use Rattle.rules.specs.Refusals.{Action, Read, Write, Acquire, Release, Arrive, Want, TallyAdd, TallyRead, Enqueue, Dequeue, Unknown}
 use Rattle.rules.specs.Order.{Event, Took, rounds}
 use Rattle.rules.proofs.state.Holders.{sameHolder}
 use Rattle.rules.proofs.order.Timeline.{Timeline, Moment, Refused, Taken, moment, counts-stay}
@@ -42,6 +42,8 @@ module _ (w : ℕ) (s : State) (p : ℕ) (γ : Ghost) where
   barrier-grows Want e = omega arith
   barrier-grows (TallyAdd j x) e = omega arith
   barrier-grows (TallyRead j) e = omega arith
+  barrier-grows (Enqueue j) e = omega arith
+  barrier-grows Dequeue e = omega arith
   barrier-grows Unknown e = omega arith
 
   -- a completed round hands on what the barrier knew and what its last processor knew

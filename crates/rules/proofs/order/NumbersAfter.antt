@@ -6,13 +6,13 @@ use mathlib.Core.Path.{_≡_, refl, sym, _∙_}
 use mathlib.Core.Bool.{Bool, true, false, cond, _&&_, false≢true}
 use lib.Dec.{eqb}
 use borrow.Author.Tests.{eqb-true, eqb-false, ne-eqb}
-use Rattle.rules.specs.State.{Limits, Holder, Processor, Lock, Barrier, Applied, Interval, State, holder, hasArrived}
+use Rattle.rules.specs.State.{Limits, Holder, Processor, Lock, Barrier, Applied, Interval, Job, State, holder, hasArrived}
 use Rattle.rules.specs.Lines.{firstInLine}
-use Rattle.rules.specs.Refusals.{Action, Read, Write, Acquire, Release, Arrive, Want, TallyAdd, TallyRead, Unknown, effect}
+use Rattle.rules.specs.Refusals.{Action, Read, Write, Acquire, Release, Arrive, Want, TallyAdd, TallyRead, Enqueue, Dequeue, Unknown, effect}
 use Rattle.rules.proofs.state.Holders.{sameHolder, same-holder-refl, same-holder}
 use Rattle.rules.proofs.state.Waiters.{holderIn, found-stands, asked-holder, handed-holder}
 use Rattle.rules.proofs.inorder.Facts.{LinesInOrder}
-use Rattle.rules.proofs.order.Ghosts.{Ghost, withNumber, learnedNumbers, roundNumbers, completes, arrivedNumbers, freedNumbers, grantedNumbers, ghostAfter}
+use Rattle.rules.proofs.order.Ghosts.{Ghost, withNumber, learnedNumbers, roundNumbers, completes, arrivedNumbers, freedNumbers, grantedNumbers, ghostAfter, ghostPlace}
 use Rattle.rules.proofs.order.ActionKinds.{writesTo}
 use Rattle.rules.proofs.order.MarksAfter.{awake-not-arrived, linesAfter, holder-after, arrivedAfter, arrived-after}
 use Rattle.rules.proofs.order.Allowed.{Allowed}
@@ -40,7 +40,7 @@ with-number-grows f h n below k = go (sameHolder h k) refl
     go true e = rw (← same-holder h k e) below
     go false e = omega arith
 
-with-number-other : (f : Holder → ℕ) (h : Holder) (n : ℕ) (k : Holder) → sameHolder h k ≡ false → withNumber f h n k ≡ f k
+pub with-number-other : (f : Holder → ℕ) (h : Holder) (n : ℕ) (k : Holder) → sameHolder h k ≡ false → withNumber f h n k ≡ f k
 unfolding withNumber
 with-number-other f h n k e = rw e
 
@@ -131,6 +131,7 @@ round-numbers-at-most f m all (Lock l) = all (Lock l)
 round-numbers-at-most f m all Barrier = omega arith
 round-numbers-at-most f m all (Applied p g) = omega arith
 round-numbers-at-most f m all (Interval p i) = omega arith
+round-numbers-at-most f m all (Job k) = all (Job k)
 
 -- ---- what holds of the numbers
 
@@ -172,6 +173,8 @@ module _ (n w : ℕ) (s : State) (p : ℕ) (γ : Ghost) where
   at-most-after k Want h = k .at-most h
   at-most-after k (TallyAdd j x) h = k .at-most h
   at-most-after k (TallyRead j) h = k .at-most h
+  at-most-after k (Enqueue j) h = with-number-at-most (γ .known) (Job (ghostPlace s)) (γ .known (Processor p)) (γ .writes) (k .at-most (Processor p)) (k .at-most) h
+  at-most-after k Dequeue h = learned-at-most (γ .known) (Processor p) (Job (s .marks .first)) (γ .writes) (k .at-most) h
   at-most-after k Unknown h = k .at-most h
 
   -- no processor's number falls
@@ -197,6 +200,8 @@ module _ (n w : ℕ) (s : State) (p : ℕ) (γ : Ghost) where
   processor-grows k Want q = omega arith
   processor-grows k (TallyAdd j x) q = omega arith
   processor-grows k (TallyRead j) q = omega arith
+  processor-grows k (Enqueue j) q = omega arith
+  processor-grows k Dequeue q = learned-grows (γ .known) (Processor p) (Job (s .marks .first)) (Processor q)
   processor-grows k Unknown q = omega arith
 
   -- nor a lock's
@@ -228,6 +233,8 @@ module _ (n w : ℕ) (s : State) (p : ℕ) (γ : Ghost) where
   lock-grows k Want al i = omega arith
   lock-grows k (TallyAdd j x) al i = omega arith
   lock-grows k (TallyRead j) al i = omega arith
+  lock-grows k (Enqueue j) al i = omega arith
+  lock-grows k Dequeue al i = omega arith
   lock-grows k Unknown al i = omega arith
 
   holder-knows-after : Knowing n s γ → (a : Action) (l : ℕ) → (holderIn (linesAfter s p a) l ≡ 0 → ⊥)
@@ -278,6 +285,8 @@ module _ (n w : ℕ) (s : State) (p : ℕ) (γ : Ghost) where
   holder-knows-after k Want l h = k .holder-knows l h
   holder-knows-after k (TallyAdd j x) l h = k .holder-knows l h
   holder-knows-after k (TallyRead j) l h = k .holder-knows l h
+  holder-knows-after k (Enqueue j) l h = k .holder-knows l h
+  holder-knows-after k Dequeue l h = omega (arith, k .holder-knows l h, learned-grows (γ .known) (Processor p) (Job (s .marks .first)) (Processor (holder s l)))
   holder-knows-after k Unknown l h = k .holder-knows l h
 
   -- who has arrived does not act, so a step leaves its number
@@ -333,6 +342,13 @@ module _ (n w : ℕ) (s : State) (p : ℕ) (γ : Ghost) where
   arrived-knows-after f k Want al q h = k .arrived-knows q h
   arrived-knows-after f k (TallyAdd j x) al q h = k .arrived-knows q h
   arrived-knows-after f k (TallyRead j) al q h = k .arrived-knows q h
+  arrived-knows-after f k (Enqueue j) al q h = k .arrived-knows q h
+  arrived-knows-after f k Dequeue al q h =
+      omega (
+        arith,
+        with-number-other (γ .known) (Processor p) (max (γ .known (Processor p)) (γ .known (Job (s .marks .first)))) (Processor q) (not-the-taker Dequeue al q h),
+        k .arrived-knows q h,
+      )
   arrived-knows-after f k Unknown al q h = k .arrived-knows q h
 
   -- a step that is no write to w leaves the number of writes
@@ -346,6 +362,8 @@ module _ (n w : ℕ) (s : State) (p : ℕ) (γ : Ghost) where
   writes-after Want e = refl
   writes-after (TallyAdd j x) e = refl
   writes-after (TallyRead j) e = refl
+  writes-after (Enqueue j) e = refl
+  writes-after Dequeue e = refl
   writes-after Unknown e = refl
 
   -- and after a write to w its processor knows them all
@@ -359,6 +377,8 @@ module _ (n w : ℕ) (s : State) (p : ℕ) (γ : Ghost) where
   writer-knows Want e = absurd (false≢true e)
   writer-knows (TallyAdd j x) e = absurd (false≢true e)
   writer-knows (TallyRead j) e = absurd (false≢true e)
+  writer-knows (Enqueue j) e = absurd (false≢true e)
+  writer-knows Dequeue e = absurd (false≢true e)
   writer-knows Unknown e = absurd (false≢true e)
 
   -- all of it stays

@@ -13,7 +13,7 @@ use borrow.Author.Tests.{eq-eqb}
 use Rattle.lists.proofs.Tables.{get-put}
 use Rattle.rules.specs.State.{Limits, Counts, Processor, Lock, Marks, withHolder, State, holder}
 use Rattle.rules.specs.Lines.{waits, firstInLine, withoutWaiter, lockHanded}
-use Rattle.rules.specs.Refusals.{Action, Read, Write, Acquire, Release, Arrive, Want, TallyAdd, TallyRead, Unknown}
+use Rattle.rules.specs.Refusals.{Action, Read, Write, Acquire, Release, Arrive, Want, TallyAdd, TallyRead, Enqueue, Dequeue, Unknown}
 use Rattle.rules.specs.Order.{Event, eventAt, Took, Serves, Before}
 use Rattle.rules.specs.Demand.{valueField, lastWritten, EarlierWrite}
 use Rattle.rules.proofs.state.Holders.{sameHolder}
@@ -27,7 +27,8 @@ use Rattle.rules.proofs.order.Turns.{waits-or-holds}
 use Rattle.rules.proofs.order.Grants.{waits-behind, served-holds}
 use Rattle.rules.proofs.order.NumbersAfter.{with-number-same, learner-knows, granted-grows, granted-at-lock, writes-after, writer-knows}
 use Rattle.rules.proofs.order.Numbers.{knowing, known-at-most-writes, processor-never-falls, lock-never-falls, round-tells}
-use Rattle.rules.proofs.order.Carrying.{Telling, Told, told-at-once, carries-strictly}
+use Rattle.rules.proofs.order.Jobs.{job-tells}
+use Rattle.rules.proofs.order.Carrying.{Telling, told-at-once, carries-strictly, Told}
 
 -- ---- who waits
 
@@ -53,6 +54,8 @@ awake-after s p Arrive e h = h
 awake-after s p Want e h = h
 awake-after s p (TallyAdd j x) e h = h
 awake-after s p (TallyRead j) e h = h
+awake-after s p (Enqueue j) e h = h
+awake-after s p Dequeue e h = h
 awake-after s p Unknown e h = h
 
 -- ---- what a release and an acquire hand on
@@ -85,6 +88,8 @@ module _ (w : ℕ) (s : State) (p : ℕ) (γ : Ghost) where
   last-after Want = refl
   last-after (TallyAdd j x) = refl
   last-after (TallyRead j) = refl
+  last-after (Enqueue j) = refl
+  last-after Dequeue = refl
   last-after Unknown = refl
 
 module _ (lim : Limits) (c : Counts) (es : List Event) (r : Timeline lim c es) (w : ℕ) where
@@ -164,6 +169,7 @@ module _ (lim : Limits) (c : Counts) (es : List Event) (r : Timeline lim c es) (
         waiting-told = waiting-told;
         waits-for = λ t q l v. ap (waits (r .state t .marks)) (v .is) ∙ waiter-waits (r .state t .marks) (v .place) l (v .for-lock);
         grant-tells = grant-tells;
+        job-tells = job-tells lim c es r w;
         round-tells = round-tells lim c es r w;
       }
 
@@ -218,11 +224,11 @@ module _ (lim : Limits) (c : Counts) (es : List Event) (r : Timeline lim c es) (
       go (Refused e k) ih = kept (ap (λ (γ : Ghost). γ .writes) (ghost-refused lim c es r w t e)) ih
       go (Taken p a took acc k) ih = taken p a took (writesTo w a) refl ih
 
-  -- a processor whose step, no acquire, every earlier write to w by another is before knows all writes; its own it knows in any order
-  pub knows-all-writes : (j p : ℕ) (a : Action) → Took es j p a → ((l : ℕ) → a ≡ Acquire l → ⊥)
+  -- a processor whose step, no acquire and no dequeue, every earlier write to w by another is before knows all writes; its own it knows in any order
+  pub knows-all-writes : (j p : ℕ) (a : Action) → Took es j p a → ((l : ℕ) → a ≡ Acquire l → ⊥) → (a ≡ Dequeue → ⊥)
       → ((i q v : ℕ) → EarlierWrite es w j i q v → (q ≡ p → ⊥) → Before (c .processors) es i j)
       → ghostAt lim c es r w j .known (Processor p) ≡ ghostAt lim c es r w j .writes
-  knows-all-writes j p a took none-acquired before = go (no-write-or-last j)
+  knows-all-writes j p a took none-acquired none-removed before = go (no-write-or-last j)
     where
       most : ghostAt lim c es r w j .known (Processor p) ≤ ghostAt lim c es r w j .writes
       most = known-at-most-writes lim c es r w j (Processor p)
@@ -241,7 +247,8 @@ module _ (lim : Limits) (c : Counts) (es : List Event) (r : Timeline lim c es) (
           least (yes e) = (rw e at told) .at j (l .write .earlier) (numbers-tell .acts-awake j p a took)
           least (no e) =
               rw (took .processor) at
-              (carries-strictly numbers-tell (l .place) j (before (l .place) (l .processor) (l .value) (l .write) e) (λ k e. none-acquired k (sym (took .action) ∙ e)) x
+              (carries-strictly numbers-tell (l .place) j (before (l .place) (l .processor) (l .value) (l .write) e) (λ k e. none-acquired k (sym (took .action) ∙ e))
+              (λ e. none-removed (sym (took .action) ∙ e)) x
               (rw (l .write .wrote .processor) told))
 
   -- the ghost's last value is the value field of the last write

@@ -12,7 +12,7 @@ use Rattle.lists.proofs.Tables.{total-same, total-zero, total-change}
 use Rattle.rules.specs.State.{Limits, Counts, State, hasArrived}
 use Rattle.rules.specs.Close.{closed}
 use Rattle.rules.specs.Steps.{atBarrier, allArrived}
-use Rattle.rules.specs.Refusals.{Action, Read, Write, Acquire, Release, Arrive, Want, TallyAdd, TallyRead, Unknown, effect}
+use Rattle.rules.specs.Refusals.{Action, Read, Write, Acquire, Release, Arrive, Want, TallyAdd, TallyRead, Enqueue, Dequeue, Unknown, effect}
 use Rattle.rules.specs.Order.{Event, eventAt, Took, isArrival, Groups, countedOff, groupsBefore, rounds}
 use Rattle.rules.proofs.inorder.OpenedInOrder.{opened-not-arrived}
 use Rattle.rules.proofs.order.Timeline.{Timeline, Moment, Refused, Taken, moment, counts-stay}
@@ -108,6 +108,8 @@ arrivals-after n lim s p Arrive al = arrivals-arrive n lim s p al
 arrivals-after n lim s p Want al = arrivals-same n s (effect lim s p Want .after) (arrived-after lim s p Want)
 arrivals-after n lim s p (TallyAdd j x) al = arrivals-same n s (effect lim s p (TallyAdd j x) .after) (arrived-after lim s p (TallyAdd j x))
 arrivals-after n lim s p (TallyRead j) al = arrivals-same n s (effect lim s p (TallyRead j) .after) (arrived-after lim s p (TallyRead j))
+arrivals-after n lim s p (Enqueue j) al = arrivals-same n s (effect lim s p (Enqueue j) .after) (arrived-after lim s p (Enqueue j))
+arrivals-after n lim s p Dequeue al = arrivals-same n s (effect lim s p Dequeue .after) (arrived-after lim s p Dequeue)
 arrivals-after n lim s p Unknown al = arrivals-same n s (effect lim s p Unknown .after) (arrived-after lim s p Unknown)
 
 -- ---- the groups

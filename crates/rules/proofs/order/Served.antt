@@ -12,7 +12,7 @@ use borrow.Author.Tests.{eqb-true, eqb-false, eq-eqb, ne-eqb}
 use Rattle.rules.specs.State.{Limits, Counts, Marks, withHolder, State, holder}
 use Rattle.rules.specs.Lines.{waits, inLine, firstInLine, withWaiter, lockAsked, lockHanded}
 use Rattle.rules.specs.InOrder.{present}
-use Rattle.rules.specs.Refusals.{Action, Read, Write, Acquire, Release, Arrive, Want, TallyAdd, TallyRead, Unknown, actionOf, effect}
+use Rattle.rules.specs.Refusals.{Action, Read, Write, Acquire, Release, Arrive, Want, TallyAdd, TallyRead, Enqueue, Dequeue, Unknown, actionOf, effect}
 use Rattle.rules.specs.Order.{Event, eventAt, Took, counted, isAcquireOf, isReleaseOf}
 use Rattle.rules.specs.Waiting.{HandsTo, HasLock, StillWaits}
 use Rattle.rules.proofs.state.Waiters.{awaits, turnAt, holderIn, waiter-waits, found-stands, stands-found, asked-awaits, asked-turn, asked-holder, asked-others, handed-holder, waits-on, waits-no-more, moves-up, stands-still}
@@ -104,6 +104,8 @@ module _ (lim : Limits) (s : State) (o : InOrder lim s) where
     waits-by Want e = Waited e (omega arith)
     waits-by (TallyAdd j x) e = Waited e (omega arith)
     waits-by (TallyRead j) e = Waited e (omega arith)
+    waits-by (Enqueue v) e = Waited e (omega arith)
+    waits-by Dequeue e = Waited e (omega arith)
     waits-by Unknown e = Waited e (omega arith)
 
     -- a holder when lock i is asked for, and when it is handed on
@@ -140,6 +142,8 @@ module _ (lim : Limits) (s : State) (o : InOrder lim s) where
     holds-by Want e = Held e refl
     holds-by (TallyAdd j x) e = Held e refl
     holds-by (TallyRead j) e = Held e refl
+    holds-by (Enqueue v) e = Held e refl
+    holds-by Dequeue e = Held e refl
     holds-by Unknown e = Held e refl
 
 -- ---- over time

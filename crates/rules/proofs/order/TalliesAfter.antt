@@ -1,11 +1,9 @@
 -- What each kind of step leaves of the tallies, and what it adds to one. Rests on Fetches, KeptShared and Ghosts. Assumes nothing.
 use Prim.Native.Nat.{ℕ, _+_, _%_, _<_}
-use native.Mathlib.Decide.{ℕ-discrete}
 use mathlib.Core.Path.{_≡_, refl}
 use mathlib.Core.Bool.{Bool, true, false, cond, _&&_}
 use lib.ListN.{length}
 use lib.Dec.{eqb}
-use borrow.Author.Tests.{ne-eqb}
 use Rattle.lists.proofs.Tables.{cell-put}
 use Rattle.lists.proofs.Tabulated.{get-tabulate}
 use Rattle.limits.specs.Limits.{wordValues}
@@ -13,11 +11,11 @@ use Rattle.rules.specs.State.{Limits, Shared, postedOf, addsOf, State}
 use Rattle.rules.specs.Tallies.{tallyAdded, totalAfter, posting}
 use Rattle.rules.specs.Close.{closed}
 use Rattle.rules.specs.Fetch.{fetched}
-use Rattle.rules.specs.Steps.{read, write, acquire, release, atBarrier, allArrived, roundDone, noneFetched, emptied, collected, wantsCollection, arrive, want}
-use Rattle.rules.specs.Refusals.{Step, Action, Read, Write, Acquire, Release, Arrive, Want, TallyAdd, TallyRead, Unknown, actionOf, objectBound, effect}
+use Rattle.rules.specs.Steps.{read, write, acquire, release, atBarrier, allArrived, roundDone, noneFetched, emptied, collected, wantsCollection, arrive, want, enqueue, dequeue}
+use Rattle.rules.specs.Refusals.{Step, Action, Read, Write, Acquire, Release, Arrive, Want, TallyAdd, TallyRead, Enqueue, Dequeue, Unknown, actionOf, knownKind, objectBound, effect}
 use Rattle.rules.specs.Demand.{valueField}
 use Rattle.rules.proofs.state.Fetches.{all-fetched-shared}
-use Rattle.rules.proofs.inorder.KindsOfSteps.{objectIn}
+use Rattle.rules.proofs.inorder.KindsOfSteps.{unknown-differs, by-action, objectIn}
 use Rattle.rules.proofs.inorder.KeptShared.{no-adds-left}
 use Rattle.rules.proofs.inorder.Accepted.{Accepted, object-there}
 use Rattle.rules.proofs.order.Ghosts.{completes}
@@ -25,18 +23,20 @@ use Rattle.rules.proofs.order.Ghosts.{completes}
 -- ---- the tallies after a step
 
 -- after an accepted step of processor p in the state s
-unfoldable pub sharedAfter : State → ℕ → Action → Shared
-sharedAfter s p (Read w) = s .shared
-sharedAfter s p (Write w v) = s .shared
-sharedAfter s p (Acquire l) = s .shared
-sharedAfter s p (Release l) = s .shared
-sharedAfter s p Arrive = cond (completes s p) (posting (s .shared) (s .counts .processors)) (s .shared)
-sharedAfter s p Want = s .shared
-sharedAfter s p (TallyAdd t v) = tallyAdded (s .shared) p t v
-sharedAfter s p (TallyRead t) = s .shared
-sharedAfter s p Unknown = s .shared
+unfoldable pub sharedAfter : Limits → State → ℕ → Action → Shared
+sharedAfter lim s p (Read w) = s .shared
+sharedAfter lim s p (Write w v) = s .shared
+sharedAfter lim s p (Acquire l) = s .shared
+sharedAfter lim s p (Release l) = s .shared
+sharedAfter lim s p Arrive = cond (completes s p) (posting (s .shared) (s .counts .processors)) (s .shared)
+sharedAfter lim s p Want = s .shared
+sharedAfter lim s p (TallyAdd t v) = tallyAdded (s .shared) p t v
+sharedAfter lim s p (TallyRead t) = s .shared
+sharedAfter lim s p (Enqueue t) = enqueue lim s p t .shared
+sharedAfter lim s p Dequeue = s .shared
+sharedAfter lim s p Unknown = s .shared
 
-shared-after-arrive : (lim : Limits) (s : State) (p : ℕ) → arrive lim s p .after .shared ≡ sharedAfter s p Arrive
+shared-after-arrive : (lim : Limits) (s : State) (p : ℕ) → arrive lim s p .after .shared ≡ sharedAfter lim s p Arrive
 unfolding arrive collected emptied roundDone atBarrier closed completes sharedAfter
 shared-after-arrive lim s p = go (allArrived (atBarrier s p)) (wantsCollection (atBarrier s p))
   where
@@ -48,8 +48,8 @@ shared-after-arrive lim s p = go (allArrived (atBarrier s p)) (wantsCollection (
     go false b = refl
 
 -- they are those of the state that the step leaves
-pub shared-after : (lim : Limits) (s : State) (p : ℕ) (a : Action) → effect lim s p a .after .shared ≡ sharedAfter s p a
-unfolding effect read write acquire release want closed fetched sharedAfter
+pub shared-after : (lim : Limits) (s : State) (p : ℕ) (a : Action) → effect lim s p a .after .shared ≡ sharedAfter lim s p a
+unfolding effect read write acquire release want closed fetched sharedAfter dequeue
 shared-after lim s p (Read w) = refl
 shared-after lim s p (Write w v) = refl
 shared-after lim s p (Acquire l) = refl
@@ -58,6 +58,8 @@ shared-after lim s p Arrive = shared-after-arrive lim s p
 shared-after lim s p Want = refl
 shared-after lim s p (TallyAdd t v) = refl
 shared-after lim s p (TallyRead t) = refl
+shared-after lim s p (Enqueue t) = refl
+shared-after lim s p Dequeue = refl
 shared-after lim s p Unknown = refl
 
 -- ---- one tally
@@ -94,28 +96,15 @@ addsBy t Arrive = 0
 addsBy t Want = 0
 addsBy t (TallyAdd u v) = cond (eqb u t) (valueField v) 0
 addsBy t (TallyRead u) = 0
+addsBy t (Enqueue u) = 0
+addsBy t Dequeue = 0
 addsBy t Unknown = 0
 
 -- it is the value field of a step of kind 8 with that object
 pub kind-adds : (t : ℕ) (s : Step) → cond (eqb (s .kind) 8 && eqb (s .object) t) (valueField (s .value)) 0 ≡ addsBy t (actionOf s)
-unfolding actionOf addsBy
-kind-adds t s = go (ℕ-discrete (s .kind) 8)
-  where
-    other : (b₁ b₂ b₃ b₄ b₅ b₆ b₉ : Bool)
-        → 0
-        ≡ addsBy t (cond b₁ (Read (s .object)) (cond b₂ (Write (s .object) (s .value)) (cond b₃ (Acquire (s .object)) (cond b₄ (Release (s .object)) (cond b₅ Arrive (cond b₆ Want (cond b₉ (TallyRead (s .object)) Unknown)))))))
-    other true b₂ b₃ b₄ b₅ b₆ b₉ = refl
-    other false true b₃ b₄ b₅ b₆ b₉ = refl
-    other false false true b₄ b₅ b₆ b₉ = refl
-    other false false false true b₅ b₆ b₉ = refl
-    other false false false false true b₆ b₉ = refl
-    other false false false false false true b₉ = refl
-    other false false false false false false true = refl
-    other false false false false false false false = refl
-
-    go : Dec (s .kind ≡ 8) → cond (eqb (s .kind) 8 && eqb (s .object) t) (valueField (s .value)) 0 ≡ addsBy t (actionOf s)
-    go (yes e) = rw e
-    go (no e) = rw (ne-eqb (s .kind) 8 e) (other (eqb (s .kind) 1) (eqb (s .kind) 2) (eqb (s .kind) 3) (eqb (s .kind) 4) (eqb (s .kind) 5) (eqb (s .kind) 6) (eqb (s .kind) 9))
+unfolding addsBy knownKind
+kind-adds t s =
+    by-action (λ k a. cond (eqb k 8 && eqb (s .object) t) (valueField (s .value)) 0 ≡ addsBy t a) s refl refl refl refl refl refl refl refl refl refl (λ k u. rw (unknown-differs 8 refl k u))
 
 -- the tally of a read that was accepted is present
 pub total-there : (lim : Limits) (s : State) (t : Step) (x : ℕ) → actionOf t ≡ TallyRead x → Accepted lim s t → x < lim .tallies

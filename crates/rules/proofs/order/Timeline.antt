@@ -10,8 +10,8 @@ use Rattle.rules.specs.State.{Limits, Counts, State}
 use Rattle.rules.specs.Opening.{opened}
 use Rattle.rules.specs.Close.{closed}
 use Rattle.rules.specs.Fetch.{fetched}
-use Rattle.rules.specs.Steps.{read, write, acquire, release, atBarrier, allArrived, roundDone, noneFetched, emptied, collected, wantsCollection, arrive, want}
-use Rattle.rules.specs.Refusals.{Action, Read, Write, Acquire, Release, Arrive, Want, TallyAdd, TallyRead, Unknown, actionOf, refusalInOrder, effect, nextInOrder}
+use Rattle.rules.specs.Steps.{read, write, acquire, release, atBarrier, allArrived, roundDone, noneFetched, emptied, collected, wantsCollection, arrive, want, enqueue, dequeue}
+use Rattle.rules.specs.Refusals.{Action, Read, Write, Acquire, Release, Arrive, Want, TallyAdd, TallyRead, Enqueue, Dequeue, Unknown, actionOf, refusalInOrder, effect, nextInOrder}
 use Rattle.rules.specs.Order.{Event, eventAt, Took}
 use Rattle.rules.proofs.state.Fetches.{all-fetched-counts}
 use Rattle.rules.proofs.inorder.Facts.{InOrder}
@@ -85,7 +85,7 @@ arrive-counts lim s p = go (allArrived (atBarrier s p)) (wantsCollection (atBarr
     go false b = refl
 
 pub effect-keeps-counts : (lim : Limits) (s : State) (p : ℕ) (a : Action) → effect lim s p a .after .counts ≡ s .counts
-unfolding effect read write acquire release want closed fetched
+unfolding effect read write acquire release want closed fetched enqueue dequeue
 effect-keeps-counts lim s p (Read w) = refl
 effect-keeps-counts lim s p (Write w v) = refl
 effect-keeps-counts lim s p (Acquire l) = refl
@@ -94,6 +94,8 @@ effect-keeps-counts lim s p Arrive = arrive-counts lim s p
 effect-keeps-counts lim s p Want = refl
 effect-keeps-counts lim s p (TallyAdd j x) = refl
 effect-keeps-counts lim s p (TallyRead j) = refl
+effect-keeps-counts lim s p (Enqueue j) = refl
+effect-keeps-counts lim s p Dequeue = refl
 effect-keeps-counts lim s p Unknown = refl
 
 pub counts-kept : (lim : Limits) (es : List Event) (state : ℕ → State) → Course lim es state → (t : ℕ) → state t .counts ≡ state 0 .counts

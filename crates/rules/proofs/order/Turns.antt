@@ -10,7 +10,7 @@ use mathlib.Core.List.{List}
 use borrow.Author.Tests.{eq-eqb}
 use Rattle.rules.specs.State.{Limits, Counts, Marks, State, holder}
 use Rattle.rules.specs.Lines.{waits, firstInLine}
-use Rattle.rules.specs.Refusals.{Action, Read, Write, Acquire, Release, Arrive, Want, TallyAdd, TallyRead, Unknown, effect}
+use Rattle.rules.specs.Refusals.{Action, Read, Write, Acquire, Release, Arrive, Want, TallyAdd, TallyRead, Enqueue, Dequeue, Unknown, effect}
 use Rattle.rules.specs.Order.{Event, eventAt, Took, counted, isReleaseOf}
 use Rattle.rules.proofs.state.Waiters.{awaits, turnAt, holderIn, waiter-waits, found-stands, stands-found, asked-others, handed-holder, waits-on, moves-up, stands-still}
 use Rattle.rules.proofs.inorder.Facts.{LinesInOrder}
@@ -48,6 +48,8 @@ module _ (lim : Limits) (s : State) (p : ℕ) (l k x : ℕ) (st : StandsAt (s .m
   stays-in-line d Want e = st
   stays-in-line d (TallyAdd j x) e = st
   stays-in-line d (TallyRead j) e = st
+  stays-in-line d (Enqueue j) e = st
+  stays-in-line d Dequeue e = st
   stays-in-line d Unknown e = st
 
   -- a release of it moves it up

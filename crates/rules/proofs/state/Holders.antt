@@ -11,7 +11,7 @@ use borrow.Author.Tests.{eqb-true, eq-eqb}
 use Rattle.lists.specs.Tables.{put}
 use Rattle.lists.proofs.Tables.{get-put-same, get-put-other, get-put, length-put-within, cell-put, get-map}
 use Rattle.clock.specs.Clocks.{entryOf, sumOf}
-use Rattle.rules.specs.State.{Counts, Holder, Processor, Lock, Barrier, Applied, Interval, Clocks, clockOf, withClock, cleared}
+use Rattle.rules.specs.State.{Counts, Holder, Processor, Lock, Barrier, Applied, Interval, Job, Clocks, clockOf, withClock, cleared}
 use Rattle.rules.specs.Close.{raised}
 use Rattle.rules.specs.Steps.{allCleared}
 
@@ -43,6 +43,17 @@ sameHolder (Interval p₁ i₁) (Lock l₂) = false
 sameHolder (Interval p₁ i₁) Barrier = false
 sameHolder (Interval p₁ i₁) (Applied p₂ g₂) = false
 sameHolder (Interval p₁ i₁) (Interval p₂ i₂) = eqb p₂ p₁ && eqb i₂ i₁
+sameHolder (Processor p₁) (Job k₂) = false
+sameHolder (Lock l₁) (Job k₂) = false
+sameHolder Barrier (Job k₂) = false
+sameHolder (Applied p₁ g₁) (Job k₂) = false
+sameHolder (Interval p₁ i₁) (Job k₂) = false
+sameHolder (Job k₁) (Processor p₂) = false
+sameHolder (Job k₁) (Lock l₂) = false
+sameHolder (Job k₁) Barrier = false
+sameHolder (Job k₁) (Applied p₂ g₂) = false
+sameHolder (Job k₁) (Interval p₂ i₂) = false
+sameHolder (Job k₁) (Job k₂) = eqb k₂ k₁
 
 pub same-holder-refl : (h : Holder) → sameHolder h h ≡ true
 unfolding sameHolder
@@ -51,6 +62,7 @@ same-holder-refl (Lock l) = eq-eqb l l refl
 same-holder-refl Barrier = refl
 same-holder-refl (Applied p g) = and-eq-true-iff (eqb p p) (eqb g g) .1 (eq-eqb p p refl, eq-eqb g g refl)
 same-holder-refl (Interval p i) = and-eq-true-iff (eqb p p) (eqb i i) .1 (eq-eqb p p refl, eq-eqb i i refl)
+same-holder-refl (Job k) = eq-eqb k k refl
 
 pub same-holder : (h k : Holder) → sameHolder h k ≡ true → h ≡ k
 unfolding sameHolder
@@ -79,6 +91,17 @@ same-holder (Interval p₁ i₁) (Lock l₂) e = absurd (false≢true e)
 same-holder (Interval p₁ i₁) Barrier e = absurd (false≢true e)
 same-holder (Interval p₁ i₁) (Applied p₂ g₂) e = absurd (false≢true e)
 same-holder (Interval p₁ i₁) (Interval p₂ i₂) e = let t = and-eq-true-iff (eqb p₂ p₁) (eqb i₂ i₁) .0 e in ap₂ Interval (sym (eqb-true p₂ p₁ (t .0))) (sym (eqb-true i₂ i₁ (t .1)))
+same-holder (Processor p₁) (Job k₂) e = absurd (false≢true e)
+same-holder (Lock l₁) (Job k₂) e = absurd (false≢true e)
+same-holder Barrier (Job k₂) e = absurd (false≢true e)
+same-holder (Applied p₁ g₁) (Job k₂) e = absurd (false≢true e)
+same-holder (Interval p₁ i₁) (Job k₂) e = absurd (false≢true e)
+same-holder (Job k₁) (Processor p₂) e = absurd (false≢true e)
+same-holder (Job k₁) (Lock l₂) e = absurd (false≢true e)
+same-holder (Job k₁) Barrier e = absurd (false≢true e)
+same-holder (Job k₁) (Applied p₂ g₂) e = absurd (false≢true e)
+same-holder (Job k₁) (Interval p₂ i₂) e = absurd (false≢true e)
+same-holder (Job k₁) (Job k₂) e = ap Job (sym (eqb-true k₂ k₁ e))
 
 pub other-holder : (h k : Holder) → (h ≡ k → ⊥) → sameHolder h k ≡ false
 other-holder h k d = go (sameHolder h k) refl
@@ -116,6 +139,17 @@ clock-of-with c (Interval p₁ i₁) v (Lock l₂) = refl
 clock-of-with c (Interval p₁ i₁) v Barrier = refl
 clock-of-with c (Interval p₁ i₁) v (Applied p₂ g₂) = refl
 clock-of-with c (Interval p₁ i₁) v (Interval p₂ i₂) = cell-put [] (c .intervals) p₁ i₁ p₂ i₂ v
+clock-of-with c (Processor p₁) v (Job k₂) = refl
+clock-of-with c (Lock l₁) v (Job k₂) = refl
+clock-of-with c Barrier v (Job k₂) = refl
+clock-of-with c (Applied p₁ g₁) v (Job k₂) = refl
+clock-of-with c (Interval p₁ i₁) v (Job k₂) = refl
+clock-of-with c (Job k₁) v (Processor p₂) = refl
+clock-of-with c (Job k₁) v (Lock l₂) = refl
+clock-of-with c (Job k₁) v Barrier = refl
+clock-of-with c (Job k₁) v (Applied p₂ g₂) = refl
+clock-of-with c (Job k₁) v (Interval p₂ i₂) = refl
+clock-of-with c (Job k₁) v (Job k₂) = get-put [] (c .jobs) k₁ k₂ v
 
 pub clock-of-with-same : (c : Clocks) (h : Holder) (v : List ℕ) → clockOf (withClock c h v) h ≡ v
 clock-of-with-same c h v = clock-of-with c h v h ∙ ap (λ (b : Bool). cond b v (clockOf c h)) (same-holder-refl h)
@@ -132,6 +166,7 @@ Knows n (Lock l) = l < n .locks
 Knows n Barrier = Unit
 Knows n (Applied p g) = ⊥
 Knows n (Interval p i) = ⊥
+Knows n (Job k) = Unit
 
 -- none of them is an applied clock
 pub knows-no-applied : (n : Counts) (h : Holder) (p g : ℕ) → Knows n h → h ≡ Applied p g → ⊥
@@ -152,6 +187,11 @@ pub record Carrier (n : Counts) (h : Holder) : Type 0 where
 pub lock-carries : (n : Counts) (l : ℕ) → l < n .locks → Carrier n (Lock l)
 unfolding Knows sameHolder
 lock-carries n l h = record { knows = h; no-processor = λ q. refl }
+
+-- and a job
+pub job-carries : (n : Counts) (k : ℕ) → Carrier n (Job k)
+unfolding Knows sameHolder
+job-carries n k = record { knows = tt; no-processor = λ q. refl }
 
 -- and the barrier
 pub barrier-carries : (n : Counts) → Carrier n Barrier
@@ -207,3 +247,4 @@ clock-of-all-cleared c Barrier = refl
 clock-of-all-cleared c (Applied p g) = ap (λ (row : List (List ℕ)). getD row g []) (get-map (map cleared) [] (c .applied) p) ∙ get-map cleared [] (getD (c .applied) p []) g
 clock-of-all-cleared c (Interval p i) =
     ap (λ (row : List (List ℕ)). getD row i []) (get-map (map cleared) [] (c .intervals) p) ∙ get-map cleared [] (getD (c .intervals) p []) i
+clock-of-all-cleared c (Job k) = get-map cleared [] (c .jobs) k

@@ -1,21 +1,20 @@
 -- What is left of a state without the contents of words, twins and diffs, and of a step without the value that its kind uses: every refusal, and the same of
 -- the state after a step, depend on that alone. Assumes nothing.
-use Prim.Native.Nat.{ℕ, zero, suc, _+_}
+use Prim.Native.Nat.{ℕ, zero, suc, _+_, _-_}
 use mathlib.Core.Path.{_≡_, refl, sym, ap, _∙_}
 use mathlib.Core.Bool.{Bool, true, false, cond}
 use mathlib.Core.List.{[]}
 use lib.Dec.{eqb}
-use borrow.Author.Tests.{eqb-true}
 use Rattle.lists.specs.Tables.{put}
-use Rattle.rules.specs.State.{Limits, Processor, Lock, Barrier, withArrived, Pages, dirtyAt, appended, State, withClocks, withPages, withMarks, clock, own, holder, hasArrived}
+use Rattle.rules.specs.State.{Limits, Processor, Lock, Barrier, withArrived, Pages, dirtyAt, appended, State, withClocks, withPages, withMarks, clock, own, holder, hasArrived, Job, clockOf, withClock, withQueue}
 use Rattle.rules.specs.InOrder.{present, dirtyPages}
 use Rattle.rules.specs.Lines.{firstInLine, lockAsked, lockHanded}
 use Rattle.rules.specs.Close.{anyDirty, ticked, newRecord, recorded, cleaned, closed}
 use Rattle.rules.specs.Fetch.{withCopy, fetched}
-use Rattle.rules.specs.Steps.{pageOfWord, read, newTwin, twinTaken, stored, write, learned, acquire, lockTold, waiterTold, release, atBarrier, allArrived, roundDone, pagesFetched, allFetched, noneFetched, emptied, collected, wantsCollection, arrive, want, tallyAdd}
+use Rattle.rules.specs.Steps.{pageOfWord, read, newTwin, twinTaken, stored, write, learned, acquire, lockTold, waiterTold, release, atBarrier, allArrived, roundDone, pagesFetched, allFetched, noneFetched, emptied, collected, wantsCollection, arrive, want, tallyAdd, placeBehind, freePlace, enqueue, dequeue}
 use Rattle.rules.proofs.state.WithoutValue.{without-value}
 use Rattle.rules.specs.Noted.{Outline, outline, withoutValue}
-use Rattle.rules.specs.Refusals.{Step, stepOf, Action, Read, Write, Acquire, Release, Arrive, Want, TallyAdd, TallyRead, Unknown, actionOf, objectBound, usesValue, fits, holdsAny, lateRefusal, refusalBy, refusalInOrder, effect, nextInOrder}
+use Rattle.rules.specs.Refusals.{Step, stepOf, Action, Read, Write, Acquire, Release, Arrive, Want, TallyAdd, TallyRead, Enqueue, Dequeue, Unknown, actionOf, objectBound, usesValue, fits, holdsAny, lateRefusal, refusalBy, refusalInOrder, effect, nextInOrder}
 
 -- a state with an outline, and nothing in its pages and slots
 unfoldable blank : Outline → State
@@ -26,7 +25,7 @@ blank o =
       pages = record { copies = []; twins = []; dirty = o .dirty };
       records = record { standing = o .standing; slots = [] };
       marks = o .marks;
-      shared = record { posted = []; adds = [] };
+      shared = record { posted = []; adds = []; values = [] };
     }
 
 -- a change of states that reads outlines alone
@@ -147,6 +146,20 @@ arrive-completed lim s p = go (allArrived (atBarrier s p)) (wantsCollection (atB
 after-arrive : (lim : Limits) (p : ℕ) → ByOutline (λ s. arrive lim s p .after)
 after-arrive lim p s = rw (arrive-completed lim s p, arrive-completed lim (blank (outline s)) p) (both-by-outline (λ x. atBarrier x p) (completed lim) s (after-barrier p s) (completed-by-outline lim))
 
+after-enqueue : (lim : Limits) (v p : ℕ) → ByOutline (λ s. enqueue lim s p v)
+unfolding enqueue freePlace outline blank
+after-enqueue lim v p s =
+    both-by-outline (λ x. closed x p)
+    (λ x. withMarks (withClocks x (withClock (x .clocks) (Job (freePlace lim x)) (clockOf (x .clocks) (Processor p)))) (withQueue (x .marks) (x .marks .first) (x .marks .jobs + 1))) s
+    (closed-by-outline p s) (λ x. refl)
+
+after-dequeue : (lim : Limits) (p : ℕ) → ByOutline (λ s. dequeue lim s p .after)
+unfolding dequeue outline blank
+after-dequeue lim p s =
+    both-by-outline (λ x. closed x p)
+    (λ x. withMarks (withClocks x (learned (x .clocks) (Processor p) (Job (x .marks .first)))) (withQueue (x .marks) (placeBehind lim (x .marks .first)) (x .marks .jobs - 1))) s
+    (closed-by-outline p s) (λ x. refl)
+
 effect-by-outline : (lim : Limits) (p : ℕ) (a : Action) → ByOutline (λ s. effect lim s p a .after)
 unfolding effect
 effect-by-outline lim p (Read w) s = unfold read in fetched-by-outline lim p (pageOfWord lim w) s
@@ -157,6 +170,8 @@ effect-by-outline lim p Arrive s = after-arrive lim p s
 effect-by-outline lim p Want s = unfold want wantsCollection outline blank in refl
 effect-by-outline lim p (TallyAdd j x) s = unfold want wantsCollection outline blank in refl
 effect-by-outline lim p (TallyRead j) s = unfold want wantsCollection outline blank in refl
+effect-by-outline lim p (Enqueue j) s = after-enqueue lim j p s
+effect-by-outline lim p Dequeue s = after-dequeue lim p s
 effect-by-outline lim p Unknown s = unfold outline blank in refl
 
 -- ---- the refusals
@@ -171,6 +186,8 @@ late-by-outline lim s e p Arrive = refl
 late-by-outline lim s e p Want = refl
 late-by-outline lim s e p (TallyAdd j x) = refl
 late-by-outline lim s e p (TallyRead j) = refl
+late-by-outline lim s e p (Enqueue j) = refl
+late-by-outline lim s e p Dequeue = refl
 late-by-outline lim s e p Unknown = refl
 
 bound-by-outline : (lim : Limits) (s : State) (a : Action) → objectBound lim s a ≡ objectBound lim (blank (outline s)) a
@@ -183,6 +200,8 @@ bound-by-outline lim s Arrive = refl
 bound-by-outline lim s Want = refl
 bound-by-outline lim s (TallyAdd j x) = refl
 bound-by-outline lim s (TallyRead j) = refl
+bound-by-outline lim s (Enqueue j) = refl
+bound-by-outline lim s Dequeue = refl
 bound-by-outline lim s Unknown = refl
 
 refused-by-outline : (lim : Limits) (s : State) (t : Step) → refusalInOrder lim s t ≡ refusalInOrder lim (blank (outline s)) t
@@ -217,6 +236,10 @@ module _ (lim : Limits) (s : State) where
   unfolding stepOf refusalInOrder refusalBy fits usesValue actionOf objectBound lateRefusal
   add-refused p t v = refl
 
+  enqueue-refused : (p o v : ℕ) → refusalInOrder lim s (stepOf 10 p o v) ≡ refusalInOrder lim s (stepOf 10 p o 0)
+  unfolding stepOf refusalInOrder refusalBy fits usesValue actionOf objectBound lateRefusal
+  enqueue-refused p o v = refl
+
   write-alike : (p w v : ℕ) → outline (nextInOrder lim s (stepOf 2 p w v)) ≡ outline (nextInOrder lim s (stepOf 2 p w 0))
   unfolding nextInOrder stepOf actionOf effect
   write-alike p w v = rw (write-refused p w v) (go (eqb (refusalInOrder lim s (stepOf 2 p w 0)) 0))
@@ -233,10 +256,18 @@ module _ (lim : Limits) (s : State) where
       go true = unfold outline in refl
       go false = refl
 
+  enqueue-alike : (p o v : ℕ) → outline (nextInOrder lim s (stepOf 10 p o v)) ≡ outline (nextInOrder lim s (stepOf 10 p o 0))
+  unfolding nextInOrder stepOf actionOf effect
+  enqueue-alike p o v = rw (enqueue-refused p o v) (go (eqb (refusalInOrder lim s (stepOf 10 p o 0)) 0))
+    where
+      go : (b : Bool) → outline (cond b (enqueue lim s p v) s) ≡ outline (cond b (enqueue lim s p 0) s)
+      go true = unfold outline enqueue in refl
+      go false = refl
+
   -- a step is refused like the one without its value
   pub value-refused : (t : Step) → refusalInOrder lim s t ≡ refusalInOrder lim s (withoutValue t)
-  value-refused = without-value (refusalInOrder lim s) write-refused add-refused
+  value-refused = without-value (refusalInOrder lim s) write-refused add-refused enqueue-refused
 
   -- and leaves a state alike
   pub value-alike : (t : Step) → outline (nextInOrder lim s t) ≡ outline (nextInOrder lim s (withoutValue t))
-  value-alike = without-value (λ t. outline (nextInOrder lim s t)) write-alike add-alike
+  value-alike = without-value (λ t. outline (nextInOrder lim s t)) write-alike add-alike enqueue-alike

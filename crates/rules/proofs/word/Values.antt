@@ -18,9 +18,9 @@ use Rattle.rules.specs.State.{dirtyAt, Limits, Clocks, Pages, copyOf, tw
 use Rattle.rules.specs.InOrder.{recordAt}
 use Rattle.rules.specs.Close.{newRecord, cleaned, closed}
 use Rattle.rules.specs.Fetch.{isPending, earlier, due, appliedAll, fetched, replaced, unreplaced, applying}
-use Rattle.rules.specs.Steps.{pageOfWord, offsetOfWord, read, twinTaken, stored, write, acquire, release, atBarrier, allArrived, roundDone, noneFetched, emptied, collected, wantsCollection, arrive, want}
+use Rattle.rules.specs.Steps.{pageOfWord, offsetOfWord, read, twinTaken, stored, write, acquire, release, atBarrier, allArrived, roundDone, noneFetched, emptied, collected, wantsCollection, arrive, want, enqueue, dequeue}
 use Rattle.rules.specs.Tallies.{tallyAdded}
-use Rattle.rules.specs.Refusals.{Step, Action, Read, Write, Acquire, Release, Arrive, Want, TallyAdd, TallyRead, Unknown, actionOf, effect}
+use Rattle.rules.specs.Refusals.{Step, Action, Read, Write, Acquire, Release, Arrive, Want, TallyAdd, TallyRead, Enqueue, Dequeue, Unknown, actionOf, effect}
 use Rattle.rules.proofs.state.Slots.{newRecords, slots-recorded, records-recorded, each-standing, standing-each}
 use Rattle.rules.proofs.state.CopyWords.{length-applied-all, word-applied-all, setting-new, with-copy, word-set, words-below}
 use Rattle.rules.proofs.state.Fetches.{all-fetched-keep}
@@ -218,7 +218,7 @@ pub effect-keeps-values : (lim : Limits) (Good : ℕ → ℕ → ℕ → Type 0)
     → ((g o x : ℕ) → Good g o x → x < wordValues)
     → ((x v : ℕ) → actionOf t ≡ Write x v → Good (pageOfWord lim x) (offsetOfWord lim x) (v % wordValues))
     → InOrder lim s → Accepted lim s t → ValuesGood lim Good s → ValuesGood lim Good (effect lim s (t .processor) (actionOf t) .after)
-unfolding effect read acquire release want
+unfolding effect read acquire release want enqueue dequeue
 effect-keeps-values lim Good s t bounded new ord acc h =
     held lim Good (effect lim s (t .processor) (actionOf t) .after) (go (actionOf t) refl)
   where
@@ -245,6 +245,8 @@ effect-keeps-values lim Good s t bounded new ord acc h =
     go Want e = moved lim Good s (s .clocks) (want s .marks) start
     go (TallyAdd j v) e = shared-aside lim Good s (tallyAdded (s .shared) p j v) start
     go (TallyRead j) e = start
+    go (Enqueue j) e = shared-aside lim Good (withMarks (withClocks (closed s p) (enqueue lim s p j .clocks)) (enqueue lim s p j .marks)) (enqueue lim s p j .shared) (moved lim Good (closed s p) (enqueue lim s p j .clocks) (enqueue lim s p j .marks) shut)
+    go Dequeue e = moved lim Good (closed s p) (dequeue lim s p .after .clocks) (dequeue lim s p .after .marks) shut
     go Unknown e = start
 
 -- so does a fetch by any processor of any page
