@@ -1,7 +1,7 @@
--- A test of two or of several conditions as facts about each of them. Assumes nothing.
-use Prim.Native.Nat.{ℕ, zero, suc}
+-- A test of two or of several conditions as facts about each of them, and bounds of a choice. Assumes nothing.
+use Prim.Native.Nat.{ℕ, zero, suc, _≤_}
 use mathlib.Core.Path.{_≡_, refl, sym}
-use mathlib.Core.Bool.{Bool, true, false, _&&_, _||_, and-eq-true-iff, false≢true}
+use mathlib.Core.Bool.{Bool, true, false, cond, _&&_, _||_, and-eq-true-iff, false≢true}
 use mathlib.Core.Logic.{_⊎_, inl, inr}
 use mathlib.Core.List.{List, [], _∷_}
 use lib.ListN.{getD}
@@ -83,3 +83,13 @@ pub either-or : (a b : Bool) → (a ≡ true) ⊎ (b ≡ true) → (a || b) ≡ 
 either-or true b h = refl
 either-or false b (inl e) = absurd (false≢true e)
 either-or false b (inr e) = e
+
+-- what bounds both of a choice bounds it, from above
+pub cond-at-most : (c : Bool) (x y m : ℕ) → x ≤ m → y ≤ m → cond c x y ≤ m
+cond-at-most true x y m a b = a
+cond-at-most false x y m a b = b
+
+-- and from below
+pub cond-at-least : (c : Bool) (x y m : ℕ) → m ≤ x → m ≤ y → m ≤ cond c x y
+cond-at-least true x y m a b = a
+cond-at-least false x y m a b = b

@@ -2,6 +2,7 @@ pub mod Conditions
 pub mod Tables
 pub mod Tabulated
 pub mod Counting
+pub mod Searches
 pub mod Selected
 pub mod Sorting
 pub mod Passing

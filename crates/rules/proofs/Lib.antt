@@ -25,6 +25,8 @@ pub mod DemandThree
 pub mod Cases
 pub mod Race
 pub mod PremisesMet
+pub mod OrderDecided
+pub mod RacesFound
 pub mod OrderPinned
 pub mod NotOrdered
 pub mod RefusalRows

@@ -18,3 +18,10 @@ pub mod Carrying
 pub mod Ring
 pub mod Jobs
 pub mod NumbersFollow
+pub mod StepsSaid
+pub mod ServedWaiter
+pub mod KnownSteps
+pub mod RoundsCompleted
+pub mod KnownTells
+pub mod KnownFollows
+pub mod RaceTest

@@ -17,4 +17,6 @@ pub mod TallyTotals
 pub mod Moved
 pub mod LocksFree
 pub mod Forecast
+pub mod Races
 pub mod Bench
+pub mod inner

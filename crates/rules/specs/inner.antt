@@ -1,0 +1,4 @@
+-- what proofs and other crates' inner definitions say: no reader need believe it
+pub mod Knowing
+pub mod Searching
+pub mod Premise
