@@ -27,6 +27,9 @@ pub mod Race
 pub mod PremisesMet
 pub mod OrderDecided
 pub mod RacesFound
+pub mod CommonMemory
+pub mod PremiseDecided
+pub mod RaceCases
 pub mod OrderPinned
 pub mod NotOrdered
 pub mod RefusalRows

@@ -6,7 +6,6 @@ use mathlib.Core.Path.{_≡_, sym, _∙_}
 use mathlib.Core.Bool.{true, false, false≢true}
 use mathlib.Core.Logic.{_⊎_, inl, inr}
 use mathlib.Core.List.{List}
-use lib.Dec.{leb}
 use borrow.Author.Tests.{leb-true, le-leb}
 use Rattle.rules.specs.Refusals.{Action}
 use Rattle.rules.specs.Order.{Event, eventAt, Took, Before, Ordered}

@@ -1,19 +1,17 @@
 -- Document 02, L11: the search finds what is due of every list of steps, the earliest step that races with the latest of its partners, or that there
 -- is no race; and only one finding is due. Rests on RaceTest. Assumes nothing.
-use Prim.Native.Nat.{ℕ, zero, suc, _-_, _≤_, _<_}
+use Prim.Native.Nat.{ℕ, zero, suc, _-_, _<_}
 use native.Mathlib.Omega.{arith}
-use native.Mathlib.Decide.{decLe}
-use mathlib.Core.Path.{_≡_, refl, sym, ap, _∙_}
+use mathlib.Core.Path.{_≡_, refl, sym, _∙_}
 use mathlib.Core.Bool.{true}
 use mathlib.Core.List.{List}
 use lib.ListN.{length}
-use Rattle.lists.specs.Tables.{any, firstOf}
-use Rattle.lists.specs.inner.Searches.{lastOf}
+use Rattle.lists.specs.Tables.{any}
 use Rattle.lists.proofs.Tables.{Passes, any-at, any-holds}
 use Rattle.lists.proofs.Counting.{first-passes, first-there}
 use Rattle.lists.proofs.Searches.{first-least, last-passes, last-bounds}
 use Rattle.rules.specs.Order.{Event, eventAt}
-use Rattle.rules.specs.Races.{RacePair, FirstRace, NoRace, Finding, Race, None, Finds, race, none}
+use Rattle.rules.specs.Races.{RacePair, FirstRace, NoRace, Finding, Race, Finds, race, none}
 use Rattle.rules.specs.inner.Searching.{races, partnerOf, racer, findingBy, finding}
 use Rattle.rules.proofs.order.RaceTest.{touch-accepted, touch-object, accepted-within, races-says, races-is}
 

@@ -4,8 +4,9 @@ use mathlib.Core.Path.{_≡_}
 use mathlib.Core.Bool.{Bool, true, _&&_, _||_}
 use mathlib.Core.List.{List}
 use lib.Dec.{eqb}
-use Rattle.rules.specs.Order.{Event, eventAt, Ordered}
-use Rattle.rules.specs.Demand.{isWriteTo, lastWritten}
+use Rattle.rules.specs.Refusals.{Step, Read, Answer}
+use Rattle.rules.specs.Order.{Event, events, eventAt, Took, Ordered}
+use Rattle.rules.specs.Demand.{isWriteTo, lastWritten, valueAt}
 
 -- an accepted read of the word w
 unfoldable pub isReadOf : Event → ℕ → Bool
@@ -52,3 +53,7 @@ pub data Finds (n : ℕ) (es : List Event) : Finding → Type 0 where
 -- "one common memory that takes the accepted writes in file order": what it holds in each word before place j
 unfoldable pub memoryAt : List Event → ℕ → ℕ → ℕ
 memoryAt es j w = lastWritten es w j
+
+-- "the value of each accepted kind 1 read equals that of one common memory"
+pub record OneMemory (ts : List Step) (answered : List Answer) : Type 0 where
+  pub reads : (j p w : ℕ) → Took (events ts answered) j p (Read w) → valueAt answered j ≡ memoryAt (events ts answered) j w

@@ -9,7 +9,7 @@ use mathlib.Core.Logic.{_⊎_, inl, inr}
 use mathlib.Core.List.{List}
 use lib.Dec.{eqb}
 use borrow.Author.Tests.{eqb-true}
-use Rattle.rules.specs.Refusals.{Action, Acquire, Release, Arrive, Dequeue}
+use Rattle.rules.specs.Refusals.{Action, Acquire, Dequeue}
 use Rattle.rules.specs.Order.{Event, eventAt, Took, isArrival, rounds, counted, isReleaseOf, isEnqueue, isDequeue, Before, program, lock, round, granted, job, chain}
 use Rattle.rules.specs.inner.Knowing.{Knower, AtProcessor, AtLock, AtBarrier, AtJob, servesTo, completing, heard, row, share, told, known, knows}
 use Rattle.rules.proofs.StrictOrder.{rounds-never-fall}

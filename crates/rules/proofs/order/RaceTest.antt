@@ -1,6 +1,6 @@
 -- The test of a race is the race: the search looks at conflicts and at what the later step knows, the definition at happens-before-1. Rests on
 -- OrderDecided. Assumes nothing.
-use Prim.Native.Nat.{ℕ, suc, _<_}
+use Prim.Native.Nat.{ℕ, _<_}
 use native.Mathlib.Omega.{arith}
 use native.Mathlib.Decide.{decLt}
 use mathlib.Core.Path.{_≡_, refl, sym, ap, _∙_}
