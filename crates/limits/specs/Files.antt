@@ -9,6 +9,10 @@ fileRecordWidth = 8
 abbrev pub stepLimit : ℕ
 stepLimit = 1000000
 
+-- L11: "a step file of at most 4,096 steps"
+abbrev pub raceStepLimit : ℕ
+raceStepLimit = 4096
+
 -- an answer as words: refusal, value, count, and L6's words moved
 abbrev pub answerWidth : ℕ
 answerWidth = 4

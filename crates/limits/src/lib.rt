@@ -146,6 +146,11 @@ pub const FILE_RECORD_WIDTH: usize = 8;
 pub const STEP_LIMIT: u32 = 1000000;
 
 pub const FILE_RECORD_LIMIT: u32 = STEP_LIMIT + 1;
+
+// The race finder: its steps, and the bytes of a file that it looks at, the opening, the steps and one more whole record.
+pub const RACE_STEP_LIMIT: usize = 4096;
+
+pub const RACE_BYTES: usize = FILE_RECORD_WIDTH * (RACE_STEP_LIMIT + 2);
 // An answer as words: refusal, value, count, words.
 pub const ANSWER_WIDTH: usize = 4;
 // The bytes of the longest line: four numbers of ten digits, each with a byte behind it.

@@ -2,7 +2,7 @@
 -- Assumes nothing.
 use Prim.Native.Nat.{ℕ, _+_, _*_, _/_}
 use Rattle.limits.specs.Limits.{processorLimit, pageLimit, pageWidth, lockLimit, recordLimit, intervalLimit, tallyLimit, jobLimit, slotHead}
-use Rattle.limits.specs.Files.{stepLimit}
+use Rattle.limits.specs.Files.{fileRecordWidth, stepLimit, raceStepLimit}
 use Rattle.limits.specs.Places.{firstArrived}
 
 -- "a copy of 256 words": the words of all pages
@@ -212,3 +212,7 @@ indexArea = firstBound + boundArea
 -- the opening and the steps
 abbrev pub fileRecordLimit : ℕ
 fileRecordLimit = stepLimit + 1
+
+-- L11: the bytes of a file that the race finder looks at: the opening, the steps, and one more whole record
+abbrev pub raceBytes : ℕ
+raceBytes = fileRecordWidth * (raceStepLimit + 2)

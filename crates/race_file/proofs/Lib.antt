@@ -1,0 +1,3 @@
+pub mod AnswerDue
+pub mod LookedAt
+pub mod LineCases
