@@ -56,6 +56,7 @@ pub fn count_of(bytes: &[u8], answers: &[u32], kind: usize, object: usize, below
     requires { ⌜ StepsThere (now bytes) (now answers) below ⌝ }
     requires { ⌜ 1 ≤ kind ⌝ }
     ensures { λ r. ⌜ r ≡ counted (isOf kind object) (eventsIn (now (bytes .entry)) (now (answers .entry))) below ⌝ }
+    ensures { λ r. ⌜ r ≤ below ⌝ }
 {
     let mut count: usize = 0;
     let mut t: usize = 0;
@@ -78,6 +79,7 @@ pub fn place_of(
     requires { ⌜ StepsThere (now bytes) (now answers) below ⌝ }
     requires { ⌜ 1 ≤ kind ⌝ }
     ensures { λ r. ⌜ r ≡ placeOf (eventsIn (now (bytes .entry)) (now (answers .entry))) kind object number below ⌝ }
+    ensures { λ r. ⌜ r ≤ below ⌝ }
 {
     let mut count: usize = 0;
     let mut t: usize = 0;

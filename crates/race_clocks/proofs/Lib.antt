@@ -1,0 +1,4 @@
+pub mod SeenKinds
+pub mod Hearing
+pub mod ToldNumbers
+pub mod Serving
