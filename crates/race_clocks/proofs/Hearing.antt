@@ -1,20 +1,23 @@
 -- What a step hears and what it knows, as rows: what its lock or its job knows, what its processor knows, and itself. Rests on SeenKinds, and on the rules'
 -- KnownFollows. Assumes nothing.
-use Prim.Native.Nat.{ℕ, zero, suc, _+_, _-_, _*_, _≤_, _<_, max}
+use Prim.Native.Nat.{ℕ, zero, suc, _+_, _-_, _≤_, _<_, max}
 use native.Mathlib.Omega.{arith}
 use native.Mathlib.Decide.{ℕ-discrete}
 use native.Mathlib.Numerals.{add-one}
 use mathlib.Core.Path.{_≡_, refl, sym, ap, _∙_}
-use mathlib.Core.Bool.{Bool, true, false, cond, _&&_, _||_}
+use mathlib.Core.Bool.{Bool, true, false, cond, _&&_}
 use mathlib.Core.Logic.{_⊎_, inl, inr}
 use mathlib.Core.List.{List}
 use lib.ListN.{length, getD, set, length-set, replicate, getD-replicate}
 use lib.Seq.{ext-getD, getD-set-same, getD-set-other}
 use lib.Dec.{eqb}
 use borrow.Author.Tests.{eqb-true, eq-eqb, ne-eqb}
+use borrow.Author.Needs.{needs}
+use mir.Syntax.{w64}
+use mir.Val.{Fits}
 use Rattle.limits.specs.Limits.{processorLimit, lockLimit}
 use Rattle.limits.specs.inner.Sizes.{clockWidth, firstLockRow}
-use Rattle.lists.specs.Tables.{tabulate, firstOf}
+use Rattle.lists.specs.Tables.{tabulate}
 use Rattle.lists.proofs.Conditions.{and-left, and-right}
 use Rattle.lists.proofs.Tabulated.{length-tabulate, get-tabulate, tabulate-same}
 use Rattle.lists.proofs.Counting.{first-passes, first-there}
@@ -22,17 +25,17 @@ use Rattle.clock.specs.Clocks.{joined}
 use Rattle.clock.proofs.Laws.{joined-entry, length-joined}
 use Rattle.rules.specs.Refusals.{Enqueue}
 use Rattle.rules.specs.Order.{Event, eventAt, Took, counted, isEnqueue, isDequeue}
-use Rattle.rules.specs.inner.Knowing.{Knower, AtProcessor, AtLock, AtBarrier, AtJob, heard, row, told, known, knows}
+use Rattle.rules.specs.inner.Knowing.{Knower, AtProcessor, AtLock, AtJob, heard, row, told, known, knows}
 use Rattle.rules.proofs.order.ActionKinds.{enqueue-of}
 use Rattle.rules.proofs.order.KnownSteps.{after-step, after-refused}
 use Rattle.rules.proofs.order.KnownFollows.{job-later}
 use Rattle.layout.specs.Layout.{rowOf}
+use Rattle.layout.specs.inner.Needed.{RowThere}
 use Rattle.layout.proofs.RowLaws.{length-row}
-use Rattle.step_fields.specs.Records.{stepCount}
-use Rattle.race_events.specs.inner.Events.{eventsIn, SeenAs, isOf, placeOf}
-use Rattle.race_clocks.specs.inner.Knowers.{knowerAt, knowerRows, knowsRow, knownRow, heardRow, KnowersHold, tableArea, Known}
+use Rattle.race_events.specs.inner.Events.{eventsIn, isOf, placeOf}
+use Rattle.race_clocks.specs.inner.Knowers.{knowsRow, knownRow, heardRow, KnowersHold, tableArea, Known}
 use Rattle.race_clocks.specs.inner.Needed.{StepSound, Taken, Sized, JobHeard, HeardAs, KnowsAs}
-use Rattle.race_clocks.proofs.SeenKinds.{processor-row, lock-row, counted-same, enqueue-is, dequeue-is, was-accepted, kind-is, processor-from, processor-to, lock-there, is-dequeue, no-dequeue}
+use Rattle.race_clocks.proofs.SeenKinds.{processor-row, lock-row, counted-same, enqueue-is, dequeue-is, was-accepted, kind-is, processor-from, processor-to, lock-there, no-dequeue}
 
 -- ---- rows by their numbers
 
@@ -253,3 +256,19 @@ module _ (bytes out : List ℕ) (t kind processor object : ℕ) (h : Taken bytes
               omega (arith, own-at n k q b, news-at n k q b, ap (λ (p : ℕ). known n all (suc q) t (AtProcessor p)) (h .seen .processor-is)) in
               ap (λ (l : List ℕ). getD l q 0) d ∙ getD-set-other both (processor - 1) q (t + 1) 0 x ∙ ap (λ (l : List ℕ). getD l q 0) g
               ∙ joined-entry own news q ∙ both-at ∙ itself n q false (ne-eqb (suc q) (eventAt all t .step .processor) other)
+
+-- a row of a processor lies within the rows, and one of a lock
+pub processor-there : (bytes out : List ℕ) (t kind p o : ℕ) (table rows : List ℕ) → Taken bytes out t kind p o → Sized table rows → RowThere clockWidth rows p
+processor-there bytes out t kind p o table rows h z = record { within = omega (arith, processor-to bytes out t kind p o h, z .rows-long) }
+
+pub lock-row-there : (bytes out : List ℕ) (t kind p o : ℕ) (table rows : List ℕ) → Taken bytes out t kind p o → Sized table rows → kind ≡ 3 → RowThere clockWidth rows (firstLockRow + o)
+lock-row-there bytes out t kind p o table rows h z k = record { within = omega (arith, lock-there bytes out t kind p o h (rw k), z .rows-long) }
+
+pub lock-fits : (bytes out : List ℕ) (t kind p o : ℕ) → Taken bytes out t kind p o → kind ≡ 3 → Fits w64 (firstLockRow + o)
+lock-fits bytes out t kind p o h k = omega (arith, lock-there bytes out t kind p o h (rw k))
+
+-- the step of a dequeue
+pub step-sound : (bytes out : List ℕ) (t kind p o : ℕ) → Taken bytes out t kind p o → StepSound bytes out t
+step-sound bytes out t kind p o h = record { steps = h .steps; there = h .there }
+
+pub ruleset hearing-laws = (job-none, job-some, heard-from-lock, heard-from-job, heard-from-none, knows-row, processor-there, lock-row-there, lock-fits, step-sound, processor-from, processor-to, needs)

@@ -2,3 +2,6 @@ pub mod SeenKinds
 pub mod Hearing
 pub mod ToldNumbers
 pub mod Serving
+pub mod Freeing
+pub mod TellingRows
+pub mod Filling

@@ -3,14 +3,14 @@ use Prim.Native.Nat.{ℕ, zero, suc, _+_, _-_, _≤_, _<_}
 use native.Mathlib.Omega.{arith}
 use native.Mathlib.Decide.{ℕ-discrete}
 use mathlib.Core.Path.{_≡_, refl, sym, ap, _∙_}
-use mathlib.Core.Bool.{Bool, true, false, cond, _&&_, _||_, false≢true}
+use mathlib.Core.Bool.{Bool, true, false, cond, _&&_, _||_}
 use mathlib.Core.List.{List}
-use lib.Dec.{eqb, ltb}
+use lib.Dec.{eqb}
 use borrow.Author.Tests.{eqb-true, eq-eqb, ne-eqb, lt-ltb, le-ltb}
 use Rattle.limits.specs.Limits.{processorLimit, lockLimit}
 use Rattle.limits.specs.inner.Sizes.{firstLockRow}
 use Rattle.rules.specs.Order.{Event, eventAt, counted, isArrival, isReleaseOf, isEnqueue, isDequeue}
-use Rattle.rules.specs.inner.Knowing.{Knower, AtProcessor, AtLock, AtBarrier}
+use Rattle.rules.specs.inner.Knowing.{AtProcessor, AtLock, AtBarrier}
 use Rattle.race_events.specs.inner.Events.{eventsIn, shownKind, isOf}
 use Rattle.race_clocks.specs.inner.Knowers.{knowerAt, Addressed, StepsSound}
 use Rattle.race_clocks.specs.inner.Needed.{Taken}

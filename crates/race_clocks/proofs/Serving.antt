@@ -1,32 +1,27 @@
 -- What `free` and `arrive` leave to show: whose rows a release and an arrival change. Rests on SeenKinds and on the rules' Counted. Assumes nothing.
-use Prim.Native.Nat.{ℕ, zero, suc, _+_, _-_, _*_, _≤_, _<_}
+use Prim.Native.Nat.{ℕ, suc, _+_, _*_, _≤_, _<_}
 use native.Mathlib.Omega.{arith}
 use native.Mathlib.Decide.{ℕ-discrete}
 use mathlib.Core.Path.{_≡_, refl, sym, ap, _∙_}
-use mathlib.Core.Bool.{Bool, true, false, cond, _&&_, _||_, false≢true}
+use mathlib.Core.Bool.{Bool, true, false, cond, _&&_}
 use mathlib.Core.List.{List}
-use lib.ListN.{length, replicate}
-use lib.Seq.{sets, length-sets}
-use lib.Dec.{eqb, leb, ltb}
-use borrow.Author.Tests.{eqb-true, eq-eqb, ne-eqb, le-leb, lt-ltb}
-use Rattle.limits.specs.Limits.{processorLimit, lockLimit}
-use Rattle.limits.specs.inner.Sizes.{clockWidth, firstLockRow}
-use Rattle.lists.specs.Tables.{any, firstOf}
+use lib.ListN.{length}
+use lib.Seq.{sets}
+use lib.Dec.{eqb}
+use borrow.Author.Tests.{eqb-true, eq-eqb, ne-eqb}
+use Rattle.limits.specs.inner.Sizes.{clockWidth}
+use Rattle.lists.specs.Tables.{any}
 use Rattle.lists.proofs.Conditions.{and-left, and-right, and-both}
-use Rattle.lists.proofs.Tables.{Passes, any-at, any-holds}
+use Rattle.lists.proofs.Tables.{any-at, any-holds}
 use Rattle.lists.proofs.Counting.{first-passes, first-there}
-use Rattle.clock.specs.Clocks.{zeros, joined}
+use Rattle.clock.specs.Clocks.{joined}
 use Rattle.clock.proofs.Laws.{length-joined}
 use Rattle.rules.specs.Order.{Event, eventAt, counted, isAcquireOf, isReleaseOf}
 use Rattle.rules.specs.inner.Knowing.{servesTo}
 use Rattle.rules.proofs.order.Counted.{counted-once}
 use Rattle.layout.specs.Layout.{rowOf}
-use Rattle.layout.specs.inner.Needed.{RowThere}
 use Rattle.layout.proofs.RowLaws.{length-row, row-of-sets}
-use Rattle.race_events.specs.inner.Events.{eventsIn, SeenAs, isOf, placeOf}
-use Rattle.race_rows.specs.inner.Rows.{RowsJoined}
-use Rattle.race_clocks.specs.inner.Knowers.{knowerRows, ofProcessor, knowerArea}
-use Rattle.race_clocks.specs.inner.Needed.{Freeing, FreedAs, ArrivedAs}
+use Rattle.race_events.specs.inner.Events.{isOf, placeOf}
 
 -- a row that is joined with others, and the other rows
 pub row-joined : (rows news : List ℕ) (k j : ℕ) → length news ≡ clockWidth → clockWidth * k + clockWidth ≤ length rows
@@ -78,7 +73,7 @@ module _ (es : List Event) (t l number : ℕ) (release : isReleaseOf l (eventAt 
       and-both (x && y) z (and-both x y (and-left x w e) (eq-eqb (eventAt es a .step .processor) r f)) (ap (λ (m : ℕ). eqb (counted (isAcquireOf l) es a) (m + 1)) (sym count) ∙ and-right x w e)
 
   -- it serves the processor whose acquire is found
-  serves-found : (a r : ℕ) → placeOf es 3 l (number + 1) t ≡ suc a → servesTo es t r ≡ eqb (eventAt es a .step .processor) r
+  pub serves-found : (a r : ℕ) → placeOf es 3 l (number + 1) t ≡ suc a → servesTo es t r ≡ eqb (eventAt es a .step .processor) r
   serves-found a r found = serves-any r ∙ go (ℕ-discrete (eventAt es a .step .processor) r)
     where
       here : (a < t) × (waits a ≡ true)
@@ -102,7 +97,7 @@ module _ (es : List Event) (t l number : ℕ) (release : isReleaseOf l (eventAt 
       go (no z) = none z (any t (waitsOf r)) refl ∙ sym (ne-eqb (eventAt es a .step .processor) r z)
 
   -- and nobody where none is
-  serves-none : (r : ℕ) → placeOf es 3 l (number + 1) t ≡ 0 → servesTo es t r ≡ false
+  pub serves-none : (r : ℕ) → placeOf es 3 l (number + 1) t ≡ 0 → servesTo es t r ≡ false
   serves-none r found = serves-any r ∙ none (any t (waitsOf r)) refl
     where
       none : (x : Bool) → any t (waitsOf r) ≡ x → x ≡ false

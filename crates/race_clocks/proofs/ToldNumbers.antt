@@ -1,32 +1,20 @@
 -- What each holder knows after a step, by whose row it is: a release tells its lock and the waiter that it serves, the last arrival of a round every
 -- processor, and every step its own processor. Rests on SeenKinds and on the rules' RoundsCompleted. Assumes nothing.
-use Prim.Native.Nat.{ℕ, zero, suc, _+_, _-_, _*_, _≤_, _<_, max}
+use Prim.Native.Nat.{ℕ, zero, suc, _+_, _-_, _≤_, _<_, max}
 use native.Mathlib.Omega.{arith}
 use native.Mathlib.Decide.{ℕ-discrete, decLt}
-use native.Mathlib.Numerals.{add-one}
 use mathlib.Core.Path.{_≡_, refl, sym, ap, _∙_}
 use mathlib.Core.Bool.{Bool, true, false, cond, _&&_, _||_}
 use mathlib.Core.List.{List}
-use lib.ListN.{length, getD}
-use lib.Seq.{sets, length-sets}
-use lib.Dec.{eqb, leb, ltb}
-use borrow.Author.Tests.{eqb-true, eq-eqb, ne-eqb, le-leb, lt-leb, lt-ltb, le-ltb}
-use Rattle.limits.specs.Limits.{processorLimit, lockLimit}
-use Rattle.limits.specs.inner.Sizes.{clockWidth, firstLockRow}
-use Rattle.lists.proofs.Tabulated.{length-tabulate, get-tabulate}
-use Rattle.clock.specs.Clocks.{zeros, joined}
-use Rattle.clock.proofs.Laws.{joined-entry}
-use Rattle.rules.specs.Order.{Event, eventAt, isArrival, isReleaseOf, Groups, countedOff, groupsBefore}
-use Rattle.rules.specs.inner.Knowing.{Knower, AtProcessor, AtLock, AtBarrier, servesTo, completing, share, told, known, knows}
+use lib.Dec.{eqb}
+use borrow.Author.Tests.{eq-eqb, ne-eqb, le-leb, lt-ltb, le-ltb}
+use Rattle.limits.specs.Limits.{processorLimit}
+use Rattle.limits.specs.inner.Sizes.{firstLockRow}
+use Rattle.rules.specs.Order.{Event, eventAt, isArrival, isReleaseOf, groupsBefore}
+use Rattle.rules.specs.inner.Knowing.{Knower, AtProcessor, AtLock, AtBarrier, servesTo, completing, share, told}
 use Rattle.rules.proofs.order.RoundsCompleted.{completing-when}
-use Rattle.rules.proofs.order.KnownSteps.{after-step}
-use Rattle.layout.specs.Layout.{rowOf}
-use Rattle.layout.proofs.RowLaws.{length-row, row-of-sets}
-use Rattle.race_events.specs.inner.Events.{eventsIn}
-use Rattle.race_clocks.specs.inner.Knowers.{knowerAt, knowerRows, ofProcessor, knowsRow, knownRow, KnowersHold, knowerArea}
-use Rattle.race_clocks.specs.inner.Needed.{Taken, FreedAs, ArrivedAs, Waiting, Telling, ToldAll}
-use Rattle.race_clocks.proofs.SeenKinds.{processor-row, lock-row, barrier-row, was-accepted, processor-from, processor-to, is-release, no-release, is-arrival, no-arrival}
-use Rattle.race_clocks.proofs.Hearing.{row-is}
+use Rattle.race_clocks.specs.inner.Knowers.{knowerAt, ofProcessor}
+use Rattle.race_clocks.proofs.SeenKinds.{processor-row, lock-row, barrier-row}
 
 -- ---- whose row it is
 

@@ -185,12 +185,7 @@ fn free(
 }
 
 // An arrival tells the barrier; the last of a round tells every processor what the barrier has heard.
-fn arrive(
-    processors: usize,
-    waiting: usize,
-    row: [u16; CLOCK_WIDTH],
-    rows: &mut [u16],
-) -> usize
+fn arrive(processors: usize, waiting: usize, row: [u16; CLOCK_WIDTH], rows: &mut [u16]) -> usize
     requires { ⌜ waiting < raceStepLimit ⌝ }
     requires { ⌜ length (now rows) ≡ knowerArea ⌝ }
     ensures { λ r. ⌜ ArrivedAs processors waiting row (now (rows .entry)) r (now (rows .exit)) ⌝ }

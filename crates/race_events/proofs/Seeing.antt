@@ -1,22 +1,22 @@
 -- What the functions that look at the steps in memory leave to show, one law for each way of the code, and `seeing-laws`, by which their proofs search.
 -- Assumes nothing.
-use Prim.Native.Nat.{ℕ, suc, _+_, _-_, _*_, _/_, _≤_, _<_}
+use Prim.Native.Nat.{ℕ, suc, _+_, _*_, _≤_, _<_}
 use native.Mathlib.Omega.{arith}
 use native.Mathlib.Numerals.{add-one}
 use mathlib.Core.Path.{_≡_, refl, sym, ap, _∙_}
-use mathlib.Core.Bool.{Bool, true, false, cond, not, _&&_}
+use mathlib.Core.Bool.{Bool, true, false, cond, _&&_}
 use mathlib.Core.List.{List}
-use lib.ListN.{length, getD, drop}
+use lib.ListN.{length, getD}
 use lib.Dec.{eqb}
-use borrow.Author.Tests.{eqb-true, eqb-false, eq-eqb, ne-eqb}
+use borrow.Author.Tests.{eq-eqb, ne-eqb}
 use borrow.Author.Needs.{needs}
 use Rattle.limits.specs.Files.{fileRecordWidth, answerWidth}
-use Rattle.lists.specs.Tables.{tabulate, firstOf}
+use Rattle.lists.specs.Tables.{firstOf}
 use Rattle.lists.proofs.Tabulated.{get-tabulate}
 use Rattle.lists.proofs.Counting.{first-stays}
 use Rattle.rules.specs.Refusals.{Step, stepOf}
 use Rattle.rules.specs.Order.{Event, noEvent, eventAt, counted}
-use Rattle.step_fields.specs.Records.{stepFrom, stepCount}
+use Rattle.step_fields.specs.Records.{stepCount}
 use Rattle.step_fields.specs.inner.Needed.{FieldsAre}
 use Rattle.race_events.specs.inner.Events.{eventIn, eventsIn, shownKind, SeenAs, isOf, placeOf, StepThere, StepsThere}
 

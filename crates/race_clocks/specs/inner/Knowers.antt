@@ -9,8 +9,8 @@ use Rattle.limits.specs.Limits.{processorLimit, lockLimit}
 use Rattle.limits.specs.Files.{answerWidth, raceStepLimit}
 use Rattle.limits.specs.inner.Sizes.{clockWidth, firstLockRow}
 use Rattle.lists.specs.Tables.{tabulate}
-use Rattle.rules.specs.Order.{Event, eventAt, groupsBefore}
-use Rattle.rules.specs.inner.Knowing.{Knower, AtProcessor, AtLock, AtBarrier, heard, told, known, knows}
+use Rattle.rules.specs.Order.{Event, eventAt}
+use Rattle.rules.specs.inner.Knowing.{Knower, AtProcessor, AtLock, AtBarrier, heard, known, knows}
 use Rattle.layout.specs.Layout.{rowOf}
 use Rattle.step_fields.specs.Records.{stepCount}
 use Rattle.race_events.specs.inner.Events.{eventsIn}

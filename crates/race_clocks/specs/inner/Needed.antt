@@ -1,5 +1,5 @@
 -- What the functions of this crate ask of one another, and what the inner ones promise. Assumes nothing.
-use Prim.Native.Nat.{ℕ, suc, _+_, _≤_, _<_}
+use Prim.Native.Nat.{ℕ, _+_, _≤_, _<_}
 use mathlib.Core.Path.{_≡_}
 use mathlib.Core.Bool.{true, cond, _||_, _&&_}
 use mathlib.Core.List.{List}
@@ -13,7 +13,7 @@ use Rattle.rules.specs.inner.Knowing.{servesTo}
 use Rattle.layout.specs.Layout.{rowOf}
 use Rattle.step_fields.specs.Records.{stepCount}
 use Rattle.race_events.specs.inner.Events.{eventsIn, SeenAs}
-use Rattle.race_clocks.specs.inner.Knowers.{knowerRows, ofProcessor, knowsRow, heardRow, KnowersHold, TableHolds, StepsSound, tableArea, knowerArea, Known}
+use Rattle.race_clocks.specs.inner.Knowers.{ofProcessor, knowsRow, heardRow, KnowersHold, TableHolds, StepsSound, tableArea, knowerArea, Known}
 
 -- the steps, and one of them
 pub record StepSound (bytes out : List ℕ) (t : ℕ) : Type 0 where
