@@ -4,7 +4,6 @@ ghost use Prim.Native.Nat.{_+_, _-_, _≤_, _<_};
 ghost use lib.ListN.{length, set};
 ghost use Rattle.limits.specs.Files.{raceStepLimit};
 ghost use Rattle.limits.specs.Limits.{processorLimit};
-ghost use Rattle.limits.specs.inner.Sizes.{clockWidth};
 ghost use Rattle.race_events.specs.inner.Events.{eventsIn};
 ghost use Rattle.race_clocks.specs.inner.Knowers.{knowerArea, tableArea};
 ghost use Rattle.race_clocks.specs.inner.Needed.{StepSound, Taken, Sized, JobHeard, HeardAs, KnowsAs, Freeing, FreedAs, ArrivedAs, Telling, ToldAll, Going, Filling, Fillable, Filled};

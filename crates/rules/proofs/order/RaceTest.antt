@@ -69,11 +69,11 @@ accepted-within es i h = go (decLt i (length es))
 
 -- ---- conflicts
 
-module _ (n : ℕ) (es : List Event) where
+module _ (es : List Event) where
   apart-says : (i j : ℕ) → not (eqb (eventAt es i .step .processor) (eventAt es j .step .processor)) ≡ true → eventAt es i .step .processor ≡ eventAt es j .step .processor → ⊥
   apart-says i j h z = false≢true (sym (rw (eq-eqb (eventAt es i .step .processor) (eventAt es j .step .processor) z)) ∙ h)
 
-  pub conflicts-says : (w i j : ℕ) → conflicts n es w i j ≡ true → Conflict es w i j
+  pub conflicts-says : (w i j : ℕ) → conflicts es w i j ≡ true → Conflict es w i j
   unfolding conflicts
   conflicts-says w i j e =
       let a = touches (eventAt es i) w in
@@ -84,7 +84,7 @@ module _ (n : ℕ) (es : List Event) where
       let ab : (a && b) ≡ true = and-left (a && b) c abc in
       record { two-cards = apart-says i j (and-right (a && b) c abc); one-touches = and-left a b ab; other-touches = and-right a b ab; one-writes = and-right (a && b && c) d e }
 
-  pub conflicts-is : (w i j : ℕ) → Conflict es w i j → conflicts n es w i j ≡ true
+  pub conflicts-is : (w i j : ℕ) → Conflict es w i j → conflicts es w i j ≡ true
   unfolding conflicts
   conflicts-is w i j h =
       let a = touches (eventAt es i) w in
@@ -94,8 +94,9 @@ module _ (n : ℕ) (es : List Event) where
       let two : c ≡ true = rw (ne-eqb (eventAt es i .step .processor) (eventAt es j .step .processor) (h .two-cards)) in
       and-both (a && b && c) d (and-both (a && b) c (and-both a b (h .one-touches) (h .other-touches)) two) (h .one-writes)
 
-  -- ---- races
+-- ---- races
 
+module _ (n : ℕ) (es : List Event) where
   not-true : (b : Bool) → not b ≡ true → b ≡ false
   not-true true e = absurd (false≢true e)
   not-true false e = refl
@@ -104,18 +105,18 @@ module _ (n : ℕ) (es : List Event) where
   unfolding races
   races-says i j l e =
       let w = eventAt es j .step .object in
-      let c = conflicts-says w i j (and-left (conflicts n es w i j) (not (knowsOf n es i j)) e) in
+      let c = conflicts-says es w i j (and-left (conflicts es w i j) (not (knowsOf n es i j)) e) in
       record {
         conflict = c;
         earlier = l;
-        unordered = unknown-unordered n es i j (touch-accepted (eventAt es i) w (c .one-touches)) l (not-true (knowsOf n es i j) (and-right (conflicts n es w i j) (not (knowsOf n es i j)) e));
+        unordered = unknown-unordered n es i j (touch-accepted (eventAt es i) w (c .one-touches)) l (not-true (knowsOf n es i j) (and-right (conflicts es w i j) (not (knowsOf n es i j)) e));
       }
 
   pub races-is : (w i j : ℕ) → RacePair n es w i j → races n es i j ≡ true
   unfolding races
   races-is w i j h =
-      and-both (conflicts n es (eventAt es j .step .object) i j) (not (knowsOf n es i j))
-      (ap (λ (v : ℕ). conflicts n es v i j) (touch-object (eventAt es j) w (h .conflict .other-touches)) ∙ conflicts-is w i j (h .conflict))
+      and-both (conflicts es (eventAt es j .step .object) i j) (not (knowsOf n es i j))
+      (ap (λ (v : ℕ). conflicts es v i j) (touch-object (eventAt es j) w (h .conflict .other-touches)) ∙ conflicts-is es w i j (h .conflict))
       (go (knowsOf n es i j) refl)
     where
       go : (b : Bool) → knowsOf n es i j ≡ b → not b ≡ true

@@ -11,20 +11,20 @@ use Rattle.rules.specs.Demand.{isWriteTo}
 use Rattle.rules.specs.Races.{touches, Finding, Race, None}
 use Rattle.rules.specs.inner.Knowing.{knows}
 
+-- whether the steps at places i and j conflict on the word w
+unfoldable pub conflicts : List Event → ℕ → ℕ → ℕ → Bool
+conflicts es w i j =
+    touches (eventAt es i) w && touches (eventAt es j) w && not (eqb (eventAt es i .step .processor) (eventAt es j .step .processor))
+    && (isWriteTo (eventAt es i) w || isWriteTo (eventAt es j) w)
+
 module _ (n : ℕ) (es : List Event) where
   -- whether the step at place j knows the step at place i
   unfoldable pub knowsOf : ℕ → ℕ → Bool
   knowsOf i j = leb (suc i) (knows n es (eventAt es i .step .processor) j)
 
-  -- whether the steps at places i and j conflict on the word w
-  unfoldable pub conflicts : ℕ → ℕ → ℕ → Bool
-  conflicts w i j =
-      touches (eventAt es i) w && touches (eventAt es j) w && not (eqb (eventAt es i .step .processor) (eventAt es j .step .processor))
-      && (isWriteTo (eventAt es i) w || isWriteTo (eventAt es j) w)
-
   -- whether an earlier step at place i races with that at place j, which does not know it: on the word of the later one
   unfoldable pub races : ℕ → ℕ → Bool
-  races i j = conflicts (eventAt es j .step .object) i j && not (knowsOf i j)
+  races i j = conflicts es (eventAt es j .step .object) i j && not (knowsOf i j)
 
   -- the last place that races with place j, plus 1; 0 if none does
   unfoldable pub partnerOf : ℕ → ℕ

@@ -1,0 +1,2 @@
+pub mod Conflicting
+pub mod Finding
