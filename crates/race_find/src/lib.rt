@@ -1,9 +1,8 @@
 // The first race of a file: the earliest step that an earlier one races with, and the latest of its partners.
 ghost use mathlib.Core.Path.{_≡_};
-ghost use mathlib.Core.Bool.{_||_};
 ghost use Prim.Native.Nat.{_+_, _-_};
 ghost use lib.ListN.{getD};
-ghost use lib.Dec.{eqb, ltb};
+ghost use lib.Dec.{ltb};
 ghost use Rattle.limits.specs.inner.Sizes.{clockWidth};
 ghost use Rattle.layout.specs.Layout.{rowOf};
 ghost use Rattle.race_find.specs.inner.Needed.{Searchable, StepSought, Sought, NumberThere, access, seenConflict, RaceAs, PartnerAs, FoundAs};
