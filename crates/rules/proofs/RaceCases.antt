@@ -12,10 +12,10 @@ use Rattle.rules.specs.Runs.{answersInOrder}
 use Rattle.rules.specs.Order.{events, noEvent, eventAt, isArrival, countedOff, groupsBefore, rounds, counted, isAcquireOf, isReleaseOf, isEnqueue, isDequeue}
 use Rattle.rules.specs.Demand.{isWriteTo}
 use Rattle.rules.specs.Races.{isReadOf, touches, Finding, Race, None}
+use Rattle.rules.specs.Bench.{listing, stepsC, noOtherJob}
 use Rattle.rules.specs.inner.Knowing.{servesTo, completing, heard, row, share, told, known, knows}
 use Rattle.rules.specs.inner.Searching.{knowsOf, conflicts, races, partnerOf, racer, findingBy, finding}
-use Rattle.rules.proofs.runs.Listing.{reads, writes, acquires, releases, arrives, wants, adds, totals, start}
-use Rattle.rules.proofs.QueueCases.{enqueues, dequeues}
+use Rattle.rules.proofs.runs.Listing.{reads, writes, acquires, releases, arrives, adds, totals, enqueues, dequeues, start}
 
 -- the two record numbers and the word
 unfoldable pub numbers : Finding → List ℕ
@@ -27,8 +27,8 @@ unfoldable pub raced : ℕ → State → List Step → List ℕ
 unfolding numbers start enqueue dequeue events noEvent eventAt isArrival countedOff groupsBefore rounds counted isAcquireOf isReleaseOf isEnqueue isDequeue isWriteTo servesTo completing heard row share told known knows isReadOf touches knowsOf conflicts races partnerOf racer findingBy finding any firstOf lastOf
 raced n s ts = numbers (finding n (events ts (answersInOrder mainframe s ts)))
 
-pub listing-a : raced 2 (start 2 1 1) (acquires 1 0 ∷ writes 1 3 700 ∷ reads 2 3 ∷ acquires 2 0 ∷ releases 1 0 ∷ acquires 2 0 ∷ reads 2 3 ∷ reads 2 3 ∷ arrives 1 ∷ reads 1 3 ∷ wants 2 ∷ arrives 2 ∷ []) ≡ 3 ∷ 2 ∷ 3 ∷ []
-unfolding raced
+pub listing-a : raced 2 (start 2 1 1) listing ≡ 3 ∷ 2 ∷ 3 ∷ []
+unfolding raced listing
 listing-a = refl
 
 pub under-a-lock : raced 2 (start 2 1 1) (acquires 1 0 ∷ writes 1 0 5 ∷ releases 1 0 ∷ acquires 2 0 ∷ reads 2 0 ∷ []) ≡ []
@@ -36,8 +36,8 @@ unfolding raced
 under-a-lock = refl
 
 -- case C of document 01
-pub over-two-locks : raced 3 (start 3 1 2) (acquires 1 0 ∷ writes 1 0 5 ∷ releases 1 0 ∷ acquires 2 0 ∷ releases 2 0 ∷ acquires 2 1 ∷ releases 2 1 ∷ acquires 3 1 ∷ reads 3 0 ∷ []) ≡ []
-unfolding raced
+pub over-two-locks : raced 3 (start 3 1 2) stepsC ≡ []
+unfolding raced stepsC
 over-two-locks = refl
 
 -- the grant orders
@@ -85,6 +85,6 @@ pub behind-another-job : raced 3 (start 3 1 1) (enqueues 1 1 ∷ writes 1 0 5 �
 unfolding raced
 behind-another-job = refl
 
-pub by-no-other-job : raced 3 (start 3 1 1) (writes 1 0 5 ∷ enqueues 1 1 ∷ enqueues 3 2 ∷ dequeues 3 ∷ dequeues 2 ∷ reads 2 0 ∷ []) ≡ 6 ∷ 1 ∷ 0 ∷ []
-unfolding raced
+pub by-no-other-job : raced 3 (start 3 1 1) noOtherJob ≡ 6 ∷ 1 ∷ 0 ∷ []
+unfolding raced noOtherJob
 by-no-other-job = refl

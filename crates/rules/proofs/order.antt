@@ -21,6 +21,7 @@ pub mod Jobs
 pub mod JobClocks
 pub mod QueueList
 pub mod NumbersFollow
+-- clocks of record numbers, and races
 pub mod StepsSaid
 pub mod ServedWaiter
 pub mod KnownSteps

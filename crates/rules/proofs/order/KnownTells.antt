@@ -13,8 +13,8 @@ use Rattle.rules.specs.Refusals.{Action, Acquire, Dequeue}
 use Rattle.rules.specs.Order.{Event, eventAt, Took, isArrival, rounds, counted, isReleaseOf, isEnqueue, isDequeue, Before, program, lock, round, granted, job, chain}
 use Rattle.rules.specs.inner.Knowing.{Knower, AtProcessor, AtLock, AtBarrier, AtJob, servesTo, completing, heard, row, share, told, known, knows}
 use Rattle.rules.proofs.StrictOrder.{rounds-never-fall}
-use Rattle.rules.proofs.order.ActionKinds.{enqueue-of, dequeue-of}
-use Rattle.rules.proofs.order.StepsSaid.{by, does, took-here, acquire-here, release-of, arrive-of}
+use Rattle.rules.proofs.order.ActionKinds.{enqueue-of}
+use Rattle.rules.proofs.order.StepsSaid.{by, does, took-here, acquire-here, release-of, arrive-of, dequeue-of}
 use Rattle.rules.proofs.order.ServedWaiter.{serves-to-says}
 use Rattle.rules.proofs.order.RoundsCompleted.{completing-before, completing-arrival}
 use Rattle.rules.proofs.order.KnownSteps.{after-step, after-refused}

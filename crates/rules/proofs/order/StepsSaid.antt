@@ -1,5 +1,5 @@
--- What the test of an event says of the step that was taken, and the other way round, for reads, writes, locks and arrivals; the queue's are in
--- ActionKinds. Rests on ActionKinds and KindsOfSteps. Assumes nothing.
+-- What the test of an event says of the step that was taken, and the other way round, for reads, writes, locks, arrivals and dequeues.
+-- Rests on ActionKinds and KindsOfSteps. Assumes nothing.
 use Prim.Native.Nat.{ℕ}
 use native.Mathlib.Omega.{arith}
 use mathlib.Core.Path.{_≡_, refl, sym, ap, _∙_}
@@ -8,8 +8,8 @@ use mathlib.Core.List.{List}
 use lib.Dec.{eqb}
 use borrow.Author.Tests.{eqb-true, eq-eqb}
 use Rattle.lists.proofs.Conditions.{and-left, and-right, and-both}
-use Rattle.rules.specs.Refusals.{Action, Read, Write, Acquire, Release, Arrive, Unknown, actionOf}
-use Rattle.rules.specs.Order.{Event, eventAt, Took, isArrival, isAcquireOf, isReleaseOf}
+use Rattle.rules.specs.Refusals.{Action, Read, Write, Acquire, Release, Arrive, Dequeue, Unknown, actionOf}
+use Rattle.rules.specs.Order.{Event, eventAt, Took, isArrival, isAcquireOf, isReleaseOf, isDequeue}
 use Rattle.rules.specs.Demand.{isWriteTo}
 use Rattle.rules.specs.Races.{isReadOf}
 use Rattle.rules.proofs.inorder.KindsOfSteps.{kindOf, objectIn, kind-of, object-in}
@@ -84,6 +84,18 @@ module _ (es : List Event) (t : ℕ) where
       go : (b : Bool) → eventAt es t .accepted ≡ b → cond b (eqb (eventAt es t .step .kind) 5) false ≡ true → Took es t by Arrive
       go true acc k = record { accepted = acc; processor = refl; action = made (eqb-true (eventAt es t .step .kind) 5 k) }
       go false acc k = absurd (false≢true k)
+
+  pub dequeue-of : isDequeue (eventAt es t) ≡ true → Took es t by Dequeue
+  unfolding isDequeue
+  dequeue-of e =
+      record {
+        accepted = and-left (eventAt es t .accepted) (eqb (eventAt es t .step .kind) 11) e;
+        processor = refl;
+        action = made (eqb-true (eventAt es t .step .kind) 11 (and-right (eventAt es t .accepted) (eqb (eventAt es t .step .kind) 11) e));
+      }
+    where
+      made : eventAt es t .step .kind ≡ 11 → does ≡ Dequeue
+      made k = unfold actionOf in rw k
 
   -- an accepted step of kind 3 is an acquire of its object
   pub acquire-here : eventAt es t .accepted ≡ true → eqb (eventAt es t .step .kind) 3 ≡ true → Took es t by (Acquire (eventAt es t .step .object))
