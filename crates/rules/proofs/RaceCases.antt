@@ -12,10 +12,11 @@ use Rattle.rules.specs.Runs.{answersInOrder}
 use Rattle.rules.specs.Order.{events, noEvent, eventAt, isArrival, countedOff, groupsBefore, rounds, counted, isAcquireOf, isReleaseOf, isEnqueue, isDequeue}
 use Rattle.rules.specs.Demand.{isWriteTo}
 use Rattle.rules.specs.Races.{isReadOf, touches, Finding, Race, None}
-use Rattle.rules.specs.Bench.{listing, stepsC, noOtherJob}
+use Rattle.rules.specs.Bench.{listing, noOtherJob}
 use Rattle.rules.specs.inner.Knowing.{servesTo, completing, heard, row, share, told, known, knows}
 use Rattle.rules.specs.inner.Searching.{knowsOf, conflicts, races, partnerOf, racer, findingBy, finding}
 use Rattle.rules.proofs.runs.Listing.{reads, writes, acquires, releases, arrives, adds, totals, enqueues, dequeues, start}
+use Rattle.rules.proofs.runs.BenchFaults.{stepsC}
 
 -- the two record numbers and the word
 unfoldable pub numbers : Finding → List ℕ
