@@ -36,35 +36,27 @@ module _ (out : List ℕ) (at : ℕ) (line : List ℕ) (h : at + length line ≤
       ap (λ (l : List ℕ). take (at + length line) l) (sets-eq line out at h)
       ∙ take-at (take at out ++ line) (drop (at + length line) out) (at + length line) front-long
 
--- a line stored from a place on
+-- a line that is not too long, stored from a place on
+pub short-line-put : (out : List ℕ) (at : ℕ) (line out′ : List ℕ) (end : ℕ) → Room out at lineLimit → length line ≤ lineLimit → end ≡ at + length line → out′ ≡ sets out at line → LinePut out at line out′ end
+short-line-put out at line out′ end room short e s =
+    let fits : at + length line ≤ length out = omega (arith, short, room .room) in
+    rw (e, s) (record { kept = line-kept out at line fits; near = omega (arith, short); lines = line-behind out at line fits })
+
+-- a line of a record
 pub line-put : (out : List ℕ) (at n f v k : ℕ) (out′ : List ℕ) (end : ℕ) → Room out at lineLimit → Fits w32 n → Fits w32 f → Fits w32 v → Fits w32 k
     → end ≡ at + length (lineBytes n f v k) → out′ ≡ sets out at (lineBytes n f v k)
     → LinePut out at (lineBytes n f v k) out′ end
-line-put out at n f v k out′ end room fn ff fv fk e s =
-    let short = at-most-44-bytes n f v k (fn .fits) (ff .fits) (fv .fits) (fk .fits) in
-    let fits : at + length (lineBytes n f v k) ≤ length out = omega (arith, short, room .room) in
-    rw (e, s)
-    (record {
-      kept = line-kept out at (lineBytes n f v k) fits;
-      near = omega (arith, short);
-      lines = line-behind out at (lineBytes n f v k) fits;
-    })
+line-put out at n f v k out′ end room fn ff fv fk e s = short-line-put out at (lineBytes n f v k) out′ end room (at-most-44-bytes n f v k (fn .fits) (ff .fits) (fv .fits) (fk .fits)) e s
 
--- the last line stored from a place on
+-- the last line of a run
 pub last-line-put : (out : List ℕ) (at n : ℕ) (out′ : List ℕ) (end : ℕ) → Room out at lineLimit → Fits w64 n
     → end ≡ at + length (wordsLine n) → out′ ≡ sets out at (wordsLine n) → LinePut out at (wordsLine n) out′ end
-last-line-put out at n out′ end room fn e s =
-    let short = length-words-line n (fn .fits) in
-    let fits : at + length (wordsLine n) ≤ length out = omega (arith, short, room .room) in
-    rw (e, s) (record { kept = line-kept out at (wordsLine n) fits; near = omega (arith, short); lines = line-behind out at (wordsLine n) fits })
+last-line-put out at n out′ end room fn e s = short-line-put out at (wordsLine n) out′ end room (length-words-line n (fn .fits)) e s
 
--- the last line of a forecast
+-- and of a forecast
 pub most-line-put : (out : List ℕ) (at n : ℕ) (out′ : List ℕ) (end : ℕ) → Room out at lineLimit → Fits w32 n
     → end ≡ at + length (mostLine n) → out′ ≡ sets out at (mostLine n) → LinePut out at (mostLine n) out′ end
-most-line-put out at n out′ end room fn e s =
-    let short = length-most-line n (fn .fits) in
-    let fits : at + length (mostLine n) ≤ length out = omega (arith, short, room .room) in
-    rw (e, s) (record { kept = line-kept out at (mostLine n) fits; near = omega (arith, short); lines = line-behind out at (mostLine n) fits })
+most-line-put out at n out′ end room fn e s = short-line-put out at (mostLine n) out′ end room (length-most-line n (fn .fits)) e s
 
 -- ---- what is written stays
 

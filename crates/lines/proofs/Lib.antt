@@ -4,3 +4,4 @@ pub mod Writing
 pub mod Counting
 pub mod CountedLines
 pub mod Totals
+pub mod PairLines

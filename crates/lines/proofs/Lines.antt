@@ -6,7 +6,7 @@ use mathlib.Core.List.{[], _∷_, _++_, append-assoc}
 use lib.ListN.{length, length-append}
 use Rattle.limits.specs.Files.{lineLimit}
 use Rattle.lines.specs.Decimal.{digitsWithin, digits}
-use Rattle.lines.specs.Lines.{lineBytes, wordsLine, mostLine}
+use Rattle.lines.specs.Lines.{lineBytes, wordsLine, mostLine, pairLine}
 use Rattle.lines.specs.inner.Needed.{fieldBytes, halfBytes}
 use Rattle.lines.proofs.Digits.{at-most-ten-digits, at-most-twenty-digits}
 
@@ -14,6 +14,11 @@ use Rattle.lines.proofs.Digits.{at-most-ten-digits, at-most-twenty-digi
 pub line-is-halves : (number refusal value count : ℕ) → lineBytes number refusal value count ≡ halfBytes number refusal 32 ++ halfBytes value count 10
 unfolding lineBytes halfBytes fieldBytes
 line-is-halves number refusal value count = simp append-assoc
+
+-- the line of a race is the two numbers and the word
+pub pair-is-fields : (later partner word : ℕ) → pairLine later partner word ≡ halfBytes later partner 32 ++ fieldBytes word 10
+unfolding pairLine halfBytes fieldBytes
+pair-is-fields later partner word = simp append-assoc
 
 -- a line has the bytes of its numbers and four more
 pub length-line : (number refusal value count : ℕ)
@@ -30,6 +35,11 @@ length-words-line n h = omega (arith, length-append (digits n) (10 ∷ []), at-m
 pub length-most-line : (n : ℕ) → n < 2 ^ 32 → length (mostLine n) ≤ lineLimit
 unfolding mostLine
 length-most-line n h = omega (arith, length-append (digits n) (10 ∷ []), at-most-ten-digits n h)
+
+-- so do those of a race
+pub length-pair-line : (later partner word : ℕ) → later < 2 ^ 32 → partner < 2 ^ 32 → word < 2 ^ 32 → length (pairLine later partner word) ≤ lineLimit
+unfolding pairLine
+length-pair-line later partner word a b c = simp length-append (omega (arith, at-most-ten-digits later a, at-most-ten-digits partner b, at-most-ten-digits word c))
 
 -- a line of numbers of 32 bits has at most 44 bytes
 pub at-most-44-bytes : (number refusal value count : ℕ) → number < 2 ^ 32 → refusal < 2 ^ 32 → value < 2 ^ 32 → count < 2 ^ 32

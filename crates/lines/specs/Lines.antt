@@ -27,6 +27,14 @@ wordsLine total = 119 ∷ 111 ∷ 114 ∷ 100 ∷ 115 ∷ 32 ∷ digits total ++
 unfoldable pub mostLine : ℕ → List ℕ
 mostLine most = 109 ∷ 111 ∷ 115 ∷ 116 ∷ 32 ∷ digits most ++ 10 ∷ []
 
+-- L11: "two record numbers and the word, in that order on one line", with a space (32) between two and a line end (10) behind the last
+unfoldable pub pairLine : ℕ → ℕ → ℕ → List ℕ
+pairLine later partner word = digits later ++ 32 ∷ digits partner ++ 32 ∷ digits word ++ 10 ∷ []
+
+-- L11: "or "none"", and the line end
+unfoldable pub noneLine : List ℕ
+noneLine = 110 ∷ 111 ∷ 110 ∷ 101 ∷ 10 ∷ []
+
 -- whether the longest line, of 44 bytes, fits from a place on into memory of so many bytes
 unfoldable pub lineFits : ℕ → ℕ → Bool
 lineFits bytes at = leb (at + lineLimit) bytes

@@ -6,7 +6,7 @@ ghost use lib.ListN.{length};
 ghost use lib.Seq.{sets};
 ghost use Rattle.limits.specs.Files.{lineLimit};
 ghost use Rattle.lines.specs.Decimal.{digits};
-ghost use Rattle.lines.specs.Lines.{lineBytes, wordsLine, mostLine, lineFits, lineAnswer, placeSaid, lineLeft};
+ghost use Rattle.lines.specs.Lines.{lineBytes, wordsLine, mostLine, pairLine, noneLine, lineFits, lineAnswer, placeSaid, lineLeft};
 ghost use Rattle.lines.specs.inner.Needed.{Room, DigitsFit, PairFits, Put, digitPair, fieldBytes, halfBytes, Eight, Counted, Countable, EightFit, ShortFits, behindNumber};
 use limits::LINE_LIMIT;
 
@@ -182,6 +182,28 @@ pub fn put_most_line(out: &mut [u8], at: usize, most: u32) -> usize
 {
     put_text(out, at, b"most ");
     put_total(out, at + 5, most as u64)
+}
+
+// ---- the lines of the race finder
+
+// Writes two record numbers and a word from a place on, and says the place behind their line.
+pub fn put_pair_line(out: &mut [u8], at: usize, later: u32, partner: u32, word: u32) -> usize
+    requires { ⌜ Room (now out) at lineLimit ⌝ }
+    ensures { λ r. ⌜ r ≡ at + length (pairLine later partner word) ⌝ }
+    ensures { λ r. ⌜ now (out .exit) ≡ sets (now (out .entry)) at (pairLine later partner word) ⌝ }
+{
+    let half = put_half(out, at, later, partner, 32);
+    put_field(out, half, word, 10)
+}
+
+// Writes that there is no race.
+pub fn put_none_line(out: &mut [u8], at: usize) -> usize
+    requires { ⌜ Room (now out) at lineLimit ⌝ }
+    ensures { λ r. ⌜ r ≡ at + length noneLine ⌝ }
+    ensures { λ r. ⌜ now (out .exit) ≡ sets (now (out .entry)) at noneLine ⌝ }
+{
+    put_text(out, at, b"none\n");
+    at + 5
 }
 
 // Writes some bytes from a place on.

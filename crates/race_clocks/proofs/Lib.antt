@@ -5,3 +5,4 @@ pub mod Serving
 pub mod Freeing
 pub mod TellingRows
 pub mod Filling
+pub mod RunSound

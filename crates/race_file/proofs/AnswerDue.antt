@@ -18,9 +18,10 @@ use Rattle.rules.specs.inner.Searching.{finding}
 use Rattle.rules.proofs.RacesFound.{found, one-finding}
 use Rattle.rules.proofs.CommonMemory.{one-common-memory}
 use Rattle.step_fields.specs.Records.{stepCount, fileSteps}
-use Rattle.race_file.specs.declared.RaceAnswer.{RaceAnswer}
-use Rattle.race_file.specs.declared.RaceAnswer.the-variants.{None}
-use Rattle.race_file.specs.Files.{fileOpening, fileAnswers, fileEvents, Alone, line, meets, numbered, Due, alone, finds, Told}
+use Rattle.race_find.specs.Numbers.{numbered}
+use Rattle.race_find.specs.declared.RaceAnswer.{RaceAnswer}
+use Rattle.race_find.specs.declared.RaceAnswer.the-variants.{None}
+use Rattle.race_file.specs.Files.{fileOpening, fileAnswers, fileEvents, Alone, line, meets, Due, alone, finds, Told}
 use Rattle.race_file.specs.inner.Answering.{aloneOr, raceAnswer}
 
 module _ (bytes : List ℕ) where

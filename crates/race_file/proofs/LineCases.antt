@@ -7,8 +7,8 @@ use Rattle.rules.specs.Opening.{openingRefusal}
 use Rattle.step_fields.specs.Records.{stepCount}
 use Rattle.opening.specs.Promises.{openingOf}
 use Rattle.lines.specs.Decimal.{digitsWithin, digits}
-use Rattle.lines.specs.Lines.{lineBytes, refusalLine}
-use Rattle.race_file.specs.declared.RaceAnswer.the-variants.{Race}
+use Rattle.lines.specs.Lines.{lineBytes, refusalLine, pairLine}
+use Rattle.race_find.specs.declared.RaceAnswer.the-variants.{Race}
 use Rattle.race_file.specs.Files.{fileOpening, line, meets, answerLine}
 use Rattle.race_file.specs.inner.Answering.{aloneOr, raceAnswer, raceLine}
 
@@ -29,5 +29,5 @@ cut-after-a-race = refl
 
 -- a race of records 3 and 2 on word 7, and none
 pub race-line : answerLine (Race 3 2 7) ≡ 51 ∷ 32 ∷ 50 ∷ 32 ∷ 55 ∷ 10 ∷ []
-unfolding answerLine digits digitsWithin
+unfolding answerLine pairLine digits digitsWithin
 race-line = refl

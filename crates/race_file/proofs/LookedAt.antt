@@ -6,9 +6,9 @@ use native.Mathlib.Decide.{decLe}
 use mathlib.Core.Path.{_≡_, refl, sym, _∙_}
 use mathlib.Core.Bool.{Bool, true, false, cond}
 use mathlib.Core.Option.{Option, none}
-use mathlib.Core.List.{List}
+use mathlib.Core.List.{List, _++_}
 use lib.ListN.{length, take}
-use lib.Seq.{length-take-le, take-all, take-take}
+use lib.Seq.{length-take-le, take-all, take-take, take-at}
 use lib.Dec.{ltb, eqb}
 use borrow.Author.Tests.{eq-eqb, ltb-true, lt-ltb}
 use Rattle.limits.specs.Files.{fileRecordWidth, raceStepLimit}
@@ -16,9 +16,9 @@ use Rattle.limits.specs.inner.Sizes.{raceBytes}
 use Rattle.rules.specs.State.{mainframe}
 use Rattle.rules.specs.Opening.{openingRefusal}
 use Rattle.step_fields.specs.Records.{stepCount}
-use Rattle.race_file.specs.declared.RaceAnswer.{RaceAnswer}
-use Rattle.race_file.specs.declared.RaceAnswer.the-variants.{Stopped}
-use Rattle.race_file.specs.Files.{fileOpening, Alone, line, meets, Due, alone, finds, Told}
+use Rattle.race_find.specs.declared.RaceAnswer.{RaceAnswer}
+use Rattle.race_find.specs.declared.RaceAnswer.the-variants.{Stopped}
+use Rattle.race_file.specs.Files.{fileOpening, Alone, line, meets, Due, alone, finds, Told, FileLine}
 use Rattle.race_file.specs.inner.Answering.{aloneOr, raceAnswer}
 use Rattle.race_file.proofs.AnswerDue.{due-told}
 
@@ -84,3 +84,7 @@ module _ (bytes : List ℕ) where
       go : Dec (length bytes ≤ raceBytes) → Told bytes a
       go (yes l) = rw (take-all raceBytes bytes l) at t
       go (no l) = due-told bytes a (same-due (omega (arith, l)) a (t .due))
+
+-- the line of a file whose first 32,784 bytes are these, whatever follows them
+pub line-of-more : (bytes rest out : List ℕ) → length bytes ≡ raceBytes → FileLine bytes out → FileLine (bytes ++ rest) out
+line-of-more bytes rest out l h = record { answer = h .answer; told = told-whole (bytes ++ rest) (h .answer) (rw (take-at bytes rest raceBytes l) (h .told)); is = h .is }

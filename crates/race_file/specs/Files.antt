@@ -1,10 +1,10 @@
 -- Document 02, L11, "Race finder": the answer for a whole file, and its line. Assumes nothing.
-use Prim.Native.Nat.{ℕ, _+_, _%_}
+use Prim.Native.Nat.{ℕ, _+_, _%_, _≤_}
 use mathlib.Core.Path.{_≡_}
 use mathlib.Core.Bool.{cond}
 use mathlib.Core.Option.{Option, none, some}
-use mathlib.Core.List.{List, [], _∷_, _++_}
-use lib.ListN.{length, take}
+use mathlib.Core.List.{List}
+use lib.ListN.{length, take, drop}
 use lib.Dec.{ltb, eqb}
 use Rattle.limits.specs.Files.{fileRecordWidth, raceStepLimit}
 use Rattle.rules.specs.State.{mainframe}
@@ -13,13 +13,12 @@ use Rattle.rules.specs.Refusals.{Answer}
 use Rattle.rules.specs.Runs.{answers}
 use Rattle.rules.specs.Order.{Event, events}
 use Rattle.rules.specs.Races.{Finding, Finds, OneMemory}
-use Rattle.rules.specs.Races as races
 use Rattle.opening.specs.Promises.{openingOf}
 use Rattle.step_fields.specs.Records.{stepCount, fileSteps}
-use Rattle.lines.specs.Decimal.{digits}
-use Rattle.lines.specs.Lines.{refusalLine}
-use Rattle.race_file.specs.declared.RaceAnswer.{RaceAnswer}
-use Rattle.race_file.specs.declared.RaceAnswer.the-variants.{Race, None, Stopped}
+use Rattle.lines.specs.Lines.{refusalLine, pairLine, noneLine}
+use Rattle.race_find.specs.declared.RaceAnswer.{RaceAnswer}
+use Rattle.race_find.specs.declared.RaceAnswer.the-variants.{Race, None, Stopped}
+use Rattle.race_find.specs.Numbers.{numbered}
 
 -- the opening of a file
 unfoldable pub fileOpening : List ℕ → Opening
@@ -51,11 +50,6 @@ meets bytes =
     (line (stepCount bytes + 1) 15)))
     (line 0 2))
 
--- what is found, "as two record numbers and the word": the opening is record 0, so the step at place i is record i + 1
-unfoldable pub numbered : Finding → RaceAnswer
-numbered (races.Race j i w) = Race (j + 1) (i + 1) w
-numbered races.None = None
-
 -- the answer that is due for a file
 pub data Due (bytes : List ℕ) : RaceAnswer → Type 0 where
   -- "A file that meets 2, 15 or 21 gives that one line alone"
@@ -63,11 +57,10 @@ pub data Due (bytes : List ℕ) : RaceAnswer → Type 0 where
   -- "For any other file": the finding that is due for its steps
   finds : (f : Finding) → meets bytes ≡ none → Finds (fileOpening bytes .counts .processors) (fileEvents bytes) f → Due bytes (numbered f)
 
--- the line of each case of an answer: "two record numbers and the word, in that order on one line", with a space (32) between and a line end (10)
--- behind; "none"; or a refusal "as the run prints it"
+-- the line of each case of an answer, a refusal's "as the run prints it"
 unfoldable pub answerLine : RaceAnswer → List ℕ
-answerLine (Race later partner word) = digits later ++ 32 ∷ digits partner ++ 32 ∷ digits word ++ 10 ∷ []
-answerLine None = 110 ∷ 111 ∷ 110 ∷ 101 ∷ 10 ∷ []
+answerLine (Race later partner word) = pairLine later partner word
+answerLine None = noneLine
 answerLine (Stopped number refusal) = refusalLine number refusal
 
 -- what is told of a file
@@ -75,3 +68,15 @@ pub record Told (bytes : List ℕ) (a : RaceAnswer) : Type 0 where
   pub due : Due bytes a
   -- ""none" stands if and only if no such pair exists, and then the value of each accepted kind 1 read equals that of one common memory"
   pub memory : a ≡ None → OneMemory (fileSteps bytes) (fileAnswers bytes)
+
+-- the line of a file
+pub record FileLine (bytes line : List ℕ) : Type 0 where
+  pub answer : RaceAnswer
+  pub told : Told bytes answer
+  pub is : line ≡ answerLine answer
+
+-- it is written at the start of lent bytes, n bytes of it, and behind it all is as it was
+pub record LineTold (bytes out : List ℕ) (n : ℕ) (out′ : List ℕ) : Type 0 where
+  pub line : FileLine bytes (take n out′)
+  pub within : n ≤ length out′
+  pub rest : drop n out′ ≡ drop n out

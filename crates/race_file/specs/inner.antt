@@ -1,2 +1,3 @@
 -- what functions and proofs say of one another: no reader need believe it
 pub mod Answering
+pub mod Needed

@@ -6,9 +6,10 @@ use native.Mathlib.Decide.{ℕ-discrete}
 use mathlib.Core.Path.{_≡_, refl, sym, ap, _∙_}
 use mathlib.Core.Bool.{Bool, true, false, not, _&&_, false≢true}
 use mathlib.Core.List.{List}
-use lib.ListN.{length}
+use lib.ListN.{length, drop}
 use lib.Dec.{eqb}
 use borrow.Author.Needs.{needs}
+use Rattle.limits.specs.Files.{fileRecordWidth}
 use Rattle.lists.specs.Tables.{any, firstOf}
 use Rattle.lists.specs.inner.Searches.{lastOf}
 use Rattle.lists.proofs.Tables.{any-at, any-holds}
@@ -16,14 +17,15 @@ use Rattle.lists.proofs.Tabulated.{length-tabulate}
 use Rattle.lists.proofs.Counting.{first-passes, first-stays}
 use Rattle.lists.proofs.Searches.{last-passes, last-bounds, last-skips}
 use Rattle.rules.specs.Order.{Event, eventAt}
-use Rattle.rules.specs.Races as rules
 use Rattle.rules.specs.inner.Searching.{conflicts, races, partnerOf, racer, findingBy, finding}
 use Rattle.rules.proofs.order.RaceTest.{conflicts-says}
-use Rattle.step_fields.specs.Records.{stepCount}
-use Rattle.race_events.specs.inner.Events.{eventsIn, SeenAs, StepThere}
+use Rattle.step_fields.specs.Records.{stepFrom, stepCount}
+use Rattle.race_events.specs.inner.Events.{eventIn, eventsIn, SeenAs, StepThere}
+use Rattle.race_events.proofs.Seeing.{event-in}
 use Rattle.race_clocks.specs.inner.Needed.{Filled}
-use Rattle.race_find.specs.declared.Found.the-variants.{Race, None}
-use Rattle.race_find.specs.inner.Needed.{findingOf, Searchable, StepSought, Sought, access, RaceAs, PartnerAs, FoundAs}
+use Rattle.race_find.specs.Numbers.{numbered}
+use Rattle.race_find.specs.declared.RaceAnswer.the-variants.{Race, None}
+use Rattle.race_find.specs.inner.Needed.{Searchable, PairThere, StepSought, Sought, access, RaceAs, PartnerAs, FoundAs}
 use Rattle.race_find.proofs.Conflicting.{touches-seen}
 
 pub step-there : (bytes out : List ℕ) (j : ℕ) (table : List ℕ) → StepSought bytes out j table → StepThere bytes out j
@@ -130,10 +132,14 @@ module _ (bytes out : List ℕ) (steps j : ℕ) (table : List ℕ) (h : NoneBelo
       go zero e = refl
       go (suc k) e = let w = first-passes j (test n) k e in absurd (false≢true (sym (h .none n f k (w .0)) ∙ w .1))
 
-  pub race-found : (place kind processor object : ℕ) → j < steps → PartnerAs bytes out j table place → (place ≡ 0 → ⊥) → SeenAs events j kind processor object
-      → FoundAs bytes out table (Race j (place - 1) object)
-  unfolding finding findingOf findingBy racer
-  race-found place kind processor object l p z s = record { is = λ n f. go n f place refl }
+  pub pair-there : (place : ℕ) → j < steps → PartnerAs bytes out j table place → PairThere bytes j place
+  unfolding stepCount
+  pair-there place l p = record { there = omega (arith, l, h .all .all); few = omega (arith, l, h .all .all, h .all .sound .few); near = p .near }
+
+  pub race-found : (place : ℕ) (r : RaceAnswer) → j < steps → PartnerAs bytes out j table place → (place ≡ 0 → ⊥)
+      → r ≡ Race (j + 1) place (stepFrom (drop (fileRecordWidth * (j + 1)) bytes) .object) → FoundAs bytes out table r
+  unfolding finding numbered findingBy racer
+  race-found place r l p z s = record { is = λ n f. s ∙ go n f place refl }
     where
       partner : (n : ℕ) → Filled n bytes out table → (i : ℕ) → place ≡ suc i → test n j ≡ true
       partner n f i e = let w = last-passes j (λ k. races n events k j) i (unfold partnerOf in sym (p .is n f) ∙ e) in any-holds j (λ k. races n events k j) i (w .0) (w .1)
@@ -141,13 +147,16 @@ module _ (bytes out : List ℕ) (steps j : ℕ) (table : List ℕ) (h : NoneBelo
       first : (n : ℕ) → Filled n bytes out table → (i : ℕ) → place ≡ suc i → firstOf (length events) (test n) ≡ suc j
       first n f i e = first-stays (suc j) (length events) (test n) j (omega (arith, l, as-many)) (unfold firstOf in rw (none-first n f, partner n f i e))
 
+      word : stepFrom (drop (fileRecordWidth * (j + 1)) bytes) .object ≡ eventAt events j .step .object
+      word = sym (ap (λ (e : Event). e .step .object) (event-in bytes out j (omega (arith, l, h .all .all))) ∙ (unfold eventIn in refl))
+
       go : (n : ℕ) → Filled n bytes out table → (m : ℕ) → place ≡ m
-          → rules.Race j (place - 1) object ≡ findingBy n events (firstOf (length events) (test n)) (partnerOf n events (firstOf (length events) (test n) - 1))
+          → Race (j + 1) place (stepFrom (drop (fileRecordWidth * (j + 1)) bytes) .object) ≡ numbered (findingBy n events (firstOf (length events) (test n)) (partnerOf n events (firstOf (length events) (test n) - 1)))
       go n f zero e = absurd (z e)
       go n f (suc i) e =
           let back : suc j - 1 ≡ j = omega arith in
-          let at-i : place - 1 ≡ i = omega (arith, e) in
-          rw (first n f i e, back, ← (p .is n f), e, s .object-is) (ap (λ (x : ℕ). rules.Race j x (eventAt events j .step .object)) (let y : suc i - 1 ≡ i = omega arith in y))
+          let more : suc i ≡ i + 1 = omega arith in
+          rw (first n f i e, back, ← (p .is n f), e, word) (ap (λ (x : ℕ). Race (j + 1) x (eventAt events j .step .object)) more)
 
   pub none-below : (place : ℕ) → j < steps → PartnerAs bytes out j table place → place ≡ 0 → NoneBelow bytes out steps (j + 1) table
   unfolding partnerOf
@@ -164,13 +173,13 @@ module _ (bytes out : List ℕ) (steps j : ℕ) (table : List ℕ) (h : NoneBelo
       go n f k b (no e) = h .none n f k (omega (arith, b, e))
 
   pub none-found : steps ≤ j → FoundAs bytes out table None
-  unfolding finding findingOf findingBy racer
+  unfolding finding numbered findingBy racer
   none-found l =
       record {
         is = λ n f.
             let e : j ≡ length events = omega (arith, l, h .upto, as-many) in
             let none : firstOf (length events) (test n) ≡ 0 = ap (λ (m : ℕ). firstOf m (test n)) (sym e) ∙ none-first n f in
-            sym (ap (λ (x : ℕ). findingBy n events x (partnerOf n events (firstOf (length events) (test n) - 1))) none);
+            sym (ap (λ (x : ℕ). numbered (findingBy n events x (partnerOf n events (firstOf (length events) (test n) - 1)))) none);
       }
 
-pub ruleset finding-laws = (step-there, no-access, none-yet, before-there, partner-found, none-before, no-partner, none-below-yet, next-sought, race-found, none-below, none-found, needs)
+pub ruleset finding-laws = (step-there, no-access, none-yet, before-there, partner-found, none-before, no-partner, none-below-yet, next-sought, pair-there, race-found, none-below, none-found, needs)

@@ -1,12 +1,16 @@
 // The first race of a file: the earliest step that an earlier one races with, and the latest of its partners.
 ghost use mathlib.Core.Path.{_≡_};
-ghost use Prim.Native.Nat.{_+_, _-_};
-ghost use lib.ListN.{getD};
+ghost use Prim.Native.Nat.{_+_, _-_, _*_};
+ghost use lib.ListN.{getD, drop};
 ghost use lib.Dec.{ltb};
+ghost use Rattle.limits.specs.Files.{fileRecordWidth};
 ghost use Rattle.limits.specs.inner.Sizes.{clockWidth};
 ghost use Rattle.layout.specs.Layout.{rowOf};
-ghost use Rattle.race_find.specs.inner.Needed.{Searchable, StepSought, Sought, NumberThere, access, seenConflict, RaceAs, PartnerAs, FoundAs};
+ghost use Rattle.step_fields.specs.Records.{stepFrom};
+ghost use Rattle.race_find.specs.declared.RaceAnswer.the-variants.{Race};
+ghost use Rattle.race_find.specs.inner.Needed.{Searchable, PairThere, StepSought, Sought, NumberThere, access, seenConflict, RaceAs, PartnerAs, FoundAs};
 use limits::CLOCK_WIDTH;
+use limits::FILE_RECORD_WIDTH;
 use race_events::Seen;
 
 // The kinds of step that touch a word.
@@ -14,18 +18,16 @@ const READ: usize = 1;
 
 const WRITE: usize = 2;
 
-// What is found: a race, by the places of its later step and of the partner and by the word; or none.
-pub enum Found {
-    Race {
-        later: usize,
-        partner: usize,
-        word: usize,
-    },
+// What is said of a file: a race, by the record numbers of its later step and of the partner and by the word; that there is none; or the number and
+// the refusal of the line that stands alone.
+pub enum RaceAnswer {
+    Race { later: u32, partner: u32, word: u32 },
     None,
+    Stopped { number: u32, refusal: u32 },
 }
 
 // Finds the first race among so many steps, by the table of what each of them knows.
-pub fn first_race(bytes: &[u8], answers: &[u32], steps: usize, table: &[u16]) -> Found
+pub fn first_race(bytes: &[u8], answers: &[u32], steps: usize, table: &[u16]) -> RaceAnswer
     requires { ⌜ Searchable (now bytes) (now answers) steps (now table) ⌝ }
     ensures { λ r. ⌜ FoundAs (now (bytes .entry)) (now (answers .entry)) (now (table .entry)) r ⌝ }
 {
@@ -33,16 +35,24 @@ pub fn first_race(bytes: &[u8], answers: &[u32], steps: usize, table: &[u16]) ->
     while j < steps {
         let place = partner_of(bytes, answers, j, table);
         if place != 0 {
-            let later = race_events::seen_at(bytes, answers, j);
-            return Found::Race {
-                later: j,
-                partner: place - 1,
-                word: later.object,
-            };
+            return race_at(bytes, j, place);
         }
         j = j + 1;
     }
-    Found::None
+    RaceAnswer::None
+}
+
+// The race of the step at place j with the partner whose record number is `partner`.
+fn race_at(bytes: &[u8], j: usize, partner: usize) -> RaceAnswer
+    requires { ⌜ PairThere (now bytes) j partner ⌝ }
+    ensures { λ r. ⌜ r ≡ Race (j + 1) partner (stepFrom (drop (fileRecordWidth * (j + 1)) (now (bytes .entry))) .object) ⌝ }
+{
+    let fields = step_fields::fields_at(bytes, FILE_RECORD_WIDTH * (j + 1));
+    RaceAnswer::Race {
+        later: (j + 1) as u32,
+        partner: partner as u32,
+        word: fields.object,
+    }
 }
 
 // The place, plus 1, of the latest step before place j that races with the step there; 0 if none does.

@@ -43,7 +43,7 @@ module _ (bytes words : ℕ) where
 
 -- ---- a step has one answer
 
-length-steps : (n : ℕ) (bs : List ℕ) → length (stepsIn n bs) ≡ n
+pub length-steps : (n : ℕ) (bs : List ℕ) → length (stepsIn n bs) ≡ n
 unfolding stepsIn
 length-steps zero bs = refl
 length-steps (suc n) bs = ap suc (length-steps n (drop fileRecordWidth bs))

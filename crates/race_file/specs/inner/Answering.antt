@@ -3,9 +3,10 @@ use Prim.Native.Nat.{ℕ}
 use mathlib.Core.Option.{Option, none, some}
 use mathlib.Core.List.{List}
 use Rattle.rules.specs.inner.Searching.{finding}
-use Rattle.race_file.specs.declared.RaceAnswer.{RaceAnswer}
-use Rattle.race_file.specs.declared.RaceAnswer.the-variants.{Stopped}
-use Rattle.race_file.specs.Files.{fileOpening, fileEvents, Alone, meets, numbered, answerLine}
+use Rattle.race_find.specs.Numbers.{numbered}
+use Rattle.race_find.specs.declared.RaceAnswer.{RaceAnswer}
+use Rattle.race_find.specs.declared.RaceAnswer.the-variants.{Stopped}
+use Rattle.race_file.specs.Files.{fileOpening, fileEvents, Alone, meets, answerLine}
 
 -- the line that stands alone, or another answer
 unfoldable pub aloneOr : Option Alone → RaceAnswer → RaceAnswer

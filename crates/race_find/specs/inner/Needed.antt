@@ -6,27 +6,26 @@ use mathlib.Core.List.{List}
 use lib.ListN.{length}
 use lib.Dec.{eqb}
 use Rattle.limits.specs.Limits.{processorLimit}
-use Rattle.limits.specs.Files.{raceStepLimit}
-use Rattle.rules.specs.Races.{Finding}
-use Rattle.rules.specs.Races as rules
+use Rattle.limits.specs.Files.{fileRecordWidth, raceStepLimit}
 use Rattle.rules.specs.inner.Searching.{races, partnerOf, finding}
 use Rattle.step_fields.specs.Records.{stepCount}
 use Rattle.race_events.specs.inner.Events.{eventsIn, SeenAs}
 use Rattle.race_clocks.specs.inner.Knowers.{StepsSound, tableArea}
 use Rattle.race_clocks.specs.inner.Needed.{Filled}
-use Rattle.race_find.specs.declared.Found.{Found}
-use Rattle.race_find.specs.declared.Found.the-variants.{Race, None}
-
--- the rules' finding that each case of what is found stands for
-unfoldable pub findingOf : Found → Finding
-findingOf (Race later partner word) = rules.Race later partner word
-findingOf None = rules.None
+use Rattle.race_find.specs.declared.RaceAnswer.{RaceAnswer}
+use Rattle.race_find.specs.Numbers.{numbered}
 
 -- so many steps and the table of what they know
 pub record Searchable (bytes out : List ℕ) (steps : ℕ) (table : List ℕ) : Type 0 where
   pub sound : StepsSound bytes out
   pub all : steps ≡ stepCount bytes
   pub table-long : length table ≡ tableArea
+
+-- the record of a step, and numbers of 32 bits
+pub record PairThere (bytes : List ℕ) (j partner : ℕ) : Type 0 where
+  pub there : fileRecordWidth * (j + 1) + fileRecordWidth ≤ length bytes
+  pub few : j < raceStepLimit
+  pub near : partner ≤ j
 
 -- one of the steps
 pub record StepSought (bytes out : List ℕ) (j : ℕ) (table : List ℕ) : Type 0 where
@@ -66,5 +65,5 @@ pub record PartnerAs (bytes out : List ℕ) (j : ℕ) (table : List ℕ) (r : �
   pub is : (n : ℕ) → Filled n bytes out table → r ≡ partnerOf n (eventsIn bytes out) j
 
 -- what is found
-pub record FoundAs (bytes out table : List ℕ) (r : Found) : Type 0 where
-  pub is : (n : ℕ) → Filled n bytes out table → findingOf r ≡ finding n (eventsIn bytes out)
+pub record FoundAs (bytes out table : List ℕ) (r : RaceAnswer) : Type 0 where
+  pub is : (n : ℕ) → Filled n bytes out table → r ≡ numbered (finding n (eventsIn bytes out))
