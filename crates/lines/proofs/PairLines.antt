@@ -3,7 +3,7 @@
 use Prim.Native.Nat.{ℕ, _+_, _≤_}
 use native.Mathlib.Omega.{arith}
 use mathlib.Core.Path.{_≡_, refl, sym, ap, _∙_}
-use mathlib.Core.List.{List, _++_}
+use mathlib.Core.List.{List, [], _∷_, _++_}
 use lib.ListN.{length, length-append}
 use lib.Seq.{sets}
 use borrow.Author.Needs.{needs}
@@ -38,4 +38,8 @@ pub none-end : (at : ℕ) → at + 5 ≡ at + length noneLine
 unfolding noneLine
 none-end at = refl
 
-pub ruleset pair-laws = (room-for-half, room-for-word, pair-end, pair-stored-line, none-end, needs)
+pub none-stored : (out out₁ : List ℕ) (at : ℕ) → out₁ ≡ sets out at (110 ∷ 111 ∷ 110 ∷ 101 ∷ 10 ∷ []) → out₁ ≡ sets out at noneLine
+unfolding noneLine
+none-stored out out₁ at e = e
+
+pub ruleset pair-laws = (room-for-half, room-for-word, pair-end, pair-stored-line, none-end, none-stored, needs)
