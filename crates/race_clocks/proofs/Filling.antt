@@ -20,18 +20,18 @@ use Rattle.layout.specs.Layout.{rowOf}
 use Rattle.layout.specs.inner.Needed.{RowThere}
 use Rattle.layout.proofs.RowLaws.{length-row, get-row, row-of-sets-same, row-of-sets-other}
 use Rattle.step_fields.specs.Records.{stepCount}
-use Rattle.race_events.specs.inner.Events.{eventsIn, shownKind, SeenAs, StepThere}
+use Rattle.race_events.specs.inner.Events.{memoryEvents, shownKind, SeenAs, EventThere}
 use Rattle.race_clocks.specs.inner.Knowers.{knowerAt, knowerRows, knowsRow, knownRow, knowerArea}
-use Rattle.race_clocks.specs.inner.Needed.{Taken, Sized, KnowsAs, Telling, ToldAll, Filling, Going, Fillable, Filled}
-use Rattle.race_clocks.proofs.Hearing.{row-is}
+use Rattle.race_clocks.specs.inner.Needed.{Taken, TableSized, KnowsAs, RowsBefore, RowsAfter, Filling, StepDue, Fillable, Filled}
+use Rattle.race_clocks.proofs.Hearing.{row-by-numbers}
 
 -- ---- one step
 
-module _ (n : ℕ) (bytes out : List ℕ) (t waiting : ℕ) (table rows : List ℕ) (g : Going n bytes out t waiting table rows) where
+module _ (n : ℕ) (bytes out : List ℕ) (t waiting : ℕ) (table rows : List ℕ) (g : StepDue n bytes out t waiting table rows) where
   abbrev es : List Event
-  es = eventsIn bytes out
+  es = memoryEvents bytes out
 
-  pub going-there : StepThere bytes out t
+  pub going-there : EventThere bytes out t
   going-there =
       let s = g .filling .steps in
       record { there = g .there; few = omega (arith, g .there, s .few); answered = omega (arith, g .there, s .answered) }
@@ -76,16 +76,16 @@ module _ (n : ℕ) (bytes out : List ℕ) (t waiting : ℕ) (table rows : List �
   pub step-taken : (kind p o : ℕ) → SeenAs es t kind p o → (kind ≡ 0 → ⊥) → Taken bytes out t kind p o
   step-taken kind p o seen z = record { steps = g .filling .steps; there = g .there; seen = seen; accepted = z }
 
-  pub step-sized : Sized table rows
+  pub step-sized : TableSized table rows
   step-sized = g .filling .sized
 
   pub step-row : RowThere clockWidth table t
   step-row = record { within = omega (arith, g .there, g .filling .steps .few, g .filling .sized .table-long) }
 
-  pub step-tells : (r : List ℕ) → KnowsAs bytes out t table rows r → Telling n bytes out t waiting r rows
-  step-tells r k = record { row-is = k .is n (g .filling .known); rows-long = g .filling .sized .rows-long; knowers = g .filling .known .knowers; arrived = g .filling .arrived }
+  pub step-tells : (r : List ℕ) → KnowsAs bytes out t table rows r → RowsBefore n bytes out t waiting r rows
+  step-tells r k = record { row-by-numbers = k .is n (g .filling .known); rows-long = g .filling .sized .rows-long; knowers = g .filling .known .knowers; arrived = g .filling .arrived }
 
-  pub step-done : (r table′ rows′ : List ℕ) (w : ℕ) → KnowsAs bytes out t table rows r → table′ ≡ sets table (clockWidth * t) r → ToldAll n bytes out (t + 1) w rows′ → Filling n bytes out (t + 1) w table′ rows′
+  pub step-done : (r table′ rows′ : List ℕ) (w : ℕ) → KnowsAs bytes out t table rows r → table′ ≡ sets table (clockWidth * t) r → RowsAfter n bytes out (t + 1) w rows′ → Filling n bytes out (t + 1) w table′ rows′
   step-done r table′ rows′ w k e d =
       record {
         steps = f .steps;
@@ -116,13 +116,13 @@ fill-begins n bytes out steps table h =
       arrived = record { is = refl; few = omega arith };
     }
   where
-    zeros-known : (k : ℕ) → k < knowerRows → rowOf clockWidth (replicate knowerArea 0) k ≡ knownRow n (eventsIn bytes out) 0 (knowerAt k)
+    zeros-known : (k : ℕ) → k < knowerRows → rowOf clockWidth (replicate knowerArea 0) k ≡ knownRow n (memoryEvents bytes out) 0 (knowerAt k)
     zeros-known k a =
-        row-is (rowOf clockWidth (replicate knowerArea 0) k) (λ q. 0) (length-row clockWidth (replicate knowerArea 0) k (omega (arith, a, length-replicate {A = ℕ} knowerArea 0)))
+        row-by-numbers (rowOf clockWidth (replicate knowerArea 0) k) (λ q. 0) (length-row clockWidth (replicate knowerArea 0) k (omega (arith, a, length-replicate {A = ℕ} knowerArea 0)))
         (λ q l. get-row clockWidth (replicate knowerArea 0) k q 0 l ∙ getD-replicate {A = ℕ} knowerArea (clockWidth * k + q) 0 0 (omega (arith, a, l)))
         ∙ (unfold knownRow known in refl)
 
-pub fill-goes : (n : ℕ) (bytes out : List ℕ) (steps t waiting : ℕ) (table₀ table rows : List ℕ) → Fillable bytes out steps table₀ → Filling n bytes out t waiting table rows → t < steps → Going n bytes out t waiting table rows
+pub fill-goes : (n : ℕ) (bytes out : List ℕ) (steps t waiting : ℕ) (table₀ table rows : List ℕ) → Fillable bytes out steps table₀ → Filling n bytes out t waiting table rows → t < steps → StepDue n bytes out t waiting table rows
 fill-goes n bytes out steps t waiting table₀ table rows h f l = record { filling = f; there = omega (arith, l, h .all) }
 
 pub fill-ends : (n : ℕ) (bytes out : List ℕ) (steps t waiting : ℕ) (table₀ table rows : List ℕ) → Fillable bytes out steps table₀ → Filling n bytes out t waiting table rows → steps ≤ t → Filled n bytes out table
@@ -130,7 +130,4 @@ fill-ends n bytes out steps t waiting table₀ table rows h f l =
     let all : t ≡ stepCount bytes = omega (arith, l, h .all, f .upto) in
     record { table-long = f .sized .table-long; holds = rw all at (f .known .filled) }
 
-pub fill-fits : (n : ℕ) (bytes out : List ℕ) (t waiting : ℕ) (table rows : List ℕ) → Filling n bytes out t waiting table rows → t ≤ 4096
-fill-fits n bytes out t waiting table rows f = omega (arith, f .upto, f .steps .few)
-
-pub ruleset filling-laws = (going-there, step-refused, step-taken, step-sized, step-row, step-tells, step-done, fill-begins, fill-goes, fill-ends, fill-fits, needs)
+pub ruleset filling-laws = (going-there, step-refused, step-taken, step-sized, step-row, step-tells, step-done, fill-begins, fill-goes, fill-ends, needs)

@@ -21,7 +21,7 @@ use Rattle.rules.specs.inner.Knowing.{servesTo}
 use Rattle.layout.specs.Layout.{rowOf}
 use Rattle.layout.specs.inner.Needed.{RowThere}
 use Rattle.layout.proofs.RowLaws.{length-row, row-of-sets}
-use Rattle.race_events.specs.inner.Events.{eventsIn, SeenAs, isOf, placeOf}
+use Rattle.race_events.specs.inner.Events.{memoryEvents, SeenAs, isOf, placeOf}
 use Rattle.race_rows.specs.inner.Rows.{RowsJoined}
 use Rattle.race_clocks.specs.inner.Knowers.{ofProcessor, knowerArea}
 use Rattle.race_clocks.specs.inner.Needed.{Freeing, FreedAs, ArrivedAs}
@@ -29,9 +29,9 @@ use Rattle.race_clocks.proofs.Serving.{row-joined, serves-found, serves
 
 module _ (bytes out : List ℕ) (t l : ℕ) (news rows rows₁ : List ℕ) (number place : ℕ) (h : Freeing bytes out t l news rows)
     (stored : rows₁ ≡ sets rows (clockWidth * (firstLockRow + l)) (joined (rowOf clockWidth rows (firstLockRow + l)) news))
-    (count : number ≡ counted (isOf 4 l) (eventsIn bytes out) t) (found : place ≡ placeOf (eventsIn bytes out) 3 l (number + 1) t) where
+    (count : number ≡ counted (isOf 4 l) (memoryEvents bytes out) t) (found : place ≡ placeOf (memoryEvents bytes out) 3 l (number + 1) t) where
   abbrev es : List Event
-  es = eventsIn bytes out
+  es = memoryEvents bytes out
 
   first-long : length rows₁ ≡ length rows
   first-long = ap length stored ∙ length-sets rows (clockWidth * (firstLockRow + l)) (joined (rowOf clockWidth rows (firstLockRow + l)) news)

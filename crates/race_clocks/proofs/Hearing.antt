@@ -25,22 +25,22 @@ use Rattle.clock.specs.Clocks.{joined}
 use Rattle.clock.proofs.Laws.{joined-entry, length-joined}
 use Rattle.rules.specs.Refusals.{Enqueue}
 use Rattle.rules.specs.Order.{Event, eventAt, Took, counted, isEnqueue, isDequeue}
-use Rattle.rules.specs.inner.Knowing.{Knower, AtProcessor, AtLock, AtJob, heard, row, told, known, knows}
+use Rattle.rules.specs.inner.Knowing.{Knower, AtProcessor, AtLock, AtJob, heard, knowing, told, known, knows}
 use Rattle.rules.proofs.order.ActionKinds.{enqueue-of}
 use Rattle.rules.proofs.order.KnownSteps.{after-step, after-refused}
 use Rattle.rules.proofs.order.KnownFollows.{job-later}
 use Rattle.layout.specs.Layout.{rowOf}
 use Rattle.layout.specs.inner.Needed.{RowThere}
 use Rattle.layout.proofs.RowLaws.{length-row}
-use Rattle.race_events.specs.inner.Events.{eventsIn, isOf, placeOf}
+use Rattle.race_events.specs.inner.Events.{memoryEvents, isOf, placeOf}
 use Rattle.race_clocks.specs.inner.Knowers.{knowsRow, knownRow, heardRow, KnowersHold, tableArea, Known}
-use Rattle.race_clocks.specs.inner.Needed.{StepSound, Taken, Sized, JobHeard, HeardAs, KnowsAs}
+use Rattle.race_clocks.specs.inner.Needed.{StepSound, Taken, TableSized, JobHeard, HeardAs, KnowsAs}
 use Rattle.race_clocks.proofs.SeenKinds.{processor-row, lock-row, counted-same, enqueue-is, dequeue-is, was-accepted, kind-is, processor-from, processor-to, lock-there, no-dequeue}
 
 -- ---- rows by their numbers
 
-pub row-is : (r : List ℕ) (f : ℕ → ℕ) → length r ≡ clockWidth → ((q : ℕ) → q < clockWidth → getD r q 0 ≡ f q) → r ≡ tabulate clockWidth f
-row-is r f l h =
+pub row-by-numbers : (r : List ℕ) (f : ℕ → ℕ) → length r ≡ clockWidth → ((q : ℕ) → q < clockWidth → getD r q 0 ≡ f q) → r ≡ tabulate clockWidth f
+row-by-numbers r f l h =
     ext-getD 0 r (tabulate clockWidth f) (l ∙ sym (length-tabulate clockWidth f))
     (λ q b. let c : q < clockWidth = omega (arith, b, l) in h q c ∙ sym (get-tabulate clockWidth f q 0 c))
 
@@ -98,10 +98,10 @@ job-from n es q m (suc t) = go (eventAt es t .accepted) refl (job-from n es q m 
     go true e r = at (isEnqueue (eventAt es t) && eqb m (counted isEnqueue es t)) refl (after-step n es q t (AtJob m) e ∙ (unfold told in refl)) r
     go false e r = same (after-refused n es q t (AtJob m) e) r
 
-module _ (bytes out : List ℕ) (t : ℕ) (h : StepSound bytes out t) (table : List ℕ) (number place : ℕ) (count : number ≡ counted (isOf 11 0) (eventsIn bytes out) t)
-    (found : place ≡ placeOf (eventsIn bytes out) 10 0 number t) where
+module _ (bytes out : List ℕ) (t : ℕ) (h : StepSound bytes out t) (table : List ℕ) (number place : ℕ) (count : number ≡ counted (isOf 11 0) (memoryEvents bytes out) t)
+    (found : place ≡ placeOf (memoryEvents bytes out) 10 0 number t) where
   abbrev es : List Event
-  es = eventsIn bytes out
+  es = memoryEvents bytes out
 
   abbrev test : ℕ → Bool
   test a = isOf 10 0 (eventAt es a) && eqb (counted (isOf 10 0) es a) number
@@ -124,7 +124,7 @@ module _ (bytes out : List ℕ) (t : ℕ) (h : StepSound bytes out t) (table : L
   job-none z =
       record {
         long = refl;
-        is = λ n rows known-is k a. row-is (replicate clockWidth 0) (λ q. heard es (known n es (suc q) t) t) refl (λ q b. zero-at q b ∙ sym (hears-job n (suc q) k a ∙ nothing n (suc q) (job-from n es (suc q) number t))) ∙ (unfold heardRow in refl);
+        is = λ n rows known-is k a. row-by-numbers (replicate clockWidth 0) (λ q. heard es (known n es (suc q) t) t) refl (λ q b. zero-at q b ∙ sym (hears-job n (suc q) k a ∙ nothing n (suc q) (job-from n es (suc q) number t))) ∙ (unfold heardRow in refl);
       }
     where
       zero-at : (q : ℕ) → q < clockWidth → getD (replicate {A = ℕ} clockWidth 0) q 0 ≡ 0
@@ -169,9 +169,9 @@ module _ (bytes out : List ℕ) (t : ℕ) (h : StepSound bytes out t) (table : L
 
 module _ (bytes out : List ℕ) (t kind processor object : ℕ) (h : Taken bytes out t kind processor object) (table rows : List ℕ) where
   abbrev all : List Event
-  all = eventsIn bytes out
+  all = memoryEvents bytes out
 
-  pub heard-from-lock : (r : List ℕ) → Sized table rows → kind ≡ 3 → r ≡ rowOf clockWidth rows (firstLockRow + object) → HeardAs bytes out t table rows r
+  pub heard-from-lock : (r : List ℕ) → TableSized table rows → kind ≡ 3 → r ≡ rowOf clockWidth rows (firstLockRow + object) → HeardAs bytes out t table rows r
   heard-from-lock r z k e =
       record {
         long = ap length e ∙ length-row clockWidth rows (firstLockRow + object) (omega (arith, there, z .rows-long));
@@ -203,7 +203,7 @@ module _ (bytes out : List ℕ) (t kind processor object : ℕ) (h : Taken bytes
   heard-from-none x y =
       record {
         long = refl;
-        is = λ n g. row-is (replicate clockWidth 0) (λ q. heard all (known n all (suc q) t) t) refl (λ q b. getD-replicate {A = ℕ} clockWidth q 0 0 b ∙ sym (hears n (suc q))) ∙ (unfold heardRow in refl);
+        is = λ n g. row-by-numbers (replicate clockWidth 0) (λ q. heard all (known n all (suc q) t) t) refl (λ q b. getD-replicate {A = ℕ} clockWidth q 0 0 b ∙ sym (hears n (suc q))) ∙ (unfold heardRow in refl);
       }
     where
       hears : (n q : ℕ) → heard all (known n all q t) t ≡ 0
@@ -213,9 +213,9 @@ module _ (bytes out : List ℕ) (t kind processor object : ℕ) (h : Taken bytes
 
   -- ---- what it knows
 
-  pub knows-row : (own news both r : List ℕ) → Sized table rows → own ≡ rowOf clockWidth rows processor → HeardAs bytes out t table rows news → both ≡ joined own news
+  pub knows-row : (own news both r : List ℕ) → TableSized table rows → own ≡ rowOf clockWidth rows processor → HeardAs bytes out t table rows news → both ≡ joined own news
       → r ≡ set both (processor - 1) (t + 1) → KnowsAs bytes out t table rows r
-  knows-row own news both r z e f g d = record { long = long; is = λ n k. row-is r (λ q. knows n all (suc q) t) long (at n k) ∙ (unfold knowsRow in refl) }
+  knows-row own news both r z e f g d = record { long = long; is = λ n k. row-by-numbers r (λ q. knows n all (suc q) t) long (at n k) ∙ (unfold knowsRow in refl) }
     where
       from : 1 ≤ processor
       from = processor-from bytes out t kind processor object h
@@ -239,7 +239,7 @@ module _ (bytes out : List ℕ) (t kind processor object : ℕ) (h : Taken bytes
 
       itself : (n q : ℕ) (c : Bool) → eqb (suc q) (eventAt all t .step .processor) ≡ c
           → cond c (suc t) (max (known n all (suc q) t (AtProcessor (eventAt all t .step .processor))) (heard all (known n all (suc q) t) t)) ≡ knows n all (suc q) t
-      itself n q c x = unfold knows row in rw (← x)
+      itself n q c x = unfold knows knowing in rw (← x)
 
       at : (n : ℕ) → Known n bytes out t table rows → (q : ℕ) → q < clockWidth → getD r q 0 ≡ knows n all (suc q) t
       at n k q b = go (ℕ-discrete q (processor - 1))
@@ -258,10 +258,10 @@ module _ (bytes out : List ℕ) (t kind processor object : ℕ) (h : Taken bytes
               ∙ joined-entry own news q ∙ both-at ∙ itself n q false (ne-eqb (suc q) (eventAt all t .step .processor) other)
 
 -- a row of a processor lies within the rows, and one of a lock
-pub processor-there : (bytes out : List ℕ) (t kind p o : ℕ) (table rows : List ℕ) → Taken bytes out t kind p o → Sized table rows → RowThere clockWidth rows p
+pub processor-there : (bytes out : List ℕ) (t kind p o : ℕ) (table rows : List ℕ) → Taken bytes out t kind p o → TableSized table rows → RowThere clockWidth rows p
 processor-there bytes out t kind p o table rows h z = record { within = omega (arith, processor-to bytes out t kind p o h, z .rows-long) }
 
-pub lock-row-there : (bytes out : List ℕ) (t kind p o : ℕ) (table rows : List ℕ) → Taken bytes out t kind p o → Sized table rows → kind ≡ 3 → RowThere clockWidth rows (firstLockRow + o)
+pub lock-row-there : (bytes out : List ℕ) (t kind p o : ℕ) (table rows : List ℕ) → Taken bytes out t kind p o → TableSized table rows → kind ≡ 3 → RowThere clockWidth rows (firstLockRow + o)
 lock-row-there bytes out t kind p o table rows h z k = record { within = omega (arith, lock-there bytes out t kind p o h (rw k), z .rows-long) }
 
 pub lock-fits : (bytes out : List ℕ) (t kind p o : ℕ) → Taken bytes out t kind p o → kind ≡ 3 → Fits w64 (firstLockRow + o)

@@ -20,7 +20,7 @@ use Rattle.rules.proofs.inorder.OpenedInOrder.{opened-in-order, opening-counts}
 use Rattle.rules.proofs.InOrderRuns.{answers-in-order}
 use Rattle.rules.proofs.demand.ListRuns.{eventsOf, timeline}
 use Rattle.rules.proofs.order.Timeline.{Timeline, took-accepted, counts-stay}
-use Rattle.race_clocks.specs.inner.Knowers.{Addressed}
+use Rattle.race_clocks.specs.inner.Knowers.{KeepsFields}
 
 module _ (c : Counts) (es : List Event) (r : Timeline mainframe c es) where
   -- an accepted step at place t
@@ -62,13 +62,13 @@ module _ (c : Counts) (es : List Event) (r : Timeline mainframe c es) where
         go (inl k) = bound (unfold actionOf objectBound in rw (eqb-true (here .kind) 10 k))
         go (inr k) = bound (unfold actionOf objectBound in rw (eqb-true (here .kind) 11 k))
 
-    pub keeps-fields : Addressed (eventAt es t)
+    pub keeps-fields : KeepsFields (eventAt es t)
     unfolding mainframe
     keeps-fields = record { kind = has-kind; from = bounds .0; to = omega (arith, bounds .1, r .ordered t .processors-fit); lock = at-lock; queue = at-queue }
 
 -- of every run from an accepted opening
 pub run-sound : (o : Opening) → openingRefusal mainframe o ≡ 0 → (ts : List Step) (t : ℕ) → eventAt (events ts (answers mainframe (opened mainframe (o .counts)) ts)) t .accepted ≡ true
-    → Addressed (eventAt (events ts (answers mainframe (opened mainframe (o .counts)) ts)) t)
+    → KeepsFields (eventAt (events ts (answers mainframe (opened mainframe (o .counts)) ts)) t)
 run-sound o accepted ts t a =
     rw same
     (keeps-fields (o .counts) (eventsOf mainframe (opened mainframe (o .counts)) ts) (timeline mainframe (o .counts) (opening-counts mainframe o accepted) (unfold mainframe in omega arith) ts) t (rw same at a))

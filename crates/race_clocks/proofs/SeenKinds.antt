@@ -11,8 +11,8 @@ use Rattle.limits.specs.Limits.{processorLimit, lockLimit}
 use Rattle.limits.specs.inner.Sizes.{firstLockRow}
 use Rattle.rules.specs.Order.{Event, eventAt, counted, isArrival, isReleaseOf, isEnqueue, isDequeue}
 use Rattle.rules.specs.inner.Knowing.{AtProcessor, AtLock, AtBarrier}
-use Rattle.race_events.specs.inner.Events.{eventsIn, shownKind, isOf}
-use Rattle.race_clocks.specs.inner.Knowers.{knowerAt, Addressed, StepsSound}
+use Rattle.race_events.specs.inner.Events.{memoryEvents, shownKind, isOf}
+use Rattle.race_clocks.specs.inner.Knowers.{knowerAt, KeepsFields, StepsSound}
 use Rattle.race_clocks.specs.inner.Needed.{Taken}
 
 -- ---- rows
@@ -40,7 +40,7 @@ counted-same f g es (suc t) h = rw (h t, counted-same f g es t h)
 
 module _ (bytes out : List ℕ) (s : StepsSound bytes out) where
   abbrev at : ℕ → Event
-  at t = eventAt (eventsIn bytes out) t
+  at t = eventAt (memoryEvents bytes out) t
 
   -- a step of the queue has object 0
   of-queue : (k t : ℕ) → (eqb k 10 || eqb k 11) ≡ true → (at t .accepted && eqb (at t .step .kind) k) ≡ isOf k 0 (at t)
@@ -66,7 +66,7 @@ module _ (bytes out : List ℕ) (s : StepsSound bytes out) where
 
 module _ (bytes out : List ℕ) (t kind processor object : ℕ) (h : Taken bytes out t kind processor object) where
   abbrev here : Event
-  here = eventAt (eventsIn bytes out) t
+  here = eventAt (memoryEvents bytes out) t
 
   pub was-accepted : here .accepted ≡ true
   unfolding shownKind
@@ -80,7 +80,7 @@ module _ (bytes out : List ℕ) (t kind processor object : ℕ) (h : Taken bytes
   unfolding shownKind
   kind-is = sym (h .seen .kind-is ∙ ap (λ (a : Bool). cond a (here .step .kind) 0) was-accepted)
 
-  pub addressed : Addressed here
+  pub addressed : KeepsFields here
   addressed = h .steps .sound t was-accepted
 
   pub processor-from : 1 ≤ processor

@@ -23,11 +23,11 @@ use Rattle.rules.proofs.order.KnownSteps.{after-step}
 use Rattle.layout.specs.Layout.{rowOf}
 use Rattle.layout.specs.inner.Needed.{RowThere}
 use Rattle.layout.proofs.RowLaws.{length-row, row-of-sets}
-use Rattle.race_events.specs.inner.Events.{eventsIn}
+use Rattle.race_events.specs.inner.Events.{memoryEvents}
 use Rattle.race_clocks.specs.inner.Knowers.{knowerAt, knowerRows, ofProcessor, knowsRow, knownRow, KnowersHold, knowerArea}
-use Rattle.race_clocks.specs.inner.Needed.{Taken, Freeing, FreedAs, ArrivedAs, Waiting, Telling, ToldAll}
+use Rattle.race_clocks.specs.inner.Needed.{Taken, Freeing, FreedAs, ArrivedAs, Waiting, RowsBefore, RowsAfter}
 use Rattle.race_clocks.proofs.SeenKinds.{barrier-row, was-accepted, processor-from, processor-to, lock-there, is-release, release-of, no-release, is-arrival, no-arrival}
-use Rattle.race_clocks.proofs.Hearing.{row-is}
+use Rattle.race_clocks.proofs.Hearing.{row-by-numbers}
 use Rattle.race_clocks.proofs.ToldNumbers.{told-plain, told-release, told-last, told-arrival}
 
 -- ---- the open round
@@ -50,10 +50,10 @@ waiting-goes n es t w w′ h e f = record { is = f ∙ rw (add-one t) (rw (e, �
 
 -- ---- the rows
 
-module _ (n : ℕ) (bytes out : List ℕ) (t kind p o waiting : ℕ) (h : Taken bytes out t kind p o) (news rows rows₁ : List ℕ) (b : Telling n bytes out t waiting news rows)
+module _ (n : ℕ) (bytes out : List ℕ) (t kind p o waiting : ℕ) (h : Taken bytes out t kind p o) (news rows rows₁ : List ℕ) (b : RowsBefore n bytes out t waiting news rows)
     (stored : rows₁ ≡ sets rows (clockWidth * p) news) where
   abbrev es : List Event
-  es = eventsIn bytes out
+  es = memoryEvents bytes out
 
   abbrev K : ℕ → Knower → ℕ
   K q = known n es (suc q) t
@@ -98,14 +98,14 @@ module _ (n : ℕ) (bytes out : List ℕ) (t kind p o waiting : ℕ) (h : Taken 
   hold rows₂ size e =
       record {
         at = λ k a.
-            row-is (rowOf clockWidth rows₂ k) (λ q. known n es (suc q) (t + 1) (knowerAt k)) (length-row clockWidth rows₂ k (omega (arith, a, size)))
+            row-by-numbers (rowOf clockWidth rows₂ k) (λ q. known n es (suc q) (t + 1) (knowerAt k)) (length-row clockWidth rows₂ k (omega (arith, a, size)))
             (λ q l. e k q a l ∙ sym (after-step n es (suc q) t (knowerAt k) (was-accepted bytes out t kind p o h)) ∙ ap (λ (j : ℕ). known n es (suc q) j (knowerAt k)) (sym (add-one t)))
             ∙ (unfold knownRow in refl);
       }
 
   -- ---- a step that is no release and no arrival
 
-  pub told-own : (kind ≡ 4 → ⊥) → (kind ≡ 5 → ⊥) → ToldAll n bytes out (t + 1) waiting rows₁
+  pub told-own : (kind ≡ 4 → ⊥) → (kind ≡ 5 → ⊥) → RowsAfter n bytes out (t + 1) waiting rows₁
   told-own x y =
       record {
         rows-long = own-long;
@@ -126,7 +126,7 @@ module _ (n : ℕ) (bytes out : List ℕ) (t kind p o waiting : ℕ) (h : Taken 
         rows-long = own-long;
       }
 
-  pub told-freed : (rows₂ : List ℕ) → kind ≡ 4 → FreedAs es t o news rows₁ rows₂ → ToldAll n bytes out (t + 1) waiting rows₂
+  pub told-freed : (rows₂ : List ℕ) → kind ≡ 4 → FreedAs es t o news rows₁ rows₂ → RowsAfter n bytes out (t + 1) waiting rows₂
   told-freed rows₂ x f =
       record {
         rows-long = size;
@@ -148,7 +148,7 @@ module _ (n : ℕ) (bytes out : List ℕ) (t kind p o waiting : ℕ) (h : Taken 
   pub few-wait : waiting < raceStepLimit
   few-wait = omega (arith, b .arrived .few, h .there, h .steps .few)
 
-  pub told-arrived : (rows₂ : List ℕ) (w : ℕ) → kind ≡ 5 → ArrivedAs n waiting news rows₁ w rows₂ → ToldAll n bytes out (t + 1) w rows₂
+  pub told-arrived : (rows₂ : List ℕ) (w : ℕ) → kind ≡ 5 → ArrivedAs n waiting news rows₁ w rows₂ → RowsAfter n bytes out (t + 1) w rows₂
   told-arrived rows₂ w x f =
       record {
         rows-long = size;
@@ -191,7 +191,7 @@ module _ (n : ℕ) (bytes out : List ℕ) (t kind p o waiting : ℕ) (h : Taken 
           ∙ sym (told-arrival n es t (K q) (v q) p (sym (h .seen .processor-is)) from upto arrives frees-none (same ∙ e) k)
 
 -- the row of a step's own processor
-pub own-row : (n : ℕ) (bytes out : List ℕ) (t kind p o waiting : ℕ) (news rows : List ℕ) → Taken bytes out t kind p o → Telling n bytes out t waiting news rows → RowThere clockWidth rows p
+pub own-row : (n : ℕ) (bytes out : List ℕ) (t kind p o waiting : ℕ) (news rows : List ℕ) → Taken bytes out t kind p o → RowsBefore n bytes out t waiting news rows → RowThere clockWidth rows p
 own-row n bytes out t kind p o waiting news rows h b = record { within = omega (arith, processor-to bytes out t kind p o h, b .rows-long) }
 
 pub ruleset telling-laws = (own-row, own-long, told-own, frees, told-freed, few-wait, told-arrived, needs)

@@ -4,9 +4,9 @@ ghost use Prim.Native.Nat.{_+_, _-_, _≤_, _<_};
 ghost use lib.ListN.{length, set};
 ghost use Rattle.limits.specs.Files.{raceStepLimit};
 ghost use Rattle.limits.specs.Limits.{processorLimit};
-ghost use Rattle.race_events.specs.inner.Events.{eventsIn};
+ghost use Rattle.race_events.specs.inner.Events.{memoryEvents};
 ghost use Rattle.race_clocks.specs.inner.Knowers.{knowerArea, tableArea};
-ghost use Rattle.race_clocks.specs.inner.Needed.{StepSound, Taken, Sized, JobHeard, HeardAs, KnowsAs, Freeing, FreedAs, ArrivedAs, Telling, ToldAll, Going, Filling, Fillable, Filled};
+ghost use Rattle.race_clocks.specs.inner.Needed.{StepSound, Taken, TableSized, JobHeard, HeardAs, KnowsAs, Freeing, FreedAs, ArrivedAs, RowsBefore, RowsAfter, StepDue, Filling, Fillable, Filled};
 use limits::CLOCK_WIDTH;
 use limits::FIRST_LOCK_ROW;
 use limits::LOCK_LIMIT;
@@ -54,7 +54,7 @@ fn know(
     table: &mut [u16],
     rows: &mut [u16],
 ) -> usize
-    requires { ⌜ Going processors (now bytes) (now answers) t waiting (now table) (now rows) ⌝ }
+    requires { ⌜ StepDue processors (now bytes) (now answers) t waiting (now table) (now rows) ⌝ }
     ensures { λ r. ⌜ Filling processors (now (bytes .entry)) (now (answers .entry)) (t + 1) r (now (table .exit)) (now (rows .exit)) ⌝ }
 {
     let seen = race_events::seen_at(bytes, answers, t);
@@ -78,12 +78,12 @@ fn row_known(
     rows: &[u16],
 ) -> [u16; CLOCK_WIDTH]
     requires { ⌜ Taken (now bytes) (now answers) t (seen .kind) (seen .processor) (seen .object) ⌝ }
-    requires { ⌜ Sized (now table) (now rows) ⌝ }
+    requires { ⌜ TableSized (now table) (now rows) ⌝ }
     ensures { λ r. ⌜ KnowsAs (now (bytes .entry)) (now (answers .entry)) t (now (table .entry)) (now (rows .entry)) r ⌝ }
 {
     let own = race_rows::row_at(rows, seen.processor);
     let news = heard(bytes, answers, t, seen, table, rows);
-    with_itself(race_rows::join(own, news), seen.processor, t)
+    with_itself(race_rows::join_rows(own, news), seen.processor, t)
 }
 
 // What it hears: an acquire what its lock knows, a dequeue what its job knows.
@@ -96,7 +96,7 @@ fn heard(
     rows: &[u16],
 ) -> [u16; CLOCK_WIDTH]
     requires { ⌜ Taken (now bytes) (now answers) t (seen .kind) (seen .processor) (seen .object) ⌝ }
-    requires { ⌜ Sized (now table) (now rows) ⌝ }
+    requires { ⌜ TableSized (now table) (now rows) ⌝ }
     ensures { λ r. ⌜ HeardAs (now (bytes .entry)) (now (answers .entry)) t (now (table .entry)) (now (rows .entry)) r ⌝ }
 {
     if seen.kind == ACQUIRE {
@@ -147,8 +147,8 @@ fn tell(
     rows: &mut [u16],
 ) -> usize
     requires { ⌜ Taken (now bytes) (now answers) t (seen .kind) (seen .processor) (seen .object) ⌝ }
-    requires { ⌜ Telling processors (now bytes) (now answers) t waiting row (now rows) ⌝ }
-    ensures { λ r. ⌜ ToldAll processors (now (bytes .entry)) (now (answers .entry)) (t + 1) r (now (rows .exit)) ⌝ }
+    requires { ⌜ RowsBefore processors (now bytes) (now answers) t waiting row (now rows) ⌝ }
+    ensures { λ r. ⌜ RowsAfter processors (now (bytes .entry)) (now (answers .entry)) (t + 1) r (now (rows .exit)) ⌝ }
 {
     race_rows::put_row(rows, seen.processor, row);
     if seen.kind == RELEASE {
@@ -171,7 +171,7 @@ fn free(
     rows: &mut [u16],
 )
     requires { ⌜ Freeing (now bytes) (now answers) t lock row (now rows) ⌝ }
-    ensures { λ _. ⌜ FreedAs (eventsIn (now (bytes .entry)) (now (answers .entry))) t lock row (now (rows .entry)) (now (rows .exit)) ⌝ }
+    ensures { λ _. ⌜ FreedAs (memoryEvents (now (bytes .entry)) (now (answers .entry))) t lock row (now (rows .entry)) (now (rows .exit)) ⌝ }
 {
     race_rows::join_into(rows, FIRST_LOCK_ROW + lock, row);
     let number = race_events::count_of(bytes, answers, RELEASE, lock, t) + 1;
@@ -190,7 +190,7 @@ fn arrive(processors: usize, waiting: usize, row: [u16; CLOCK_WIDTH], rows: &mut
     ensures { λ r. ⌜ ArrivedAs processors waiting row (now (rows .entry)) r (now (rows .exit)) ⌝ }
 {
     let barrier = race_rows::row_at(rows, BARRIER_ROW);
-    let all = race_rows::join(barrier, row);
+    let all = race_rows::join_rows(barrier, row);
     if waiting + 1 == processors {
         race_rows::join_all(rows, FIRST_PROCESSOR_ROW, FIRST_LOCK_ROW, all);
         race_rows::put_row(rows, BARRIER_ROW, [0; CLOCK_WIDTH]);

@@ -4,7 +4,7 @@ ghost use mathlib.Core.Bool.{cond, _&&_};
 ghost use Prim.Native.Nat.{_≤_};
 ghost use lib.Dec.{eqb};
 ghost use Rattle.rules.specs.Order.{counted, eventAt};
-ghost use Rattle.race_events.specs.inner.Events.{eventsIn, isOf, placeOf, StepThere, StepsThere, SeenAs};
+ghost use Rattle.race_events.specs.inner.Events.{memoryEvents, isOf, placeOf, EventThere, EventsThere, SeenAs};
 use limits::ANSWER_WIDTH;
 use limits::FILE_RECORD_WIDTH;
 
@@ -17,8 +17,8 @@ pub struct Seen {
 
 // What is seen of the step at a place; the opening is no step.
 pub fn seen_at(bytes: &[u8], answers: &[u32], t: usize) -> Seen
-    requires { ⌜ StepThere (now bytes) (now answers) t ⌝ }
-    ensures { λ r. ⌜ SeenAs (eventsIn (now (bytes .entry)) (now (answers .entry))) t (r .kind) (r .processor) (r .object) ⌝ }
+    requires { ⌜ EventThere (now bytes) (now answers) t ⌝ }
+    ensures { λ r. ⌜ SeenAs (memoryEvents (now (bytes .entry)) (now (answers .entry))) t (r .kind) (r .processor) (r .object) ⌝ }
 {
     let fields = step_fields::fields_at(bytes, FILE_RECORD_WIDTH * (t + 1));
     let processor = index(fields.processor);
@@ -40,9 +40,9 @@ pub fn seen_at(bytes: &[u8], answers: &[u32], t: usize) -> Seen
 
 // Whether the step at a place is accepted and of a kind and an object.
 pub fn is_of(bytes: &[u8], answers: &[u32], t: usize, kind: usize, object: usize) -> bool
-    requires { ⌜ StepThere (now bytes) (now answers) t ⌝ }
+    requires { ⌜ EventThere (now bytes) (now answers) t ⌝ }
     requires { ⌜ 1 ≤ kind ⌝ }
-    ensures { λ r. ⌜ r ≡ isOf kind object (eventAt (eventsIn (now (bytes .entry)) (now (answers .entry))) t) ⌝ }
+    ensures { λ r. ⌜ r ≡ isOf kind object (eventAt (memoryEvents (now (bytes .entry)) (now (answers .entry))) t) ⌝ }
 {
     let seen = seen_at(bytes, answers, t);
     if seen.kind != kind {
@@ -53,9 +53,9 @@ pub fn is_of(bytes: &[u8], answers: &[u32], t: usize, kind: usize, object: usize
 
 // How many of the first steps are accepted and of a kind and an object.
 pub fn count_of(bytes: &[u8], answers: &[u32], kind: usize, object: usize, below: usize) -> usize
-    requires { ⌜ StepsThere (now bytes) (now answers) below ⌝ }
+    requires { ⌜ EventsThere (now bytes) (now answers) below ⌝ }
     requires { ⌜ 1 ≤ kind ⌝ }
-    ensures { λ r. ⌜ r ≡ counted (isOf kind object) (eventsIn (now (bytes .entry)) (now (answers .entry))) below ⌝ }
+    ensures { λ r. ⌜ r ≡ counted (isOf kind object) (memoryEvents (now (bytes .entry)) (now (answers .entry))) below ⌝ }
     ensures { λ r. ⌜ r ≤ below ⌝ }
 {
     let mut count: usize = 0;
@@ -76,9 +76,9 @@ pub fn place_of(
     number: usize,
     below: usize,
 ) -> usize
-    requires { ⌜ StepsThere (now bytes) (now answers) below ⌝ }
+    requires { ⌜ EventsThere (now bytes) (now answers) below ⌝ }
     requires { ⌜ 1 ≤ kind ⌝ }
-    ensures { λ r. ⌜ r ≡ placeOf (eventsIn (now (bytes .entry)) (now (answers .entry))) kind object number below ⌝ }
+    ensures { λ r. ⌜ r ≡ placeOf (memoryEvents (now (bytes .entry)) (now (answers .entry))) kind object number below ⌝ }
     ensures { λ r. ⌜ r ≤ below ⌝ }
 {
     let mut count: usize = 0;

@@ -12,16 +12,16 @@ use borrow.Author.Tests.{eqb-true}
 use Rattle.limits.specs.Files.{fileRecordWidth, raceStepLimit}
 use Rattle.rules.specs.State.{mainframe}
 use Rattle.rules.specs.Opening.{openingRefusal}
-use Rattle.rules.specs.Races.{Finding, Finds, race, NoRace, OneMemory}
+use Rattle.rules.specs.Races.{Verdict, Finds, race, NoRace, OneMemory}
 use Rattle.rules.specs.Races as races
-use Rattle.rules.specs.inner.Searching.{finding}
-use Rattle.rules.proofs.RacesFound.{found, one-finding}
+use Rattle.rules.specs.inner.Searching.{verdict}
+use Rattle.rules.proofs.RacesFound.{found, one-verdict}
 use Rattle.rules.proofs.CommonMemory.{one-common-memory}
 use Rattle.step_fields.specs.Records.{stepCount, fileSteps}
-use Rattle.race_find.specs.Numbers.{numbered}
+use Rattle.race_find.specs.Numbers.{asRecords}
 use Rattle.race_find.specs.declared.RaceAnswer.{RaceAnswer}
 use Rattle.race_find.specs.declared.RaceAnswer.the-variants.{None}
-use Rattle.race_file.specs.Files.{fileOpening, fileAnswers, fileEvents, Alone, line, meets, Due, alone, finds, Told}
+use Rattle.race_file.specs.Files.{fileOpening, fileAnswers, fileEvents, Alone, line, meets, Due, alone, finds, FileTold}
 use Rattle.race_file.specs.inner.Answering.{aloneOr, raceAnswer}
 
 module _ (bytes : List ℕ) where
@@ -33,10 +33,10 @@ module _ (bytes : List ℕ) where
   unfolding raceAnswer aloneOr
   answer-due = go (meets bytes) refl
     where
-      f : Finding
-      f = finding processors (fileEvents bytes)
+      f : Verdict
+      f = verdict processors (fileEvents bytes)
 
-      go : (m : Option Alone) → meets bytes ≡ m → Due bytes (aloneOr m (numbered f))
+      go : (m : Option Alone) → meets bytes ≡ m → Due bytes (aloneOr m (asRecords f))
       go (some x) e = alone x e
       go none e = finds f e (found processors (fileEvents bytes))
 
@@ -45,7 +45,7 @@ module _ (bytes : List ℕ) where
   one-due a b (alone x e) (alone y f) = cc
   one-due a b (alone x e) (finds g f h) = absurd (let z : _≡_ {A = ℕ} 0 1 = cc in omega arith)
   one-due a b (finds g f h) (alone y e) = absurd (let z : _≡_ {A = ℕ} 0 1 = cc in omega arith)
-  one-due a b (finds g e h) (finds k f i) = ap numbered (one-finding processors (fileEvents bytes) g k h i)
+  one-due a b (finds g e h) (finds k f i) = ap asRecords (one-verdict processors (fileEvents bytes) g k h i)
 
   -- so an answer that is due is the one that is computed
   pub due-is : (a : RaceAnswer) → Due bytes a → a ≡ raceAnswer bytes
@@ -71,10 +71,10 @@ module _ (bytes : List ℕ) where
     pub no-race : NoRace processors (fileEvents bytes)
 
   pub none-says : Due bytes None → Clear
-  unfolding numbered
+  unfolding asRecords
   none-says d = go None d refl
     where
-      at : (f : Finding) → meets bytes ≡ none → Finds processors (fileEvents bytes) f → numbered f ≡ None → Clear
+      at : (f : Verdict) → meets bytes ≡ none → Finds processors (fileEvents bytes) f → asRecords f ≡ None → Clear
       at f e (race w i j h) z = absurd (let z : _≡_ {A = ℕ} 0 1 = cc in omega arith)
       at f e (races.none h) z = record { goes = e; no-race = h }
 
@@ -83,11 +83,11 @@ module _ (bytes : List ℕ) where
       go a (finds f e h) z = at f e h z
 
   pub none-when : Clear → Due bytes None
-  unfolding numbered
+  unfolding asRecords
   none-when c = finds races.None (c .goes) (races.none (c .no-race))
 
   -- what is told of a file whose due answer is known
-  pub due-told : (a : RaceAnswer) → Due bytes a → Told bytes a
+  pub due-told : (a : RaceAnswer) → Due bytes a → FileTold bytes a
   unfolding fileAnswers fileEvents
   due-told a d = record { due = d; memory = λ e. go (none-says (rw e at d)) }
     where

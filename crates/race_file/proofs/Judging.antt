@@ -17,20 +17,20 @@ use Rattle.lists.proofs.Parts.{take-at-most}
 use Rattle.rules.specs.State.{mainframe}
 use Rattle.rules.specs.Opening.{openingRefusal}
 use Rattle.rules.specs.Order.{Event, eventAt}
-use Rattle.rules.specs.inner.Searching.{finding}
+use Rattle.rules.specs.inner.Searching.{verdict}
 use Rattle.rules.proofs.RacesFound.{found}
 use Rattle.opening.specs.Promises.{openingOf}
 use Rattle.step_fields.specs.Records.{stepCount, fileSteps}
-use Rattle.race_events.specs.inner.Events.{eventsIn}
-use Rattle.race_clocks.specs.inner.Knowers.{Addressed, StepsSound, tableArea}
+use Rattle.race_events.specs.inner.Events.{memoryEvents}
+use Rattle.race_clocks.specs.inner.Knowers.{KeepsFields, StepsSound, tableArea}
 use Rattle.race_clocks.specs.inner.Needed.{Fillable, Filled}
 use Rattle.race_clocks.proofs.RunSound.{run-sound}
-use Rattle.race_find.specs.Numbers.{numbered}
+use Rattle.race_find.specs.Numbers.{asRecords}
 use Rattle.race_find.specs.declared.RaceAnswer.{RaceAnswer}
 use Rattle.race_find.specs.declared.RaceAnswer.the-variants.{Stopped}
 use Rattle.race_find.specs.inner.Needed.{Searchable, FoundAs}
-use Rattle.race_file.specs.Files.{fileOpening, fileAnswers, fileEvents, Alone, line, meets, Due, alone, finds, Told}
-use Rattle.race_file.specs.inner.Needed.{answerRoom, JudgeRoom, Runnable, AnswersRun, StepsFound}
+use Rattle.race_file.specs.Files.{fileOpening, fileAnswers, fileEvents, Alone, line, meets, Due, alone, finds, FileTold}
+use Rattle.race_file.specs.inner.Needed.{answerRoom, JudgeRoom, FileRunnable, AnswersRun, StepsFound}
 use Rattle.race_file.proofs.AnswerDue.{due-told}
 use Rattle.race_file.proofs.LookedAt.{told-whole}
 use Rattle.race_file.proofs.RunningFile.{answers-run}
@@ -54,7 +54,7 @@ module _ (bytes : List ℕ) where
   unfolding line
   too-short l = alone (record { number = 0; refusal = 15 }) (met true (eqb refusal 0) (ltb raceStepLimit (stepCount bytes)) (eqb (length bytes % fileRecordWidth) 0) (lt-ltb (length bytes) fileRecordWidth l) refl refl refl)
 
-  pub room-to-run : (out table : List ℕ) → fileRecordWidth ≤ length bytes → JudgeRoom out table → Runnable bytes out
+  pub room-to-run : (out table : List ℕ) → fileRecordWidth ≤ length bytes → JudgeRoom out table → FileRunnable bytes out
   room-to-run out table l h = record { opening = l; out-long = h .out-long }
 
   module _ (r : ℕ) (out : List ℕ) (l : fileRecordWidth ≤ length bytes) (h : AnswersRun bytes r out) where
@@ -112,7 +112,7 @@ module _ (bytes : List ℕ) (steps : ℕ) (out table : List ℕ) (h : StepsFound
         sound = λ t a. rw (h .judged) (kept t (rw (h .judged) at a));
       }
     where
-      kept : (t : ℕ) → eventAt (fileEvents bytes) t .accepted ≡ true → Addressed (eventAt (fileEvents bytes) t)
+      kept : (t : ℕ) → eventAt (fileEvents bytes) t .accepted ≡ true → KeepsFields (eventAt (fileEvents bytes) t)
       kept t a = unfold fileEvents fileAnswers in run-sound (fileOpening bytes) (h .accepted) (fileSteps bytes) t (unfold fileEvents fileAnswers in a)
 
   pub search-fills : Fillable bytes out steps table
@@ -126,7 +126,7 @@ module _ (bytes : List ℕ) (steps : ℕ) (out table : List ℕ) (h : StepsFound
     search-finds = record { sound = sound; all = h .all; table-long = f .table-long }
 
     pub search-due : (r : RaceAnswer) → FoundAs bytes out table′ r → Due bytes r
-    search-due r g = rw (g .is n f, h .judged, processors) (finds (finding (fileOpening bytes .counts .processors) (fileEvents bytes)) (h .goes) (found (fileOpening bytes .counts .processors) (fileEvents bytes)))
+    search-due r g = rw (g .is n f, h .judged, processors) (finds (verdict (fileOpening bytes .counts .processors) (fileEvents bytes)) (h .goes) (found (fileOpening bytes .counts .processors) (fileEvents bytes)))
       where
         processors : n ≡ fileOpening bytes .counts .processors
         processors = p ∙ (unfold fileOpening openingOf in sym (getD-take fileRecordWidth bytes 1 0 (omega arith)))
@@ -137,7 +137,7 @@ module _ (bytes : List ℕ) (steps : ℕ) (out table : List ℕ) (h : StepsFound
 pub first-few : (bytes : List ℕ) (end : ℕ) → end ≡ min (length bytes) raceBytes → length (take end bytes) ≤ raceBytes
 first-few bytes end e = omega (arith, length-take end bytes, e)
 
-pub judged-told : (bytes : List ℕ) (end : ℕ) (r : RaceAnswer) → end ≡ min (length bytes) raceBytes → Due (take end bytes) r → Told bytes r
+pub judged-told : (bytes : List ℕ) (end : ℕ) (r : RaceAnswer) → end ≡ min (length bytes) raceBytes → Due (take end bytes) r → FileTold bytes r
 judged-told bytes end r e d = told-whole bytes r (due-told (take raceBytes bytes) r (rw same at d))
   where
     same : take end bytes ≡ take raceBytes bytes

@@ -18,7 +18,7 @@ use Rattle.rules.specs.Opening.{openingRefusal}
 use Rattle.step_fields.specs.Records.{stepCount}
 use Rattle.race_find.specs.declared.RaceAnswer.{RaceAnswer}
 use Rattle.race_find.specs.declared.RaceAnswer.the-variants.{Stopped}
-use Rattle.race_file.specs.Files.{fileOpening, Alone, line, meets, Due, alone, finds, Told, FileLine}
+use Rattle.race_file.specs.Files.{fileOpening, Alone, line, meets, Due, alone, finds, FileTold, FileLine}
 use Rattle.race_file.specs.inner.Answering.{aloneOr, raceAnswer}
 use Rattle.race_file.proofs.AnswerDue.{due-told}
 
@@ -78,10 +78,10 @@ module _ (bytes : List ℕ) where
   same-due l a (finds f e h) = absurd (met-long-some bytes (sym (long-meets bytes l) ∙ sym (same-meets l) ∙ e))
 
   -- what is told of them is told of the whole
-  pub told-whole : (a : RaceAnswer) → Told first a → Told bytes a
+  pub told-whole : (a : RaceAnswer) → FileTold first a → FileTold bytes a
   told-whole a t = go (decLe (length bytes) raceBytes)
     where
-      go : Dec (length bytes ≤ raceBytes) → Told bytes a
+      go : Dec (length bytes ≤ raceBytes) → FileTold bytes a
       go (yes l) = rw (take-all raceBytes bytes l) at t
       go (no l) = due-told bytes a (same-due (omega (arith, l)) a (t .due))
 

@@ -16,7 +16,7 @@ use Rattle.file_lines.specs.inner.Needed.{LinePut}
 use Rattle.file_lines.proofs.Placing.{short-line-put}
 use Rattle.race_find.specs.declared.RaceAnswer.{RaceAnswer}
 use Rattle.race_find.specs.declared.RaceAnswer.the-variants.{Race, None, Stopped}
-use Rattle.race_file.specs.Files.{answerLine, Told, LineTold}
+use Rattle.race_file.specs.Files.{answerLine, FileTold, LineTold}
 
 module _ (out : List ℕ) (a : RaceAnswer) (out′ : List ℕ) (end : ℕ) (room : Room out 0 lineLimit) where
   pub race-put : (later partner word : ℕ) → a ≡ Race later partner word → Fits w32 later → Fits w32 partner → Fits w32 word → end ≡ 0 + length (pairLine later partner word)
@@ -35,7 +35,7 @@ module _ (out : List ℕ) (a : RaceAnswer) (out′ : List ℕ) (end : ℕ) (room
       rw d (short-line-put out 0 (lineBytes number refusal 0 0) out′ end room (at-most-44-bytes number refusal 0 0 (f .fits) (g .fits) (omega arith) (omega arith)) e s)
 
 -- the line of the answer that is told
-pub line-told : (bytes out : List ℕ) (a : RaceAnswer) (out′ : List ℕ) (n : ℕ) → Told bytes a → LinePut out 0 (answerLine a) out′ n → LineTold bytes out n out′
+pub line-told : (bytes out : List ℕ) (a : RaceAnswer) (out′ : List ℕ) (n : ℕ) → FileTold bytes a → LinePut out 0 (answerLine a) out′ n → LineTold bytes out n out′
 line-told bytes out a out′ n t p = record { line = record { answer = a; told = t; is = p .lines }; within = omega (arith, p .kept .within, p .kept .long); rest = p .kept .rest }
 
 pub ruleset putting-laws = (race-put, none-put, stopped-put, line-told, needs)

@@ -28,9 +28,9 @@ use Rattle.step_record.specs.Answers.{answerWords, answersIn}
 use Rattle.run_list.specs.Runs.{recordsRun, firstRefusal, firstState, runAnswers, Ran}
 use Rattle.run_list.proofs.Laying.{laid-read-back}
 use Rattle.run_list.proofs.Running.{length-steps}
-use Rattle.race_events.specs.inner.Events.{eventIn, eventsIn}
+use Rattle.race_events.specs.inner.Events.{memoryEvent, memoryEvents}
 use Rattle.race_file.specs.Files.{fileOpening, fileAnswers, fileEvents}
-use Rattle.race_file.specs.inner.Needed.{answerRoom, Runnable, AnswersRun}
+use Rattle.race_file.specs.inner.Needed.{answerRoom, FileRunnable, AnswersRun}
 
 -- ---- lists of steps
 
@@ -61,22 +61,22 @@ listed (suc n) bs ws =
         (record { step = stepFrom (drop (fileRecordWidth * suc t) bs); accepted = eqb (getD ws (answerWidth * suc t) 0) 0 })
     same t = rw (next-record t bs, next-answer t ws)
 
-pub events-listed : (bytes out : List ℕ) → eventsIn bytes out ≡ events (stepsIn (stepCount bytes) (drop fileRecordWidth bytes)) (answersIn (stepCount bytes) (drop answerWidth out))
-unfolding eventsIn
+pub events-listed : (bytes out : List ℕ) → memoryEvents bytes out ≡ events (stepsIn (stepCount bytes) (drop fileRecordWidth bytes)) (answersIn (stepCount bytes) (drop answerWidth out))
+unfolding memoryEvents
 events-listed bytes out =
-    tabulate-same (stepCount bytes) (eventIn bytes out)
+    tabulate-same (stepCount bytes) (memoryEvent bytes out)
     (λ t. record { step = stepFrom (drop (fileRecordWidth * t) (drop fileRecordWidth bytes)); accepted = eqb (getD (drop answerWidth out) (answerWidth * t) 0) 0 }) (λ t l. same t)
     ∙ sym (listed (stepCount bytes) (drop fileRecordWidth bytes) (drop answerWidth out))
   where
-    same : (t : ℕ) → eventIn bytes out t ≡ record { step = stepFrom (drop (fileRecordWidth * t) (drop fileRecordWidth bytes)); accepted = eqb (getD (drop answerWidth out) (answerWidth * t) 0) 0 }
+    same : (t : ℕ) → memoryEvent bytes out t ≡ record { step = stepFrom (drop (fileRecordWidth * t) (drop fileRecordWidth bytes)); accepted = eqb (getD (drop answerWidth out) (answerWidth * t) 0) 0 }
     same t =
         let place : fileRecordWidth * (t + 1) ≡ fileRecordWidth * suc t = omega arith in
         let word : answerWidth * (t + 1) ≡ answerWidth * suc t = omega arith in
-        unfold eventIn in rw (place, word, next-record t bytes, next-answer t out)
+        unfold memoryEvent in rw (place, word, next-record t bytes, next-answer t out)
 
 -- ---- what `run` leaves
 
-module _ (bytes out c w r m : List ℕ) (n : ℕ) (out′ c′ w′ r′ m′ : List ℕ) (h : Runnable bytes out) (cs : length c ≡ clockArea) (ws : length w ≡ wordArea) (rs : length r ≡ recordArea)
+module _ (bytes out c w r m : List ℕ) (n : ℕ) (out′ c′ w′ r′ m′ : List ℕ) (h : FileRunnable bytes out) (cs : length c ≡ clockArea) (ws : length w ≡ wordArea) (rs : length r ≡ recordArea)
     (ms : length m ≡ markArea) (ran : Ran bytes out (areas c w r m) n out′ (areas c′ w′ r′ m′)) where
   abbrev lent : Areas
   lent = areas c w r m
@@ -133,7 +133,7 @@ module _ (bytes out c w r m : List ℕ) (n : ℕ) (out′ c′ w′ r′ m′ : 
       let all : min (stepCount bytes) stepLimit ≡ stepCount bytes = omega (arith, few) in
       length-answers mainframe (opened mainframe (fileOpening bytes .counts)) (fileSteps bytes) ∙ length-steps (min (stepCount bytes) stepLimit) (drop fileRecordWidth bytes) ∙ all
 
-  judged : refusal ≡ 0 → stepCount bytes ≤ raceStepLimit → eventsIn bytes out′ ≡ fileEvents bytes
+  judged : refusal ≡ 0 → stepCount bytes ≤ raceStepLimit → memoryEvents bytes out′ ≡ fileEvents bytes
   unfolding fileEvents
   judged z few =
       events-listed bytes out′
@@ -153,5 +153,5 @@ module _ (bytes out c w r m : List ℕ) (n : ℕ) (out′ c′ w′ r′ m′ : 
   answers-run = record { refusal = first-word; out-long = ap length (ran .answers) ∙ length-sets out 0 (answerWords (runAnswers (recordsRun (length bytes) (length out)) bytes lent)) ∙ h .out-long; judged = judged }
 
 -- an array of zeros is as long as it is declared
-pub blank : (n : ℕ) → length (replicate {A = ℕ} n 0) ≡ n
-blank n = length-replicate n 0
+pub array-long : (n : ℕ) → length (replicate {A = ℕ} n 0) ≡ n
+array-long n = length-replicate n 0

@@ -12,13 +12,13 @@ use Rattle.rules.specs.Opening.{Opening, openingRefusal, opened}
 use Rattle.rules.specs.Refusals.{Answer}
 use Rattle.rules.specs.Runs.{answers}
 use Rattle.rules.specs.Order.{Event, events}
-use Rattle.rules.specs.Races.{Finding, Finds, OneMemory}
+use Rattle.rules.specs.Races.{Verdict, Finds, OneMemory}
 use Rattle.opening.specs.Promises.{openingOf}
 use Rattle.step_fields.specs.Records.{stepCount, fileSteps}
 use Rattle.lines.specs.Lines.{refusalLine, pairLine, noneLine}
 use Rattle.race_find.specs.declared.RaceAnswer.{RaceAnswer}
 use Rattle.race_find.specs.declared.RaceAnswer.the-variants.{Race, None, Stopped}
-use Rattle.race_find.specs.Numbers.{numbered}
+use Rattle.race_find.specs.Numbers.{asRecords}
 
 -- the opening of a file
 unfoldable pub fileOpening : List ℕ → Opening
@@ -54,8 +54,8 @@ meets bytes =
 pub data Due (bytes : List ℕ) : RaceAnswer → Type 0 where
   -- "A file that meets 2, 15 or 21 gives that one line alone"
   alone : (x : Alone) → meets bytes ≡ some x → Due bytes (Stopped (x .number) (x .refusal))
-  -- "For any other file": the finding that is due for its steps
-  finds : (f : Finding) → meets bytes ≡ none → Finds (fileOpening bytes .counts .processors) (fileEvents bytes) f → Due bytes (numbered f)
+  -- "For any other file": the verdict that is due for its steps
+  finds : (f : Verdict) → meets bytes ≡ none → Finds (fileOpening bytes .counts .processors) (fileEvents bytes) f → Due bytes (asRecords f)
 
 -- the line of each case of an answer, a refusal's "as the run prints it"
 unfoldable pub answerLine : RaceAnswer → List ℕ
@@ -64,7 +64,7 @@ answerLine None = noneLine
 answerLine (Stopped number refusal) = refusalLine number refusal
 
 -- what is told of a file
-pub record Told (bytes : List ℕ) (a : RaceAnswer) : Type 0 where
+pub record FileTold (bytes : List ℕ) (a : RaceAnswer) : Type 0 where
   pub due : Due bytes a
   -- ""none" stands if and only if no such pair exists, and then the value of each accepted kind 1 read equals that of one common memory"
   pub memory : a ≡ None → OneMemory (fileSteps bytes) (fileAnswers bytes)
@@ -72,7 +72,7 @@ pub record Told (bytes : List ℕ) (a : RaceAnswer) : Type 0 where
 -- the line of a file
 pub record FileLine (bytes line : List ℕ) : Type 0 where
   pub answer : RaceAnswer
-  pub told : Told bytes answer
+  pub told : FileTold bytes answer
   pub is : line ≡ answerLine answer
 
 -- it is written at the start of lent bytes, n bytes of it, and behind it all is as it was

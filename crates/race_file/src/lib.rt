@@ -6,8 +6,8 @@ ghost use Rattle.limits.specs.Files.{lineLimit};
 ghost use Rattle.limits.specs.inner.Sizes.{raceBytes};
 ghost use Rattle.lines.specs.inner.Needed.{Room};
 ghost use Rattle.file_lines.specs.inner.Needed.{LinePut};
-ghost use Rattle.race_file.specs.Files.{answerLine, Due, Told, LineTold};
-ghost use Rattle.race_file.specs.inner.Needed.{JudgeRoom, Runnable, AnswersRun, StepsFound};
+ghost use Rattle.race_file.specs.Files.{answerLine, Due, FileTold, LineTold};
+ghost use Rattle.race_file.specs.inner.Needed.{JudgeRoom, FileRunnable, AnswersRun, StepsFound};
 use limits::ANSWER_WIDTH;
 use limits::CLOCK_AREA;
 use limits::CLOCK_WIDTH;
@@ -35,7 +35,7 @@ pub fn take_file(bytes: &[u8], lines: &mut [u8]) -> usize
 
 // The answer for a file. Room for the answers of the opening and 4,096 steps, and for what each of these knows.
 pub fn judge(bytes: &[u8]) -> RaceAnswer
-    ensures { λ r. ⌜ Told (now (bytes .entry)) r ⌝ }
+    ensures { λ r. ⌜ FileTold (now (bytes .entry)) r ⌝ }
 {
     let mut answers = [0; ANSWER_ROOM];
     let mut table = [0; TABLE_ROOM];
@@ -80,7 +80,7 @@ fn judge_first(bytes: &[u8], answers: &mut [u32], table: &mut [u16]) -> RaceAnsw
 
 // Runs the opening and the steps of a file, as many as have room, and says the refusal of the opening.
 fn run_answers(bytes: &[u8], answers: &mut [u32]) -> u32
-    requires { ⌜ Runnable (now bytes) (now answers) ⌝ }
+    requires { ⌜ FileRunnable (now bytes) (now answers) ⌝ }
     ensures { λ r. ⌜ AnswersRun (now (bytes .entry)) r (now (answers .exit)) ⌝ }
 {
     let mut clocks = [0; CLOCK_AREA];

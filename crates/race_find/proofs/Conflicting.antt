@@ -19,10 +19,10 @@ use Rattle.rules.specs.inner.Searching.{knowsOf, conflicts, races}
 use Rattle.rules.proofs.order.RaceTest.{touch-accepted, conflicts-says, conflicts-is}
 use Rattle.layout.specs.Layout.{rowOf}
 use Rattle.layout.proofs.RowLaws.{get-row}
-use Rattle.race_events.specs.inner.Events.{eventsIn, shownKind, SeenAs, StepThere}
+use Rattle.race_events.specs.inner.Events.{memoryEvents, shownKind, SeenAs, EventThere}
 use Rattle.race_clocks.specs.inner.Knowers.{knowsRow, Addressed}
 use Rattle.race_clocks.specs.inner.Needed.{Filled}
-use Rattle.race_find.specs.inner.Needed.{Sought, NumberThere, access, seenConflict, RaceAs}
+use Rattle.race_find.specs.inner.Needed.{PairSought, NumberThere, access, seenConflict, RaceAs}
 
 -- ---- kinds
 
@@ -139,14 +139,14 @@ conflict-seen es i j k p o k′ p′ o′ s s′ =
 
 -- ---- a race
 
-pub sought-there : (bytes out : List ℕ) (i j k p o : ℕ) (table : List ℕ) → Sought bytes out i j k p o table → StepThere bytes out i
+pub sought-there : (bytes out : List ℕ) (i j k p o : ℕ) (table : List ℕ) → PairSought bytes out i j k p o table → EventThere bytes out i
 sought-there bytes out i j k p o table h =
     let s = h .step in
     record { there = omega (arith, h .earlier, s .there); few = omega (arith, h .earlier, s .there, s .sound .few); answered = omega (arith, h .earlier, s .there, s .sound .answered) }
 
-module _ (bytes out : List ℕ) (i j k p o k′ p′ o′ : ℕ) (table : List ℕ) (h : Sought bytes out i j k′ p′ o′ table) (s : SeenAs (eventsIn bytes out) i k p o) where
+module _ (bytes out : List ℕ) (i j k p o k′ p′ o′ : ℕ) (table : List ℕ) (h : PairSought bytes out i j k′ p′ o′ table) (s : SeenAs (memoryEvents bytes out) i k p o) where
   abbrev es : List Event
-  es = eventsIn bytes out
+  es = memoryEvents bytes out
 
   conflict-is : (c : Bool) → c ≡ seenConflict k p o k′ p′ o′ → conflicts es (eventAt es j .step .object) i j ≡ c
   conflict-is c e = conflict-seen es i j k p o k′ p′ o′ s (h .seen) ∙ sym e

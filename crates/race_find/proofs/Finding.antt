@@ -17,37 +17,37 @@ use Rattle.lists.proofs.Tabulated.{length-tabulate}
 use Rattle.lists.proofs.Counting.{first-passes, first-stays}
 use Rattle.lists.proofs.Searches.{last-passes, last-bounds, last-skips}
 use Rattle.rules.specs.Order.{Event, eventAt}
-use Rattle.rules.specs.inner.Searching.{conflicts, races, partnerOf, racer, findingBy, finding}
+use Rattle.rules.specs.inner.Searching.{conflicts, races, partnerOf, racer, verdictBy, verdict}
 use Rattle.rules.proofs.order.RaceTest.{conflicts-says}
 use Rattle.step_fields.specs.Records.{stepFrom, stepCount}
-use Rattle.race_events.specs.inner.Events.{eventIn, eventsIn, SeenAs, StepThere}
+use Rattle.race_events.specs.inner.Events.{memoryEvent, memoryEvents, SeenAs, EventThere}
 use Rattle.race_events.proofs.Seeing.{event-in}
 use Rattle.race_clocks.specs.inner.Needed.{Filled}
-use Rattle.race_find.specs.Numbers.{numbered}
+use Rattle.race_find.specs.Numbers.{asRecords}
 use Rattle.race_find.specs.declared.RaceAnswer.the-variants.{Race, None}
-use Rattle.race_find.specs.inner.Needed.{Searchable, PairThere, StepSought, Sought, access, RaceAs, PartnerAs, FoundAs}
+use Rattle.race_find.specs.inner.Needed.{Searchable, RaceThere, StepSought, PairSought, access, RaceAs, PartnerAs, FoundAs}
 use Rattle.race_find.proofs.Conflicting.{touches-seen}
 
-pub step-there : (bytes out : List ℕ) (j : ℕ) (table : List ℕ) → StepSought bytes out j table → StepThere bytes out j
-step-there bytes out j table h = record { there = h .there; few = omega (arith, h .there, h .sound .few); answered = omega (arith, h .there, h .sound .answered) }
+pub sought-step-there : (bytes out : List ℕ) (j : ℕ) (table : List ℕ) → StepSought bytes out j table → EventThere bytes out j
+sought-step-there bytes out j table h = record { there = h .there; few = omega (arith, h .there, h .sound .few); answered = omega (arith, h .there, h .sound .answered) }
 
 -- ---- the partner: no step from place i on races with that at place j
 
 pub record NoneFrom (bytes out : List ℕ) (i j kind processor object : ℕ) (table : List ℕ) : Type 0 where
   pub step : StepSought bytes out j table
-  pub seen : SeenAs (eventsIn bytes out) j kind processor object
+  pub seen : SeenAs (memoryEvents bytes out) j kind processor object
   pub upto : i ≤ j
-  pub none : (n : ℕ) → Filled n bytes out table → (k : ℕ) → i ≤ k → k < j → races n (eventsIn bytes out) k j ≡ false
+  pub none : (n : ℕ) → Filled n bytes out table → (k : ℕ) → i ≤ k → k < j → races n (memoryEvents bytes out) k j ≡ false
 
 -- a step that touches no word has none
-pub no-access : (bytes out : List ℕ) (j kind processor object : ℕ) (table : List ℕ) (r : Bool) → StepSought bytes out j table → SeenAs (eventsIn bytes out) j kind processor object
+pub no-access : (bytes out : List ℕ) (j kind processor object : ℕ) (table : List ℕ) (r : Bool) → StepSought bytes out j table → SeenAs (memoryEvents bytes out) j kind processor object
     → r ≡ access kind → not r ≡ true → PartnerAs bytes out j table 0
 unfolding partnerOf races lastOf
 no-access bytes out j kind processor object table r h s e z =
     record { near = omega arith; is = λ n f. sym (last-skips j 0 (λ i. races n es i j) (omega arith) (λ k a b. none n k)) }
   where
     es : List Event
-    es = eventsIn bytes out
+    es = memoryEvents bytes out
 
     touches-none : (r : Bool) → r ≡ access kind → not r ≡ true → (access kind && eqb object (eventAt es j .step .object)) ≡ false
     touches-none true e z = absurd (false≢true z)
@@ -63,14 +63,14 @@ no-access bytes out j kind processor object table r h s e z =
             (sym (touches-none r e z) ∙ sym (touches-seen es j kind processor object (eventAt es j .step .object) s) ∙ conflicts-says es (eventAt es j .step .object) k j x .other-touches))
         go false x = rw x
 
-pub none-yet : (bytes out : List ℕ) (j kind processor object : ℕ) (table : List ℕ) → StepSought bytes out j table → SeenAs (eventsIn bytes out) j kind processor object → NoneFrom bytes out j j kind processor object table
+pub none-yet : (bytes out : List ℕ) (j kind processor object : ℕ) (table : List ℕ) → StepSought bytes out j table → SeenAs (memoryEvents bytes out) j kind processor object → NoneFrom bytes out j j kind processor object table
 none-yet bytes out j kind processor object table h s = record { step = h; seen = s; upto = omega arith; none = λ n f k a b. absurd (omega (arith, a, b)) }
 
 module _ (bytes out : List ℕ) (i j kind processor object : ℕ) (table : List ℕ) (h : NoneFrom bytes out i j kind processor object table) where
   abbrev es : List Event
-  es = eventsIn bytes out
+  es = memoryEvents bytes out
 
-  pub before-there : 0 < i → Sought bytes out (i - 1) j kind processor object table
+  pub before-there : 0 < i → PairSought bytes out (i - 1) j kind processor object table
   before-there l = record { step = h .step; earlier = omega (arith, l, h .upto); seen = h .seen }
 
   -- places below j as the search has left them
@@ -105,14 +105,14 @@ module _ (bytes out : List ℕ) (i j kind processor object : ℕ) (table : List 
 pub record NoneBelow (bytes out : List ℕ) (steps j : ℕ) (table : List ℕ) : Type 0 where
   pub all : Searchable bytes out steps table
   pub upto : j ≤ steps
-  pub none : (n : ℕ) → Filled n bytes out table → (k : ℕ) → k < j → any k (λ i. races n (eventsIn bytes out) i k) ≡ false
+  pub none : (n : ℕ) → Filled n bytes out table → (k : ℕ) → k < j → any k (λ i. races n (memoryEvents bytes out) i k) ≡ false
 
 pub none-below-yet : (bytes out : List ℕ) (steps : ℕ) (table : List ℕ) → Searchable bytes out steps table → NoneBelow bytes out steps 0 table
 none-below-yet bytes out steps table h = record { all = h; upto = omega arith; none = λ n f k l. absurd (omega (arith, l)) }
 
 module _ (bytes out : List ℕ) (steps j : ℕ) (table : List ℕ) (h : NoneBelow bytes out steps j table) where
   abbrev events : List Event
-  events = eventsIn bytes out
+  events = memoryEvents bytes out
 
   abbrev test : ℕ → ℕ → Bool
   test n k = any k (λ i. races n events i k)
@@ -121,7 +121,7 @@ module _ (bytes out : List ℕ) (steps j : ℕ) (table : List ℕ) (h : NoneBelo
   next-sought l = record { sound = h .all .sound; there = omega (arith, l, h .all .all); table-long = h .all .table-long }
 
   as-many : length events ≡ steps
-  unfolding eventsIn
+  unfolding memoryEvents
   as-many = length-tabulate (stepCount bytes) _ ∙ sym (h .all .all)
 
   -- the search for the first finds nothing below j
@@ -132,13 +132,13 @@ module _ (bytes out : List ℕ) (steps j : ℕ) (table : List ℕ) (h : NoneBelo
       go zero e = refl
       go (suc k) e = let w = first-passes j (test n) k e in absurd (false≢true (sym (h .none n f k (w .0)) ∙ w .1))
 
-  pub pair-there : (place : ℕ) → j < steps → PartnerAs bytes out j table place → PairThere bytes j place
+  pub pair-there : (place : ℕ) → j < steps → PartnerAs bytes out j table place → RaceThere bytes j place
   unfolding stepCount
   pair-there place l p = record { there = omega (arith, l, h .all .all); few = omega (arith, l, h .all .all, h .all .sound .few); near = p .near }
 
   pub race-found : (place : ℕ) (r : RaceAnswer) → j < steps → PartnerAs bytes out j table place → (place ≡ 0 → ⊥)
       → r ≡ Race (j + 1) place (stepFrom (drop (fileRecordWidth * (j + 1)) bytes) .object) → FoundAs bytes out table r
-  unfolding finding numbered findingBy racer
+  unfolding verdict asRecords verdictBy racer
   race-found place r l p z s = record { is = λ n f. s ∙ go n f place refl }
     where
       partner : (n : ℕ) → Filled n bytes out table → (i : ℕ) → place ≡ suc i → test n j ≡ true
@@ -148,10 +148,10 @@ module _ (bytes out : List ℕ) (steps j : ℕ) (table : List ℕ) (h : NoneBelo
       first n f i e = first-stays (suc j) (length events) (test n) j (omega (arith, l, as-many)) (unfold firstOf in rw (none-first n f, partner n f i e))
 
       word : stepFrom (drop (fileRecordWidth * (j + 1)) bytes) .object ≡ eventAt events j .step .object
-      word = sym (ap (λ (e : Event). e .step .object) (event-in bytes out j (omega (arith, l, h .all .all))) ∙ (unfold eventIn in refl))
+      word = sym (ap (λ (e : Event). e .step .object) (event-in bytes out j (omega (arith, l, h .all .all))) ∙ (unfold memoryEvent in refl))
 
       go : (n : ℕ) → Filled n bytes out table → (m : ℕ) → place ≡ m
-          → Race (j + 1) place (stepFrom (drop (fileRecordWidth * (j + 1)) bytes) .object) ≡ numbered (findingBy n events (firstOf (length events) (test n)) (partnerOf n events (firstOf (length events) (test n) - 1)))
+          → Race (j + 1) place (stepFrom (drop (fileRecordWidth * (j + 1)) bytes) .object) ≡ asRecords (verdictBy n events (firstOf (length events) (test n)) (partnerOf n events (firstOf (length events) (test n) - 1)))
       go n f zero e = absurd (z e)
       go n f (suc i) e =
           let back : suc j - 1 ≡ j = omega arith in
@@ -173,13 +173,13 @@ module _ (bytes out : List ℕ) (steps j : ℕ) (table : List ℕ) (h : NoneBelo
       go n f k b (no e) = h .none n f k (omega (arith, b, e))
 
   pub none-found : steps ≤ j → FoundAs bytes out table None
-  unfolding finding numbered findingBy racer
+  unfolding verdict asRecords verdictBy racer
   none-found l =
       record {
         is = λ n f.
             let e : j ≡ length events = omega (arith, l, h .upto, as-many) in
             let none : firstOf (length events) (test n) ≡ 0 = ap (λ (m : ℕ). firstOf m (test n)) (sym e) ∙ none-first n f in
-            sym (ap (λ (x : ℕ). numbered (findingBy n events x (partnerOf n events (firstOf (length events) (test n) - 1)))) none);
+            sym (ap (λ (x : ℕ). asRecords (verdictBy n events x (partnerOf n events (firstOf (length events) (test n) - 1)))) none);
       }
 
-pub ruleset finding-laws = (step-there, no-access, none-yet, before-there, partner-found, none-before, no-partner, none-below-yet, next-sought, pair-there, race-found, none-below, none-found, needs)
+pub ruleset finding-laws = (sought-step-there, no-access, none-yet, before-there, partner-found, none-before, no-partner, none-below-yet, next-sought, pair-there, race-found, none-below, none-found, needs)

@@ -8,7 +8,7 @@ ghost use Rattle.limits.specs.inner.Sizes.{clockWidth};
 ghost use Rattle.layout.specs.Layout.{rowOf};
 ghost use Rattle.step_fields.specs.Records.{stepFrom};
 ghost use Rattle.race_find.specs.declared.RaceAnswer.the-variants.{Race};
-ghost use Rattle.race_find.specs.inner.Needed.{Searchable, PairThere, StepSought, Sought, NumberThere, access, seenConflict, RaceAs, PartnerAs, FoundAs};
+ghost use Rattle.race_find.specs.inner.Needed.{Searchable, RaceThere, StepSought, PairSought, NumberThere, access, seenConflict, RaceAs, PartnerAs, FoundAs};
 use limits::CLOCK_WIDTH;
 use limits::FILE_RECORD_WIDTH;
 use race_events::Seen;
@@ -44,7 +44,7 @@ pub fn first_race(bytes: &[u8], answers: &[u32], steps: usize, table: &[u16]) ->
 
 // The race of the step at place j with the partner whose record number is `partner`.
 fn race_at(bytes: &[u8], j: usize, partner: usize) -> RaceAnswer
-    requires { ⌜ PairThere (now bytes) j partner ⌝ }
+    requires { ⌜ RaceThere (now bytes) j partner ⌝ }
     ensures { λ r. ⌜ r ≡ Race (j + 1) partner (stepFrom (drop (fileRecordWidth * (j + 1)) (now (bytes .entry))) .object) ⌝ }
 {
     let fields = step_fields::fields_at(bytes, FILE_RECORD_WIDTH * (j + 1));
@@ -76,7 +76,7 @@ fn partner_of(bytes: &[u8], answers: &[u32], j: usize, table: &[u16]) -> usize
 
 // Whether the step at place i races with a later one at place j: they conflict, and the later does not know it.
 fn is_race(bytes: &[u8], answers: &[u32], i: usize, j: usize, later: Seen, table: &[u16]) -> bool
-    requires { ⌜ Sought (now bytes) (now answers) i j (later .kind) (later .processor) (later .object) (now table) ⌝ }
+    requires { ⌜ PairSought (now bytes) (now answers) i j (later .kind) (later .processor) (later .object) (now table) ⌝ }
     ensures { λ r. ⌜ RaceAs (now (bytes .entry)) (now (answers .entry)) i j (now (table .entry)) r ⌝ }
 {
     let one = race_events::seen_at(bytes, answers, i);

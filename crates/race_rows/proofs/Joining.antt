@@ -20,7 +20,7 @@ use Rattle.layout.specs.Layout.{rowOf}
 use Rattle.layout.specs.inner.Needed.{RowThere}
 use Rattle.layout.proofs.RowLaws.{length-row, row-of-sets-same, row-of-sets-other}
 use Rattle.layout.proofs.Rows.{row-read-begins, row-read-more, row-read-all, row-written-begins, row-written-more, row-written-all}
-use Rattle.race_rows.specs.inner.Rows.{RowsThere, RowsJoined}
+use Rattle.race_rows.specs.inner.Rows.{RowRange, RowsJoined}
 
 -- what was read, joined and stored
 pub joined-stored : (rows rows′ own news both : List ℕ) (row : ℕ) → own ≡ rowOf clockWidth rows row → both ≡ joined own news → rows′ ≡ sets rows (clockWidth * row) both
@@ -30,7 +30,7 @@ joined-stored rows rows′ own news both row e f g = g ∙ ap (λ (v : List ℕ)
 -- ---- some rows, one after the other: those before `row` are joined
 
 pub record JoinedTo (rows₀ : List ℕ) (from to : ℕ) (news rows : List ℕ) (row : ℕ) : Type 0 where
-  pub there : RowsThere rows₀ from to
+  pub there : RowRange rows₀ from to
   pub long-news : length news ≡ clockWidth
   pub from-on : from ≤ row
   pub upto : row ≤ to
@@ -43,7 +43,7 @@ not-yet from row k l = rw (le-ltb k row l) (go (leb from k))
     go true = refl
     go false = refl
 
-pub joins-begin : (rows : List ℕ) (from to : ℕ) (news : List ℕ) → RowsThere rows from to → length news ≡ clockWidth → JoinedTo rows from to news rows from
+pub joins-begin : (rows : List ℕ) (from to : ℕ) (news : List ℕ) → RowRange rows from to → length news ≡ clockWidth → JoinedTo rows from to news rows from
 joins-begin rows from to news h l =
     record { there = h; long-news = l; from-on = omega arith; upto = h .upwards; so-far = record { as-long = refl; at = λ k. go k (decLt k from) } }
   where

@@ -6,7 +6,7 @@ ghost use Rattle.limits.specs.inner.Sizes.{clockWidth};
 ghost use Rattle.clock.specs.Clocks.{joined};
 ghost use Rattle.layout.specs.Layout.{rowOf};
 ghost use Rattle.layout.specs.inner.Needed.{RowThere};
-ghost use Rattle.race_rows.specs.inner.Rows.{RowsThere, RowsJoined};
+ghost use Rattle.race_rows.specs.inner.Rows.{RowRange, RowsJoined};
 use limits::CLOCK_WIDTH;
 
 // The numbers in a row.
@@ -38,7 +38,7 @@ pub fn put_row(rows: &mut [u16], row: usize, values: [u16; CLOCK_WIDTH])
 }
 
 // The larger number at each place.
-pub fn join(a: [u16; CLOCK_WIDTH], b: [u16; CLOCK_WIDTH]) -> [u16; CLOCK_WIDTH]
+pub fn join_rows(a: [u16; CLOCK_WIDTH], b: [u16; CLOCK_WIDTH]) -> [u16; CLOCK_WIDTH]
     ensures { λ r. ⌜ r ≡ joined a b ⌝ }
 {
     let mut out = a;
@@ -56,12 +56,12 @@ pub fn join_into(rows: &mut [u16], row: usize, news: [u16; CLOCK_WIDTH])
     ensures { λ _. ⌜ now (rows .exit) ≡ sets (now (rows .entry)) (clockWidth * row) (joined (rowOf clockWidth (now (rows .entry)) row) news) ⌝ }
 {
     let own = row_at(rows, row);
-    put_row(rows, row, join(own, news));
+    put_row(rows, row, join_rows(own, news));
 }
 
 // Those in each of some rows do.
 pub fn join_all(rows: &mut [u16], from: usize, to: usize, news: [u16; CLOCK_WIDTH])
-    requires { ⌜ RowsThere (now rows) from to ⌝ }
+    requires { ⌜ RowRange (now rows) from to ⌝ }
     ensures { λ _. ⌜ RowsJoined (now (rows .entry)) from to news (now (rows .exit)) ⌝ }
 {
     let mut row = from;

@@ -20,25 +20,25 @@ use Rattle.whole_calls.proofs.Calls.{nothing-next}
 use Rattle.race_file.specs.Files.{FileLine, LineTold}
 use Rattle.race_file.proofs.LookedAt.{line-of-more}
 use Rattle.races.specs.Promises.{RacesTold}
-use Rattle.races.specs.inner.Going.{RacesAmple, Held}
+use Rattle.races.specs.inner.Going.{RacesAmple, RacesHeld}
 
 -- ---- the start
 
 -- an array of zeros is as long as it is declared
-pub blank-bytes : (n : ℕ) → length (replicate {A = ℕ} n 0) ≡ n
-blank-bytes n = length-replicate n 0
+pub array-long : (n : ℕ) → length (replicate {A = ℕ} n 0) ≡ n
+array-long n = length-replicate n 0
 
 -- arrays of these lengths are ample
 pub races-ample : (buffer out : List ℕ) → length buffer ≡ raceBytes → length out ≡ lineLimit → RacesAmple buffer out
 races-ample buffer out a b = record { bytes = a; line = omega (arith, b) }
 
-pub holds-none : (buffer out : List ℕ) → RacesAmple buffer out → Held (length buffer) (length out) [] [] false false
-holds-none buffer out a = record { bytes = a .bytes; space-there = a .line; none-taken = λ e. refl; none-made = λ e. refl; all = λ e. absurd (false≢true e) }
+pub races-hold-none : (buffer out : List ℕ) → RacesAmple buffer out → RacesHeld (length buffer) (length out) [] [] false false
+races-hold-none buffer out a = record { bytes = a .bytes; space-there = a .line; none-taken = λ e. refl; none-made = λ e. refl; all = λ e. absurd (false≢true e) }
 
 -- ---- the bytes are taken
 
-module _ (f : Flow) (buffer out : List ℕ) (t : TakesNext Held f buffer out) where
-  h : Held (length buffer) (length out) (t .going .taken) (t .going .made) (f .done) (f .done && f .ended)
+module _ (f : Flow) (buffer out : List ℕ) (t : TakesNext RacesHeld f buffer out) where
+  h : RacesHeld (length buffer) (length out) (t .going .taken) (t .going .made) (f .done) (f .done && f .ended)
   h = t .going .stands
 
   pub room-for-line : Room out 0 lineLimit
@@ -49,7 +49,7 @@ module _ (f : Flow) (buffer out : List ℕ) (t : TakesNext Held f buffer out) wh
   full true room have z e = absurd (false≢true (sym e))
   full false room have z e = leb-true room have z
 
-  pub takes : (n : ℕ) (out′ : List ℕ) → LineTold (take (f .have) buffer) out n out′ → Takes Held Held f buffer out′ n true
+  pub takes : (n : ℕ) (out′ : List ℕ) → LineTold (take (f .have) buffer) out n out′ → Takes RacesHeld RacesHeld f buffer out′ n true
   takes n out′ l =
       record {
         few = l .within;
@@ -67,11 +67,11 @@ module _ (f : Flow) (buffer out : List ℕ) (t : TakesNext Held f buffer out) wh
       of-all true e rest z = rw (z e, append-nil (take (f .have) buffer)) (l .line)
       of-all false e rest z =
           line-of-more (take (f .have) buffer) rest (take n out′)
-          (omega (arith, bytes-counted Held f buffer out t, t .going .flows .filled, full (f .ended) (length buffer) (f .have) (taking f (length buffer) (t .next) .whole) e, h .bytes)) (l .line)
+          (omega (arith, bytes-counted RacesHeld f buffer out t, t .going .flows .filled, full (f .ended) (length buffer) (f .have) (taking f (length buffer) (t .next) .whole) e, h .bytes)) (l .line)
 
 -- ---- the end
 
-module _ (f : Flow) (turns : ℕ) (buffer out : List ℕ) (g : FlowGoing Held f buffer out) where
+module _ (f : Flow) (turns : ℕ) (buffer out : List ℕ) (g : FlowGoing RacesHeld f buffer out) where
   -- nothing is left to do
   pub told-all : (b : Bool) → b ≡ isStop (comesNext f (length buffer)) → b ≡ true → RacesTold (record { flow = f; turns = turns }) buffer out
   told-all b e y =
@@ -81,11 +81,11 @@ module _ (f : Flow) (turns : ℕ) (buffer out : List ℕ) (g : FlowGoing Held f 
         made = g .made;
         written = g .written;
         flows = g .flows;
-        all = λ l w rest z. going-through Held f buffer out (nothing-next (comesNext f (length buffer)) (sym e ∙ y)) w g .all refl rest z;
+        all = λ l w rest z. going-through RacesHeld f buffer out (nothing-next (comesNext f (length buffer)) (sym e ∙ y)) w g .all refl rest z;
       }
 
   -- no turn is left
   pub told-some : turns ≤ 0 → RacesTold (record { flow = f; turns = turns }) buffer out
   told-some n = record { read = g .read; taken = g .taken; made = g .made; written = g .written; flows = g .flows; all = λ l. absurd (omega (arith, l, n)) }
 
-pub ruleset turn-laws = (turning-laws, holds-none, room-for-line, takes, told-all, told-some)
+pub ruleset turn-laws = (turning-laws, races-hold-none, room-for-line, takes, told-all, told-some)

@@ -5,11 +5,11 @@ use mathlib.Core.Bool.{true}
 use mathlib.Core.List.{List, [], _++_}
 use Rattle.whole_reads.specs.Promises.{Flows, isFine}
 use Rattle.race_file.specs.Files.{FileLine}
-use Rattle.races.specs.declared.Halt.{Halt}
+use Rattle.races.specs.declared.Halt.{RacesHalt}
 
 -- the program has halted, and has read and written these bytes. If turns are left and nothing went wrong, the line of the whole file is written: of what
 -- was read where the input has ended, and whatever follows where it has not
-pub record RacesTold (h : Halt) (buffer out : List ℕ) : Type 0 where
+pub record RacesTold (h : RacesHalt) (buffer out : List ℕ) : Type 0 where
   pub read : List ℕ
   pub taken : List ℕ
   pub made : List ℕ

@@ -1,14 +1,14 @@
 // The race finder: a step file on standard input, its line on standard output. What it does between its C calls, `whole_reads` says.
 ghost use Rattle.whole_reads.specs.inner.Going.{FlowGoing, TakesNext};
 ghost use Rattle.races.specs.Promises.{RacesTold};
-ghost use Rattle.races.specs.inner.Going.{RacesAmple, Held};
+ghost use Rattle.races.specs.inner.Going.{RacesAmple, RacesHeld};
 use limits::LINE_LIMIT;
 use limits::RACE_BYTES;
 use whole_reads::Flow;
 use whole_reads::Next;
 
 // Where it halts: its reads and writes, and how many turns are left.
-pub struct Halt {
+pub struct RacesHalt {
     pub flow: Flow,
     pub turns: u64,
 }
@@ -28,7 +28,7 @@ fn main() {
 
 // Reads, judges and writes as `whole_reads` says until it says to stop. A proved loop has to end, and nothing says that the input does: so it counts
 // its turns down, from a number that no file uses up.
-fn run_all(buffer: &mut [u8], lines: &mut [u8]) -> Halt
+fn run_all(buffer: &mut [u8], lines: &mut [u8]) -> RacesHalt
     requires { ⌜ RacesAmple (now buffer) (now lines) ⌝ }
     ensures { λ r. ⌜ RacesTold r (now (buffer .exit)) (now (lines .exit)) ⌝ }
 {
@@ -36,18 +36,18 @@ fn run_all(buffer: &mut [u8], lines: &mut [u8]) -> Halt
     let mut turns = u64::MAX;
     while 0 < turns {
         if whole_calls::is_over(flow, buffer.len()) {
-            return Halt { flow, turns };
+            return RacesHalt { flow, turns };
         }
         flow = turn(flow, buffer, lines);
         turns = turns - 1;
     }
-    Halt { flow, turns }
+    RacesHalt { flow, turns }
 }
 
 // Does what comes next.
 fn turn(flow: Flow, buffer: &mut [u8], lines: &mut [u8]) -> Flow
-    requires { ⌜ FlowGoing Held flow (now buffer) (now lines) ⌝ }
-    ensures { λ r. ⌜ FlowGoing Held r (now (buffer .exit)) (now (lines .exit)) ⌝ }
+    requires { ⌜ FlowGoing RacesHeld flow (now buffer) (now lines) ⌝ }
+    ensures { λ r. ⌜ FlowGoing RacesHeld r (now (buffer .exit)) (now (lines .exit)) ⌝ }
 {
     let action = whole_reads::what_next(flow, buffer.len());
     match action {
@@ -60,8 +60,8 @@ fn turn(flow: Flow, buffer: &mut [u8], lines: &mut [u8]) -> Flow
 
 // Judges the bytes in the buffer, the whole file or as much of it as is looked at, and makes the line.
 fn take_on(flow: Flow, buffer: &[u8], lines: &mut [u8]) -> Flow
-    requires { ⌜ TakesNext Held flow (now buffer) (now lines) ⌝ }
-    ensures { λ r. ⌜ FlowGoing Held r (now (buffer .entry)) (now (lines .exit)) ⌝ }
+    requires { ⌜ TakesNext RacesHeld flow (now buffer) (now lines) ⌝ }
+    ensures { λ r. ⌜ FlowGoing RacesHeld r (now (buffer .entry)) (now (lines .exit)) ⌝ }
 {
     let have = flow.have;
     let made = race_file::take_file(&buffer[..have], lines);

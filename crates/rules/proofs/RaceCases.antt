@@ -11,26 +11,26 @@ use Rattle.rules.specs.Refusals.{Step}
 use Rattle.rules.specs.Runs.{answersInOrder}
 use Rattle.rules.specs.Order.{events, noEvent, eventAt, isArrival, countedOff, groupsBefore, rounds, counted, isAcquireOf, isReleaseOf, isEnqueue, isDequeue}
 use Rattle.rules.specs.Demand.{isWriteTo}
-use Rattle.rules.specs.Races.{isReadOf, touches, Finding, Race, None}
+use Rattle.rules.specs.Races.{isReadOf, touches, Verdict, Race, None}
 use Rattle.rules.specs.Bench.{listing, noOtherJob}
-use Rattle.rules.specs.inner.Knowing.{servesTo, completing, heard, row, share, told, known, knows}
-use Rattle.rules.specs.inner.Searching.{knowsOf, conflicts, races, partnerOf, racer, findingBy, finding}
+use Rattle.rules.specs.inner.Knowing.{servesTo, completing, heard, knowing, share, told, known, knows}
+use Rattle.rules.specs.inner.Searching.{knowsOf, conflicts, races, partnerOf, racer, verdictBy, verdict}
 use Rattle.rules.proofs.runs.Listing.{reads, writes, acquires, releases, arrives, adds, totals, enqueues, dequeues, start}
 use Rattle.rules.proofs.runs.BenchFaults.{stepsC}
 
 -- the two record numbers and the word
-unfoldable pub numbers : Finding → List ℕ
+unfoldable pub numbers : Verdict → List ℕ
 numbers (Race j i w) = suc j ∷ suc i ∷ w ∷ []
 numbers None = []
 
 -- those of a run
 unfoldable pub raced : ℕ → State → List Step → List ℕ
-unfolding numbers start enqueue dequeue events noEvent eventAt isArrival countedOff groupsBefore rounds counted isAcquireOf isReleaseOf isEnqueue isDequeue isWriteTo servesTo completing heard row share told known knows isReadOf touches knowsOf conflicts races partnerOf racer findingBy finding any firstOf lastOf
-raced n s ts = numbers (finding n (events ts (answersInOrder mainframe s ts)))
+unfolding numbers start enqueue dequeue events noEvent eventAt isArrival countedOff groupsBefore rounds counted isAcquireOf isReleaseOf isEnqueue isDequeue isWriteTo servesTo completing heard knowing share told known knows isReadOf touches knowsOf conflicts races partnerOf racer verdictBy verdict any firstOf lastOf
+raced n s ts = numbers (verdict n (events ts (answersInOrder mainframe s ts)))
 
-pub listing-a : raced 2 (start 2 1 1) listing ≡ 3 ∷ 2 ∷ 3 ∷ []
+pub races-of-listing-a : raced 2 (start 2 1 1) listing ≡ 3 ∷ 2 ∷ 3 ∷ []
 unfolding raced listing
-listing-a = refl
+races-of-listing-a = refl
 
 pub under-a-lock : raced 2 (start 2 1 1) (acquires 1 0 ∷ writes 1 0 5 ∷ releases 1 0 ∷ acquires 2 0 ∷ reads 2 0 ∷ []) ≡ []
 unfolding raced

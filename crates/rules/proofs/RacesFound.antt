@@ -1,5 +1,5 @@
 -- Document 02, L11: the search finds what is due of every list of steps, the earliest step that races with the latest of its partners, or that there
--- is no race; and only one finding is due. Rests on RaceTest. Assumes nothing.
+-- is no race; and only one verdict is due. Rests on RaceTest. Assumes nothing.
 use Prim.Native.Nat.{ℕ, zero, suc, _-_, _<_}
 use native.Mathlib.Omega.{arith}
 use mathlib.Core.Path.{_≡_, refl, sym, _∙_}
@@ -11,8 +11,8 @@ use Rattle.lists.proofs.Tables.{Passes, any-at, any-holds}
 use Rattle.lists.proofs.Counting.{first-passes, first-there}
 use Rattle.lists.proofs.Searches.{first-least, last-passes, last-bounds}
 use Rattle.rules.specs.Order.{Event, eventAt}
-use Rattle.rules.specs.Races.{RacePair, FirstRace, NoRace, Finding, Race, Finds, race, none}
-use Rattle.rules.specs.inner.Searching.{races, partnerOf, racer, findingBy, finding}
+use Rattle.rules.specs.Races.{RacePair, FirstRace, NoRace, Verdict, Race, Finds, race, none}
+use Rattle.rules.specs.inner.Searching.{races, partnerOf, racer, verdictBy, verdict}
 use Rattle.rules.proofs.order.RaceTest.{touch-accepted, touch-object, accepted-within, races-says, races-is}
 
 module _ (n : ℕ) (es : List Event) where
@@ -60,15 +60,15 @@ module _ (n : ℕ) (es : List Event) where
           at (suc i) f = absurd (h (eventAt es j .step .object) i j (first-race i j e f .pair))
 
   -- what the search finds is due
-  pub found : Finds n es (finding n es)
-  unfolding finding findingBy
+  pub found : Finds n es (verdict n es)
+  unfolding verdict verdictBy
   found = go (racer n es) refl
     where
-      go : (r : ℕ) → racer n es ≡ r → Finds n es (findingBy n es r (partnerOf n es (r - 1)))
+      go : (r : ℕ) → racer n es ≡ r → Finds n es (verdictBy n es r (partnerOf n es (r - 1)))
       go zero e = none (none-when e)
       go (suc j) e = let same : suc j - 1 ≡ j = omega arith in rw same (at (partnerOf n es j) refl)
         where
-          at : (p : ℕ) → partnerOf n es j ≡ p → Finds n es (findingBy n es (suc j) p)
+          at : (p : ℕ) → partnerOf n es j ≡ p → Finds n es (verdictBy n es (suc j) p)
           at zero f = absurd (racer-has-partner j e f)
           at (suc i) f = race (eventAt es j .step .object) i j (first-race i j e f)
 
@@ -83,9 +83,9 @@ module _ (n : ℕ) (es : List Event) where
       let word : w ≡ v = sym (touch-object (eventAt es j) w (a .pair .conflict .other-touches)) ∙ touch-object (eventAt es j) v (mine .conflict .other-touches) in
       rw (later, partner, word)
 
-  pub one-finding : (f g : Finding) → Finds n es f → Finds n es g → f ≡ g
+  pub one-verdict : (f g : Verdict) → Finds n es f → Finds n es g → f ≡ g
   unfolding NoRace
-  one-finding f g (race w i j a) (race v k l b) = one-race w i j v k l a b
-  one-finding f g (race w i j a) (none h) = absurd (h w i j (a .pair))
-  one-finding f g (none h) (race v k l b) = absurd (h v k l (b .pair))
-  one-finding f g (none h) (none k) = refl
+  one-verdict f g (race w i j a) (race v k l b) = one-race w i j v k l a b
+  one-verdict f g (race w i j a) (none h) = absurd (h w i j (a .pair))
+  one-verdict f g (none h) (race v k l b) = absurd (h v k l (b .pair))
+  one-verdict f g (none h) (none k) = refl

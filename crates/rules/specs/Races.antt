@@ -40,12 +40,12 @@ unfoldable pub NoRace : ℕ → List Event → Type 0
 NoRace n es = (w i j : ℕ) → RacePair n es w i j → ⊥
 
 -- what is found in a list of steps: the places of the later step and of its partner, and the word; or nothing
-pub data Finding : Type 0 where
-  Race : ℕ → ℕ → ℕ → Finding
-  None : Finding
+pub data Verdict : Type 0 where
+  Race : ℕ → ℕ → ℕ → Verdict
+  None : Verdict
 
--- the finding that is due
-pub data Finds (n : ℕ) (es : List Event) : Finding → Type 0 where
+-- the verdict that is due
+pub data Finds (n : ℕ) (es : List Event) : Verdict → Type 0 where
   race : (w i j : ℕ) → FirstRace n es w i j → Finds n es (Race j i w)
   -- ""none" stands if and only if no such pair exists"
   none : NoRace n es → Finds n es None

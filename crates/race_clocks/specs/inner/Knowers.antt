@@ -13,7 +13,7 @@ use Rattle.rules.specs.Order.{Event, eventAt}
 use Rattle.rules.specs.inner.Knowing.{Knower, AtProcessor, AtLock, AtBarrier, heard, known, knows}
 use Rattle.layout.specs.Layout.{rowOf}
 use Rattle.step_fields.specs.Records.{stepCount}
-use Rattle.race_events.specs.inner.Events.{eventsIn}
+use Rattle.race_events.specs.inner.Events.{memoryEvents}
 
 -- ---- the rows
 
@@ -53,7 +53,7 @@ pub record KnowersHold (n : ℕ) (es : List Event) (t : ℕ) (rows : List ℕ) :
 -- ---- the steps
 
 -- what the fields of an accepted step keep: a kind, its processor, its lock, and the object 0 of a step of the queue
-pub record Addressed (e : Event) : Type 0 where
+pub record KeepsFields (e : Event) : Type 0 where
   pub kind : e .step .kind ≡ 0 → ⊥
   pub from : 1 ≤ e .step .processor
   pub to : e .step .processor ≤ processorLimit
@@ -64,7 +64,7 @@ pub record Addressed (e : Event) : Type 0 where
 pub record StepsSound (bytes out : List ℕ) : Type 0 where
   pub answered : answerWidth * (stepCount bytes + 1) ≤ length out
   pub few : stepCount bytes ≤ raceStepLimit
-  pub sound : (t : ℕ) → eventAt (eventsIn bytes out) t .accepted ≡ true → Addressed (eventAt (eventsIn bytes out) t)
+  pub sound : (t : ℕ) → eventAt (memoryEvents bytes out) t .accepted ≡ true → KeepsFields (eventAt (memoryEvents bytes out) t)
 
 -- the areas: of the table, and of the rows of the holders
 abbrev pub tableArea : ℕ
@@ -75,5 +75,5 @@ knowerArea = clockWidth * knowerRows
 
 -- the steps below t are done: the table has what they know, the rows what each holder knows
 pub record Known (n : ℕ) (bytes out : List ℕ) (t : ℕ) (table rows : List ℕ) : Type 0 where
-  pub filled : TableHolds n (eventsIn bytes out) t table
-  pub knowers : KnowersHold n (eventsIn bytes out) t rows
+  pub filled : TableHolds n (memoryEvents bytes out) t table
+  pub knowers : KnowersHold n (memoryEvents bytes out) t rows

@@ -12,7 +12,7 @@ use Rattle.rules.specs.Order.{Event, eventAt, isReleaseOf, groupsBefore}
 use Rattle.rules.specs.inner.Knowing.{servesTo}
 use Rattle.layout.specs.Layout.{rowOf}
 use Rattle.step_fields.specs.Records.{stepCount}
-use Rattle.race_events.specs.inner.Events.{eventsIn, SeenAs}
+use Rattle.race_events.specs.inner.Events.{memoryEvents, SeenAs}
 use Rattle.race_clocks.specs.inner.Knowers.{ofProcessor, knowsRow, heardRow, KnowersHold, TableHolds, StepsSound, tableArea, knowerArea, Known}
 
 -- the steps, and one of them
@@ -24,11 +24,11 @@ pub record StepSound (bytes out : List ℕ) (t : ℕ) : Type 0 where
 pub record Taken (bytes out : List ℕ) (t kind processor object : ℕ) : Type 0 where
   pub steps : StepsSound bytes out
   pub there : t < stepCount bytes
-  pub seen : SeenAs (eventsIn bytes out) t kind processor object
+  pub seen : SeenAs (memoryEvents bytes out) t kind processor object
   pub accepted : kind ≡ 0 → ⊥
 
 -- the table and the rows have their sizes
-pub record Sized (table rows : List ℕ) : Type 0 where
+pub record TableSized (table rows : List ℕ) : Type 0 where
   pub table-long : length table ≡ tableArea
   pub rows-long : length rows ≡ knowerArea
 
@@ -37,17 +37,17 @@ pub record Sized (table rows : List ℕ) : Type 0 where
 -- what the job knows that a dequeue returns, where the steps before it are done
 pub record JobHeard (bytes out : List ℕ) (t : ℕ) (table row : List ℕ) : Type 0 where
   pub long : length row ≡ clockWidth
-  pub is : (n : ℕ) (rows : List ℕ) → Known n bytes out t table rows → eqb (eventAt (eventsIn bytes out) t .step .kind) 11 ≡ true → eventAt (eventsIn bytes out) t .accepted ≡ true → row ≡ heardRow n (eventsIn bytes out) t
+  pub is : (n : ℕ) (rows : List ℕ) → Known n bytes out t table rows → eqb (eventAt (memoryEvents bytes out) t .step .kind) 11 ≡ true → eventAt (memoryEvents bytes out) t .accepted ≡ true → row ≡ heardRow n (memoryEvents bytes out) t
 
 -- what a step hears
 pub record HeardAs (bytes out : List ℕ) (t : ℕ) (table rows row : List ℕ) : Type 0 where
   pub long : length row ≡ clockWidth
-  pub is : (n : ℕ) → Known n bytes out t table rows → row ≡ heardRow n (eventsIn bytes out) t
+  pub is : (n : ℕ) → Known n bytes out t table rows → row ≡ heardRow n (memoryEvents bytes out) t
 
 -- what it knows
 pub record KnowsAs (bytes out : List ℕ) (t : ℕ) (table rows row : List ℕ) : Type 0 where
   pub long : length row ≡ clockWidth
-  pub is : (n : ℕ) → Known n bytes out t table rows → row ≡ knowsRow n (eventsIn bytes out) t
+  pub is : (n : ℕ) → Known n bytes out t table rows → row ≡ knowsRow n (memoryEvents bytes out) t
 
 -- ---- what it tells
 
@@ -55,7 +55,7 @@ pub record KnowsAs (bytes out : List ℕ) (t : ℕ) (table rows row : List ℕ) 
 pub record Freeing (bytes out : List ℕ) (t l : ℕ) (row rows : List ℕ) : Type 0 where
   pub steps : StepsSound bytes out
   pub there : t < stepCount bytes
-  pub release : isReleaseOf l (eventAt (eventsIn bytes out) t) ≡ true
+  pub release : isReleaseOf l (eventAt (memoryEvents bytes out) t) ≡ true
   pub lock : l < lockLimit
   pub row-long : length row ≡ clockWidth
   pub rows-long : length rows ≡ knowerArea
@@ -78,17 +78,17 @@ pub record Waiting (n : ℕ) (es : List Event) (t waiting : ℕ) : Type 0 where
   pub few : waiting ≤ t
 
 -- all of them know what they knew before the step
-pub record Telling (n : ℕ) (bytes out : List ℕ) (t waiting : ℕ) (row rows : List ℕ) : Type 0 where
-  pub row-is : row ≡ knowsRow n (eventsIn bytes out) t
+pub record RowsBefore (n : ℕ) (bytes out : List ℕ) (t waiting : ℕ) (row rows : List ℕ) : Type 0 where
+  pub row-by-numbers : row ≡ knowsRow n (memoryEvents bytes out) t
   pub rows-long : length rows ≡ knowerArea
-  pub knowers : KnowersHold n (eventsIn bytes out) t rows
-  pub arrived : Waiting n (eventsIn bytes out) t waiting
+  pub knowers : KnowersHold n (memoryEvents bytes out) t rows
+  pub arrived : Waiting n (memoryEvents bytes out) t waiting
 
 -- and what they know after it
-pub record ToldAll (n : ℕ) (bytes out : List ℕ) (t waiting : ℕ) (rows : List ℕ) : Type 0 where
+pub record RowsAfter (n : ℕ) (bytes out : List ℕ) (t waiting : ℕ) (rows : List ℕ) : Type 0 where
   pub rows-long : length rows ≡ knowerArea
-  pub knowers : KnowersHold n (eventsIn bytes out) t rows
-  pub arrived : Waiting n (eventsIn bytes out) t waiting
+  pub knowers : KnowersHold n (memoryEvents bytes out) t rows
+  pub arrived : Waiting n (memoryEvents bytes out) t waiting
 
 -- ---- all steps
 
@@ -96,12 +96,12 @@ pub record ToldAll (n : ℕ) (bytes out : List ℕ) (t waiting : ℕ) (rows : Li
 pub record Filling (n : ℕ) (bytes out : List ℕ) (t waiting : ℕ) (table rows : List ℕ) : Type 0 where
   pub steps : StepsSound bytes out
   pub upto : t ≤ stepCount bytes
-  pub sized : Sized table rows
+  pub sized : TableSized table rows
   pub known : Known n bytes out t table rows
-  pub arrived : Waiting n (eventsIn bytes out) t waiting
+  pub arrived : Waiting n (memoryEvents bytes out) t waiting
 
 -- one more is there
-pub record Going (n : ℕ) (bytes out : List ℕ) (t waiting : ℕ) (table rows : List ℕ) : Type 0 where
+pub record StepDue (n : ℕ) (bytes out : List ℕ) (t waiting : ℕ) (table rows : List ℕ) : Type 0 where
   pub filling : Filling n bytes out t waiting table rows
   pub there : t < stepCount bytes
 
@@ -114,4 +114,4 @@ pub record Fillable (bytes out : List ℕ) (steps : ℕ) (table : List ℕ) : Ty
 -- and what it promises: each accepted step's row has what the step knows
 pub record Filled (n : ℕ) (bytes out : List ℕ) (table : List ℕ) : Type 0 where
   pub table-long : length table ≡ tableArea
-  pub holds : TableHolds n (eventsIn bytes out) (stepCount bytes) table
+  pub holds : TableHolds n (memoryEvents bytes out) (stepCount bytes) table

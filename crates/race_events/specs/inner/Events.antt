@@ -11,12 +11,12 @@ use Rattle.rules.specs.Order.{Event, eventAt, counted}
 use Rattle.step_fields.specs.Records.{stepFrom, stepCount}
 
 -- the step at place t of a file, and whether the words of its answers say that it was accepted
-unfoldable pub eventIn : List ℕ → List ℕ → ℕ → Event
-eventIn bytes out t = record { step = stepFrom (drop (fileRecordWidth * (t + 1)) bytes); accepted = eqb (getD out (answerWidth * (t + 1)) 0) 0 }
+unfoldable pub memoryEvent : List ℕ → List ℕ → ℕ → Event
+memoryEvent bytes out t = record { step = stepFrom (drop (fileRecordWidth * (t + 1)) bytes); accepted = eqb (getD out (answerWidth * (t + 1)) 0) 0 }
 
 -- all of them
-unfoldable pub eventsIn : List ℕ → List ℕ → List Event
-eventsIn bytes out = tabulate (stepCount bytes) (eventIn bytes out)
+unfoldable pub memoryEvents : List ℕ → List ℕ → List Event
+memoryEvents bytes out = tabulate (stepCount bytes) (memoryEvent bytes out)
 
 -- its kind, 0 for a refused one
 unfoldable pub shownKind : Event → ℕ
@@ -37,13 +37,13 @@ unfoldable pub placeOf : List Event → ℕ → ℕ → ℕ → ℕ → ℕ
 placeOf es k o number m = firstOf m (λ a. isOf k o (eventAt es a) && eqb (counted (isOf k o) es a) number)
 
 -- the step at place t and its answer stand in memory
-pub record StepThere (bytes out : List ℕ) (t : ℕ) : Type 0 where
+pub record EventThere (bytes out : List ℕ) (t : ℕ) : Type 0 where
   pub there : t < stepCount bytes
   pub few : t < raceStepLimit
   pub answered : answerWidth * (t + 1) < length out
 
 -- the first m steps and their answers do
-pub record StepsThere (bytes out : List ℕ) (m : ℕ) : Type 0 where
+pub record EventsThere (bytes out : List ℕ) (m : ℕ) : Type 0 where
   pub there : m ≤ stepCount bytes
   pub few : m ≤ raceStepLimit
   pub answered : answerWidth * (m + 1) ≤ length out

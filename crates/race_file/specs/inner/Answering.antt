@@ -2,8 +2,8 @@
 use Prim.Native.Nat.{ℕ}
 use mathlib.Core.Option.{Option, none, some}
 use mathlib.Core.List.{List}
-use Rattle.rules.specs.inner.Searching.{finding}
-use Rattle.race_find.specs.Numbers.{numbered}
+use Rattle.rules.specs.inner.Searching.{verdict}
+use Rattle.race_find.specs.Numbers.{asRecords}
 use Rattle.race_find.specs.declared.RaceAnswer.{RaceAnswer}
 use Rattle.race_find.specs.declared.RaceAnswer.the-variants.{Stopped}
 use Rattle.race_file.specs.Files.{fileOpening, fileEvents, Alone, meets, answerLine}
@@ -15,7 +15,7 @@ aloneOr none a = a
 
 -- the answer
 unfoldable pub raceAnswer : List ℕ → RaceAnswer
-raceAnswer bytes = aloneOr (meets bytes) (numbered (finding (fileOpening bytes .counts .processors) (fileEvents bytes)))
+raceAnswer bytes = aloneOr (meets bytes) (asRecords (verdict (fileOpening bytes .counts .processors) (fileEvents bytes)))
 
 -- its line
 unfoldable pub raceLine : List ℕ → List ℕ

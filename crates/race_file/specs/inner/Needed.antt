@@ -8,7 +8,7 @@ use Rattle.limits.specs.Files.{fileRecordWidth, answerWidth, raceStepLimit}
 use Rattle.rules.specs.State.{mainframe}
 use Rattle.rules.specs.Opening.{openingRefusal}
 use Rattle.step_fields.specs.Records.{stepCount}
-use Rattle.race_events.specs.inner.Events.{eventsIn}
+use Rattle.race_events.specs.inner.Events.{memoryEvents}
 use Rattle.race_clocks.specs.inner.Knowers.{tableArea}
 use Rattle.race_file.specs.Files.{fileOpening, fileEvents, meets}
 
@@ -22,7 +22,7 @@ pub record JudgeRoom (out table : List ℕ) : Type 0 where
   pub table-long : length table ≡ tableArea
 
 -- a file with a whole opening, and room for the answers
-pub record Runnable (bytes out : List ℕ) : Type 0 where
+pub record FileRunnable (bytes out : List ℕ) : Type 0 where
   pub opening : fileRecordWidth ≤ length bytes
   pub out-long : length out ≡ answerRoom
 
@@ -30,7 +30,7 @@ pub record Runnable (bytes out : List ℕ) : Type 0 where
 pub record AnswersRun (bytes : List ℕ) (r : ℕ) (out : List ℕ) : Type 0 where
   pub refusal : r ≡ openingRefusal mainframe (fileOpening bytes)
   pub out-long : length out ≡ answerRoom
-  pub judged : openingRefusal mainframe (fileOpening bytes) ≡ 0 → stepCount bytes ≤ raceStepLimit → eventsIn bytes out ≡ fileEvents bytes
+  pub judged : openingRefusal mainframe (fileOpening bytes) ≡ 0 → stepCount bytes ≤ raceStepLimit → memoryEvents bytes out ≡ fileEvents bytes
 
 -- a file that meets nothing, with the answers of its steps
 pub record StepsFound (bytes : List ℕ) (steps : ℕ) (out table : List ℕ) : Type 0 where
@@ -39,6 +39,6 @@ pub record StepsFound (bytes : List ℕ) (steps : ℕ) (out table : List ℕ) : 
   pub goes : meets bytes ≡ none
   pub all : steps ≡ stepCount bytes
   pub few : stepCount bytes ≤ raceStepLimit
-  pub judged : eventsIn bytes out ≡ fileEvents bytes
+  pub judged : memoryEvents bytes out ≡ fileEvents bytes
   pub out-long : length out ≡ answerRoom
   pub table-long : length table ≡ tableArea

@@ -7,13 +7,13 @@ use lib.ListN.{length}
 use lib.Dec.{eqb}
 use Rattle.limits.specs.Limits.{processorLimit}
 use Rattle.limits.specs.Files.{fileRecordWidth, raceStepLimit}
-use Rattle.rules.specs.inner.Searching.{races, partnerOf, finding}
+use Rattle.rules.specs.inner.Searching.{races, partnerOf, verdict}
 use Rattle.step_fields.specs.Records.{stepCount}
-use Rattle.race_events.specs.inner.Events.{eventsIn, SeenAs}
+use Rattle.race_events.specs.inner.Events.{memoryEvents, SeenAs}
 use Rattle.race_clocks.specs.inner.Knowers.{StepsSound, tableArea}
 use Rattle.race_clocks.specs.inner.Needed.{Filled}
 use Rattle.race_find.specs.declared.RaceAnswer.{RaceAnswer}
-use Rattle.race_find.specs.Numbers.{numbered}
+use Rattle.race_find.specs.Numbers.{asRecords}
 
 -- so many steps and the table of what they know
 pub record Searchable (bytes out : List ℕ) (steps : ℕ) (table : List ℕ) : Type 0 where
@@ -22,7 +22,7 @@ pub record Searchable (bytes out : List ℕ) (steps : ℕ) (table : List ℕ) : 
   pub table-long : length table ≡ tableArea
 
 -- the record of a step, and numbers of 32 bits
-pub record PairThere (bytes : List ℕ) (j partner : ℕ) : Type 0 where
+pub record RaceThere (bytes : List ℕ) (j partner : ℕ) : Type 0 where
   pub there : fileRecordWidth * (j + 1) + fileRecordWidth ≤ length bytes
   pub few : j < raceStepLimit
   pub near : partner ≤ j
@@ -34,10 +34,10 @@ pub record StepSought (bytes out : List ℕ) (j : ℕ) (table : List ℕ) : Type
   pub table-long : length table ≡ tableArea
 
 -- and an earlier one
-pub record Sought (bytes out : List ℕ) (i j kind processor object : ℕ) (table : List ℕ) : Type 0 where
+pub record PairSought (bytes out : List ℕ) (i j kind processor object : ℕ) (table : List ℕ) : Type 0 where
   pub step : StepSought bytes out j table
   pub earlier : i < j
-  pub seen : SeenAs (eventsIn bytes out) j kind processor object
+  pub seen : SeenAs (memoryEvents bytes out) j kind processor object
 
 -- a number of the table
 pub record NumberThere (table : List ℕ) (j processor i : ℕ) : Type 0 where
@@ -57,13 +57,13 @@ seenConflict k p o k′ p′ o′ = eqb o o′ && access k && access k′ && not
 
 -- whether the steps at places i and j race, where the table is that of the steps
 pub record RaceAs (bytes out : List ℕ) (i j : ℕ) (table : List ℕ) (r : Bool) : Type 0 where
-  pub is : (n : ℕ) → Filled n bytes out table → r ≡ races n (eventsIn bytes out) i j
+  pub is : (n : ℕ) → Filled n bytes out table → r ≡ races n (memoryEvents bytes out) i j
 
 -- the partner of the step at place j
 pub record PartnerAs (bytes out : List ℕ) (j : ℕ) (table : List ℕ) (r : ℕ) : Type 0 where
   pub near : r ≤ j
-  pub is : (n : ℕ) → Filled n bytes out table → r ≡ partnerOf n (eventsIn bytes out) j
+  pub is : (n : ℕ) → Filled n bytes out table → r ≡ partnerOf n (memoryEvents bytes out) j
 
 -- what is found
 pub record FoundAs (bytes out table : List ℕ) (r : RaceAnswer) : Type 0 where
-  pub is : (n : ℕ) → Filled n bytes out table → r ≡ numbered (finding n (eventsIn bytes out))
+  pub is : (n : ℕ) → Filled n bytes out table → r ≡ asRecords (verdict n (memoryEvents bytes out))

@@ -10,7 +10,7 @@ use Rattle.clock.specs.Clocks.{joined}
 use Rattle.layout.specs.Layout.{rowOf}
 
 -- the rows below `to` lie within the area
-pub record RowsThere (rows : List ℕ) (from to : ℕ) : Type 0 where
+pub record RowRange (rows : List ℕ) (from to : ℕ) : Type 0 where
   pub upwards : from ≤ to
   pub within : clockWidth * to ≤ length rows
 

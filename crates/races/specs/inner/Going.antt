@@ -15,7 +15,7 @@ pub record RacesAmple (buffer out : List ℕ) : Type 0 where
 
 -- what the program says of its memory: before the file is judged nothing is taken; then the line is that of the whole file, whatever follows the bytes taken
 -- where the input had not ended
-pub record Held (room space : ℕ) (taken made : List ℕ) (done ended : Bool) : Type 0 where
+pub record RacesHeld (room space : ℕ) (taken made : List ℕ) (done ended : Bool) : Type 0 where
   pub bytes : room ≡ raceBytes
   pub space-there : lineLimit ≤ space
   pub none-taken : done ≡ false → taken ≡ []

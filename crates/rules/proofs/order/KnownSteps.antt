@@ -10,7 +10,7 @@ use borrow.Author.Tests.{eqb-true, eqb-false, eq-eqb}
 use Rattle.lists.proofs.Conditions.{cond-at-most, cond-at-least}
 use Rattle.rules.specs.Refusals.{Action}
 use Rattle.rules.specs.Order.{Event, eventAt, Took, isArrival, counted, isReleaseOf, isEnqueue, isDequeue}
-use Rattle.rules.specs.inner.Knowing.{Knower, AtProcessor, AtLock, AtBarrier, AtJob, servesTo, completing, heard, row, share, told, known, knows}
+use Rattle.rules.specs.inner.Knowing.{Knower, AtProcessor, AtLock, AtBarrier, AtJob, servesTo, completing, heard, knowing, share, told, known, knows}
 use Rattle.rules.proofs.StrictOrder.{never-falls}
 use Rattle.rules.proofs.order.StepsSaid.{by}
 
@@ -18,12 +18,12 @@ module _ (n : ℕ) (es : List Event) (q : ℕ) where
   -- what an accepted step leaves
   pub after-step : (t : ℕ) (h : Knower) → eventAt es t .accepted ≡ true → known n es q (suc t) h ≡ told n es (known n es q t) (knows n es q t) t h
   unfolding known knows
-  after-step t h e = ap (λ (b : Bool). cond b (told n es (known n es q t) (row es q (known n es q t) t) t h) (known n es q t h)) e
+  after-step t h e = ap (λ (b : Bool). cond b (told n es (known n es q t) (knowing es q (known n es q t) t) t h) (known n es q t h)) e
 
   -- and a refused one
   pub after-refused : (t : ℕ) (h : Knower) → eventAt es t .accepted ≡ false → known n es q (suc t) h ≡ known n es q t h
   unfolding known
-  after-refused t h e = ap (λ (b : Bool). cond b (told n es (known n es q t) (row es q (known n es q t) t) t h) (known n es q t h)) e
+  after-refused t h e = ap (λ (b : Bool). cond b (told n es (known n es q t) (knowing es q (known n es q t) t) t h) (known n es q t h)) e
 
   -- ---- nothing is known of steps to come
 
@@ -37,7 +37,7 @@ module _ (n : ℕ) (es : List Event) (q : ℕ) where
       )
 
   row-bounded : (t : ℕ) → ((h : Knower) → known n es q t h ≤ t) → knows n es q t ≤ suc t
-  unfolding knows row
+  unfolding knows knowing
   row-bounded t b =
       cond-at-most (eqb q (by es t)) (suc t) (max (known n es q t (AtProcessor (by es t))) (heard es (known n es q t) t)) (suc t) (omega arith)
       (omega (arith, b (AtProcessor (by es t)), heard-bounded t b))
@@ -61,8 +61,8 @@ module _ (n : ℕ) (es : List Event) (q : ℕ) where
   unfolding known knows
   bounded zero h = omega arith
   bounded (suc t) h =
-      cond-at-most (eventAt es t .accepted) (told n es (known n es q t) (row es q (known n es q t) t) t h) (known n es q t h) (suc t)
-      (told-bounded (known n es q t) (row es q (known n es q t) t) t (bounded t) (row-bounded t (bounded t)) h)
+      cond-at-most (eventAt es t .accepted) (told n es (known n es q t) (knowing es q (known n es q t) t) t h) (known n es q t h) (suc t)
+      (told-bounded (known n es q t) (knowing es q (known n es q t) t) t (bounded t) (row-bounded t (bounded t)) h)
       (omega (arith, bounded t h))
 
   pub knows-bounded : (t : ℕ) → knows n es q t ≤ suc t
@@ -72,7 +72,7 @@ module _ (n : ℕ) (es : List Event) (q : ℕ) where
 
   -- a step knows what its processor knows, and what it hears
   pub row-has : (t : ℕ) → max (known n es q t (AtProcessor (by es t))) (heard es (known n es q t) t) ≤ knows n es q t
-  unfolding knows row
+  unfolding knows knowing
   row-has t =
       let m = max (known n es q t (AtProcessor (by es t))) (heard es (known n es q t) t) in
       cond-at-least (eqb q (by es t)) (suc t) m m (omega (arith, bounded t (AtProcessor (by es t)), heard-bounded t (bounded t))) (omega arith)
@@ -120,6 +120,6 @@ module _ (n : ℕ) (es : List Event) (q : ℕ) where
 
   -- a step of q knows itself
   pub knows-itself : (i : ℕ) (x : Action) → Took es i q x → knows n es q i ≡ suc i
-  unfolding knows row
+  unfolding knows knowing
   knows-itself i x took =
       ap (λ (b : Bool). cond b (suc i) (max (known n es q i (AtProcessor (by es i))) (heard es (known n es q i) i))) (eq-eqb q (by es i) (sym (took .processor)))

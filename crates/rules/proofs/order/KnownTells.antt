@@ -11,7 +11,7 @@ use lib.Dec.{eqb}
 use borrow.Author.Tests.{eqb-true}
 use Rattle.rules.specs.Refusals.{Action, Acquire, Dequeue}
 use Rattle.rules.specs.Order.{Event, eventAt, Took, isArrival, rounds, counted, isReleaseOf, isEnqueue, isDequeue, Before, program, lock, round, granted, job, chain}
-use Rattle.rules.specs.inner.Knowing.{Knower, AtProcessor, AtLock, AtBarrier, AtJob, servesTo, completing, heard, row, share, told, known, knows}
+use Rattle.rules.specs.inner.Knowing.{Knower, AtProcessor, AtLock, AtBarrier, AtJob, servesTo, completing, heard, knowing, share, told, known, knows}
 use Rattle.rules.proofs.StrictOrder.{rounds-never-fall}
 use Rattle.rules.proofs.order.ActionKinds.{enqueue-of}
 use Rattle.rules.proofs.order.StepsSaid.{by, does, took-here, acquire-here, release-of, arrive-of, dequeue-of}
@@ -52,7 +52,7 @@ module _ (n : ℕ) (es : List Event) (q : ℕ) where
 
   -- what a step knows is itself or before it
   pub knows-before : (t : ℕ) → Tells t → eventAt es t .accepted ≡ true → (i : ℕ) (x : Action) → Took es i q x → suc i ≤ knows n es q t → (i ≡ t) ⊎ Before n es i t
-  unfolding knows row
+  unfolding knows knowing
   knows-before t h acc i x took l = go (eqb q (by es t)) refl l
     where
       own : q ≡ by es t → suc i ≤ suc t → (i ≡ t) ⊎ Before n es i t

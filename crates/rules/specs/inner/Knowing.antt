@@ -31,8 +31,8 @@ heard es k t =
     max (cond (eqb (eventAt es t .step .kind) 3) (k (AtLock (eventAt es t .step .object))) 0) (cond (isDequeue (eventAt es t)) (k (AtJob (counted isDequeue es t))) 0)
 
 -- what the step at place t knows of q's steps: of its own processor itself
-unfoldable pub row : List Event → ℕ → (Knower → ℕ) → ℕ → ℕ
-row es q k t = cond (eqb q (eventAt es t .step .processor)) (suc t) (max (k (AtProcessor (eventAt es t .step .processor))) (heard es k t))
+unfoldable pub knowing : List Event → ℕ → (Knower → ℕ) → ℕ → ℕ
+knowing es q k t = cond (eqb q (eventAt es t .step .processor)) (suc t) (max (k (AtProcessor (eventAt es t .step .processor))) (heard es k t))
 
 module _ (n : ℕ) (es : List Event) where
   -- what processor r hears from the step at place t, which knows v: of a round that is completed, and of a release that serves it
@@ -49,8 +49,8 @@ module _ (n : ℕ) (es : List Event) where
   -- what each holder knows of q's steps before place t; a refused step changes nothing
   unfoldable pub known : ℕ → ℕ → Knower → ℕ
   known q zero h = 0
-  known q (suc t) h = cond (eventAt es t .accepted) (told (known q t) (row es q (known q t) t) t h) (known q t h)
+  known q (suc t) h = cond (eventAt es t .accepted) (told (known q t) (knowing es q (known q t) t) t h) (known q t h)
 
   -- what the step at place t knows of them
   unfoldable pub knows : ℕ → ℕ → ℕ
-  knows q t = row es q (known q t) t
+  knows q t = knowing es q (known q t) t

@@ -8,7 +8,7 @@ use Rattle.lists.specs.Tables.{any, firstOf}
 use Rattle.lists.specs.inner.Searches.{lastOf}
 use Rattle.rules.specs.Order.{Event, eventAt}
 use Rattle.rules.specs.Demand.{isWriteTo}
-use Rattle.rules.specs.Races.{touches, Finding, Race, None}
+use Rattle.rules.specs.Races.{touches, Verdict, Race, None}
 use Rattle.rules.specs.inner.Knowing.{knows}
 
 -- whether the steps at places i and j conflict on the word w
@@ -35,11 +35,11 @@ module _ (n : ℕ) (es : List Event) where
   racer = firstOf (length es) (λ j. any j (λ i. races i j))
 
   -- what is found, by the places of the later step and of its partner, plus 1 each
-  unfoldable pub findingBy : ℕ → ℕ → Finding
-  findingBy zero p = None
-  findingBy (suc j) zero = None
-  findingBy (suc j) (suc i) = Race j i (eventAt es j .step .object)
+  unfoldable pub verdictBy : ℕ → ℕ → Verdict
+  verdictBy zero p = None
+  verdictBy (suc j) zero = None
+  verdictBy (suc j) (suc i) = Race j i (eventAt es j .step .object)
 
   -- what is found
-  unfoldable pub finding : Finding
-  finding = findingBy racer (partnerOf (racer - 1))
+  unfoldable pub verdict : Verdict
+  verdict = verdictBy racer (partnerOf (racer - 1))
