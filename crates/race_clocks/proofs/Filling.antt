@@ -83,7 +83,7 @@ module _ (n : ℕ) (bytes out : List ℕ) (t waiting : ℕ) (table rows : List �
   step-row = record { within = omega (arith, g .there, g .filling .steps .few, g .filling .sized .table-long) }
 
   pub step-tells : (r : List ℕ) → KnowsAs bytes out t table rows r → RowsBefore n bytes out t waiting r rows
-  step-tells r k = record { row-by-numbers = k .is n (g .filling .known); rows-long = g .filling .sized .rows-long; knowers = g .filling .known .knowers; arrived = g .filling .arrived }
+  step-tells r k = record { row-is = k .is n (g .filling .known); rows-long = g .filling .sized .rows-long; knowers = g .filling .known .knowers; arrived = g .filling .arrived }
 
   pub step-done : (r table′ rows′ : List ℕ) (w : ℕ) → KnowsAs bytes out t table rows r → table′ ≡ sets table (clockWidth * t) r → RowsAfter n bytes out (t + 1) w rows′ → Filling n bytes out (t + 1) w table′ rows′
   step-done r table′ rows′ w k e d =

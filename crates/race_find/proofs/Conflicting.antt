@@ -20,7 +20,7 @@ use Rattle.rules.proofs.order.RaceTest.{touch-accepted, conflicts-says, conflic
 use Rattle.layout.specs.Layout.{rowOf}
 use Rattle.layout.proofs.RowLaws.{get-row}
 use Rattle.race_events.specs.inner.Events.{memoryEvents, shownKind, SeenAs, EventThere}
-use Rattle.race_clocks.specs.inner.Knowers.{knowsRow, Addressed}
+use Rattle.race_clocks.specs.inner.Knowers.{knowsRow, KeepsFields}
 use Rattle.race_clocks.specs.inner.Needed.{Filled}
 use Rattle.race_find.specs.inner.Needed.{PairSought, NumberThere, access, seenConflict, RaceAs}
 
@@ -167,7 +167,7 @@ module _ (bytes out : List ℕ) (i j k p o k′ p′ o′ : ℕ) (table : List �
         go true z = refl
         go false z = absurd (false≢true (sym z))
 
-    addressed : Addressed (eventAt es i)
+    addressed : KeepsFields (eventAt es i)
     addressed = h .step .sound .sound i (touch-accepted (eventAt es i) (eventAt es j .step .object) (conflict .one-touches))
 
     -- the earlier step has a number in the later one's row

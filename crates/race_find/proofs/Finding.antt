@@ -1,6 +1,6 @@
 -- What the two searches leave to show, one law for each way of the code, and `finding-laws`, by which their proofs search. Rests on Conflicting.
 -- Assumes nothing.
-use Prim.Native.Nat.{ℕ, zero, suc, _+_, _-_, _≤_, _<_}
+use Prim.Native.Nat.{ℕ, zero, suc, _+_, _-_, _*_, _≤_, _<_}
 use native.Mathlib.Omega.{arith}
 use native.Mathlib.Decide.{ℕ-discrete}
 use mathlib.Core.Path.{_≡_, refl, sym, ap, _∙_}
@@ -16,14 +16,17 @@ use Rattle.lists.proofs.Tables.{any-at, any-holds}
 use Rattle.lists.proofs.Tabulated.{length-tabulate}
 use Rattle.lists.proofs.Counting.{first-passes, first-stays}
 use Rattle.lists.proofs.Searches.{last-passes, last-bounds, last-skips}
+use Rattle.rules.specs.Refusals.{Step, stepOf}
 use Rattle.rules.specs.Order.{Event, eventAt}
 use Rattle.rules.specs.inner.Searching.{conflicts, races, partnerOf, racer, verdictBy, verdict}
 use Rattle.rules.proofs.order.RaceTest.{conflicts-says}
 use Rattle.step_fields.specs.Records.{stepFrom, stepCount}
+use Rattle.step_fields.specs.inner.Needed.{FieldsAre}
 use Rattle.race_events.specs.inner.Events.{memoryEvent, memoryEvents, SeenAs, EventThere}
 use Rattle.race_events.proofs.Seeing.{event-in}
 use Rattle.race_clocks.specs.inner.Needed.{Filled}
 use Rattle.race_find.specs.Numbers.{asRecords}
+use Rattle.race_find.specs.declared.RaceAnswer.{RaceAnswer}
 use Rattle.race_find.specs.declared.RaceAnswer.the-variants.{Race, None}
 use Rattle.race_find.specs.inner.Needed.{Searchable, RaceThere, StepSought, PairSought, access, RaceAs, PartnerAs, FoundAs}
 use Rattle.race_find.proofs.Conflicting.{touches-seen}
@@ -182,4 +185,10 @@ module _ (bytes out : List ℕ) (steps j : ℕ) (table : List ℕ) (h : NoneBelo
             sym (ap (λ (x : ℕ). asRecords (verdictBy n events x (partnerOf n events (firstOf (length events) (test n) - 1)))) none);
       }
 
-pub ruleset finding-laws = (sought-step-there, no-access, none-yet, before-there, partner-found, none-before, no-partner, none-below-yet, next-sought, pair-there, race-found, none-below, none-found, needs)
+-- the word is the object of the later step's record
+pub pair-said : (bytes : List ℕ) (j partner k p o v : ℕ) → FieldsAre bytes (fileRecordWidth * (j + 1)) k p o v
+    → Race (j + 1) partner o ≡ Race (j + 1) partner (stepFrom (drop (fileRecordWidth * (j + 1)) bytes) .object)
+unfolding stepOf
+pair-said bytes j partner k p o v f = ap (λ (s : Step). Race (j + 1) partner (s .object)) (f .is)
+
+pub ruleset finding-laws = (pair-said, sought-step-there, no-access, none-yet, before-there, partner-found, none-before, no-partner, none-below-yet, next-sought, pair-there, race-found, none-below, none-found, needs)

@@ -4,7 +4,7 @@ use native.Mathlib.Omega.{arith}
 use mathlib.Core.Path.{_≡_, refl, sym, ap, _∙_}
 use mathlib.Core.Bool.{Bool, true, false, false≢true, _&&_, _||_}
 use mathlib.Core.List.{List, [], _++_, append-nil}
-use lib.ListN.{length, take, replicate, length-replicate}
+use lib.ListN.{length, take}
 use lib.Dec.{leb}
 use borrow.Author.Tests.{leb-true}
 use Rattle.limits.specs.Files.{lineLimit}
@@ -23,10 +23,6 @@ use Rattle.races.specs.Promises.{RacesTold}
 use Rattle.races.specs.inner.Going.{RacesAmple, RacesHeld}
 
 -- ---- the start
-
--- an array of zeros is as long as it is declared
-pub array-long : (n : ℕ) → length (replicate {A = ℕ} n 0) ≡ n
-array-long n = length-replicate n 0
 
 -- arrays of these lengths are ample
 pub races-ample : (buffer out : List ℕ) → length buffer ≡ raceBytes → length out ≡ lineLimit → RacesAmple buffer out

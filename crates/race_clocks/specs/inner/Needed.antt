@@ -79,7 +79,7 @@ pub record Waiting (n : ℕ) (es : List Event) (t waiting : ℕ) : Type 0 where
 
 -- all of them know what they knew before the step
 pub record RowsBefore (n : ℕ) (bytes out : List ℕ) (t waiting : ℕ) (row rows : List ℕ) : Type 0 where
-  pub row-by-numbers : row ≡ knowsRow n (memoryEvents bytes out) t
+  pub row-is : row ≡ knowsRow n (memoryEvents bytes out) t
   pub rows-long : length rows ≡ knowerArea
   pub knowers : KnowersHold n (memoryEvents bytes out) t rows
   pub arrived : Waiting n (memoryEvents bytes out) t waiting
