@@ -37,3 +37,4 @@ pub mod word
 pub mod invariant
 pub mod demand
 pub mod runs
+pub mod OlderLines
