@@ -20,6 +20,7 @@ pub mod FewWords
 pub mod Foretold
 pub mod NoValues
 pub mod ForecastCases
+pub mod OlderLines
 pub mod Fetching
 pub mod DemandThree
 pub mod Cases
@@ -37,4 +38,4 @@ pub mod word
 pub mod invariant
 pub mod demand
 pub mod runs
-pub mod OlderLines
+pub mod wider

@@ -17,4 +17,5 @@ pub mod TallyTotals
 pub mod Moved
 pub mod LocksFree
 pub mod Forecast
+pub mod WiderLimits
 pub mod Bench
