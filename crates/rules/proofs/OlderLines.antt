@@ -30,9 +30,9 @@ use Rattle.rules.proofs.wider.Steps.{SameStep, step-same}
 -- ---- openings
 
 -- an opening with more pages than the limits have is refused by 2
-pub refused-before : (lim : Limits) (o : Opening) → lim .pages < o .counts .pages → openingRefusal lim o ≡ 2
+pub too-many-pages : (lim : Limits) (o : Opening) → lim .pages < o .counts .pages → openingRefusal lim o ≡ 2
 unfolding openingRefusal countsInRange inRange
-refused-before lim o h = rw (lt-leb (o .counts .pages) (lim .pages) h) (go (eqb (o .first) 0) (leb 1 (o .counts .processors) && leb (o .counts .processors) (lim .processors)) (leb 1 (o .counts .pages)))
+too-many-pages lim o h = rw (lt-leb (o .counts .pages) (lim .pages) h) (go (eqb (o .first) 0) (leb 1 (o .counts .processors) && leb (o .counts .processors) (lim .processors)) (leb 1 (o .counts .pages)))
   where
     go : (a b c : Bool) → _≡_ {A = ℕ} (cond (a && (b && (c && false) && (leb 1 (o .counts .locks) && leb (o .counts .locks) (lim .locks))) && eqb (o .rest) 0) 0 2) 2
     go false b c = refl
@@ -45,7 +45,7 @@ pub opened-pages : (lim : Limits) (o : Opening) → openingRefusal lim o ≡ 0 �
 opened-pages lim o e = go (decLt (lim .pages) (o .counts .pages))
   where
     go : Dec (lim .pages < o .counts .pages) → o .counts .pages ≤ lim .pages
-    go (yes l) = absurd (omega (arith, refused-before lim o l))
+    go (yes l) = absurd (omega (arith, too-many-pages lim o l))
     go (no l) = omega (arith, l)
 
 -- a place of a table of equal rows
