@@ -77,7 +77,7 @@ module _ (a : Areas) (t : Step) (w v : ℕ) (h : WriteComes a t w v) (left : own
         arith,
         dirty-pages-part (s .counts) (s .pages) (t .processor) (unfold present in h .processor-present),
         total-less (s .counts .pages) (λ j. 0) (λ g. cond (dirtyAt (s .pages) (t .processor) g) 1 0) (pageOfWord mainframe w) (word-on-page w pageWidth (s .counts .pages) (h .word-present)) (λ j l. omega arith)
-        (rw e (omega arith)),
+            (rw e (omega arith)),
       )
 
   case-O : CaseO a t w
@@ -103,30 +103,30 @@ unfolding rightSizes sizesRight clockRows wordRows wordPlaces markPlaces slotSiz
 fixed a = (says, when)
   where
     c : Bool
-    c = eqb (length (a .clocks)) 5256
+    c = eqb (length (a .clocks)) 5512
 
     w : Bool
-    w = eqb (length (a .words)) 8336
+    w = eqb (length (a .words)) 8368
 
     r : Bool
     r = eqb (length (a .records)) 34560
 
     m : Bool
-    m = eqb (length (a .marks)) 174
+    m = eqb (length (a .marks)) 176
 
     says : (c && w && r && m) ≡ true → FixedSizes a
     says e =
         let three = and-left (c && w && r) m e in
         let two = and-left (c && w) r three in
         record {
-          clocks = eqb-true (length (a .clocks)) 5256 (and-left c w two);
-          words = eqb-true (length (a .words)) 8336 (and-right c w two);
+          clocks = eqb-true (length (a .clocks)) 5512 (and-left c w two);
+          words = eqb-true (length (a .words)) 8368 (and-right c w two);
           records = eqb-true (length (a .records)) 34560 (and-right (c && w) r three);
-          marks = eqb-true (length (a .marks)) 174 (and-right (c && w && r) m e);
+          marks = eqb-true (length (a .marks)) 176 (and-right (c && w && r) m e);
         }
 
     when : FixedSizes a → (c && w && r && m) ≡ true
-    when h = rw (eq-eqb (length (a .clocks)) 5256 (h .clocks), eq-eqb (length (a .words)) 8336 (h .words), eq-eqb (length (a .records)) 34560 (h .records), eq-eqb (length (a .marks)) 174 (h .marks)) refl
+    when h = rw (eq-eqb (length (a .clocks)) 5512 (h .clocks), eq-eqb (length (a .words)) 8368 (h .words), eq-eqb (length (a .records)) 34560 (h .records), eq-eqb (length (a .marks)) 176 (h .marks)) refl
 
 at-most : (a : Areas) → rightSizes a ≡ true → AtMost 65536 a
 at-most a e = let h = fixed a .0 e in record { clocks = omega (arith, h .clocks); words = omega (arith, h .words); records = omega (arith, h .records); marks = omega (arith, h .marks) }

@@ -68,10 +68,10 @@ pub record CaseO (a : Areas) (t : Step) (w : ℕ) : Type 0 where
 
 -- "every one of its fixed size": bytes, but for the words of 32 bits
 pub record FixedSizes (a : Areas) : Type 0 where
-  pub clocks : length (a .clocks) ≡ 5256
-  pub words : length (a .words) ≡ 8336
+  pub clocks : length (a .clocks) ≡ 5512
+  pub words : length (a .words) ≡ 8368
   pub records : length (a .records) ≡ 34560
-  pub marks : length (a .marks) ≡ 174
+  pub marks : length (a .marks) ≡ 176
 
 -- "areas of at most 65,536 bytes each": a word is four bytes
 pub record AtMost (most : ℕ) (a : Areas) : Type 0 where
