@@ -11,6 +11,8 @@ const READ: u32 = 1;
 const WRITE: u32 = 2;
 const ACQUIRE: u32 = 3;
 const RELEASE: u32 = 4;
+const ENQUEUE: u32 = 10;
+const DEQUEUE: u32 = 11;
 
 /// Calls timed for each figure, which is their median.
 const CALLS: usize = 10_001;
@@ -21,6 +23,7 @@ fn main() {
     order_tests();
     closes();
     fetches();
+    jobs();
 }
 
 /// A public step is the in-order test and then the step itself.
@@ -74,6 +77,20 @@ fn fetches() {
         let each = fetch / f64::from(pending);
         let note = format!("fetch alone {fetch:.0}, {each:.0} a record");
         print_row(&format!("read, {pending} pending"), whole, &note);
+    }
+}
+
+/// An enqueue and a dequeue with half of the queue full, against a read.
+fn jobs() {
+    let mut state = State::opened();
+    (0..16).for_each(|value| state.take(enqueue(1, value), 0));
+    let read = |state: &mut State| state.go(read(1, 0));
+    let add = |state: &mut State| state.go(enqueue(1, 16));
+    let remove = |state: &mut State| state.go(dequeue(2));
+    let [plain, add, remove] = medians([(&state, &read), (&state, &add), (&state, &remove)]);
+    for (name, time) in [("enqueue", add), ("dequeue", remove)] {
+        let note = format!("{:.0} more than a read", time - plain);
+        print_row(&format!("{name}, 16 jobs waiting"), time, &note);
     }
 }
 
@@ -179,6 +196,14 @@ fn acquire(processor: u32, object: u32) -> Step {
 
 fn release(processor: u32, object: u32) -> Step {
     step(RELEASE, processor, object, 0)
+}
+
+fn enqueue(processor: u32, value: u32) -> Step {
+    step(ENQUEUE, processor, 0, value)
+}
+
+fn dequeue(processor: u32) -> Step {
+    step(DEQUEUE, processor, 0, 0)
 }
 
 fn step(kind: u32, processor: u32, object: u32, value: u32) -> Step {

@@ -25,10 +25,10 @@ extern "C" {
 #endif
 
 /* The lengths of the slices, in elements. */
-#define LUGHTSAVI_CLOCKS 4744   /* uint8_t: vector clocks */
-#define LUGHTSAVI_WORDS 4240    /* uint32_t: each processor's copies of the pages, then the twins, then the tallies */
+#define LUGHTSAVI_CLOCKS 5000   /* uint8_t: vector clocks */
+#define LUGHTSAVI_WORDS 4272    /* uint32_t: each processor's copies of the pages, then the twins, then the tallies, then the jobs' values */
 #define LUGHTSAVI_RECORDS 17280 /* uint8_t: the change records */
-#define LUGHTSAVI_MARKS 110     /* uint8_t: counts, holders, arrived and dirty marks, the lines of waiters */
+#define LUGHTSAVI_MARKS 112     /* uint8_t: counts, holders, arrived and dirty marks, the lines of waiters, the queue's oldest place and jobs */
 #define LUGHTSAVI_OPENING 8     /* uint8_t: 0, processors, pages, locks, 0, 0, 0, 0 */
 #define LUGHTSAVI_ANSWER 4      /* uint32_t: refusal, value, count, words */
 #define LUGHTSAVI_PAGE 32       /* uint32_t: the words of a page */
@@ -38,10 +38,12 @@ extern "C" {
 #define LUGHTSAVI_REFUSED 256
 
 /*
- * The kinds of step. The object is a word (read, write), a lock (acquire, release) or a tally (0 to 15), else 0; only a write and an add to a
- * tally have a value, else 0.
+ * The kinds of step. The object is a word (read, write), a lock (acquire, release) or a tally (0 to 15), else 0; only a write, an add to a
+ * tally and an enqueue have a value, else 0.
  * An acquire of a lock that another processor holds is accepted: the processor waits, and has no other step accepted until a release gives it
  * the lock. A processor that holds a lock must release it before it arrives.
+ * One queue holds up to 32 jobs: an enqueue adds its value with what the processor knows, a dequeue answers the oldest job's value and
+ * learns what its enqueue knew.
  */
 enum lughtsavi_kind {
     LUGHTSAVI_READ = 1,
@@ -51,17 +53,19 @@ enum lughtsavi_kind {
     LUGHTSAVI_ARRIVE = 5,
     LUGHTSAVI_WANT_COLLECTION = 6,
     LUGHTSAVI_TALLY_ADD = 8,
-    LUGHTSAVI_TALLY_READ = 9
+    LUGHTSAVI_TALLY_READ = 9,
+    LUGHTSAVI_ENQUEUE = 10,
+    LUGHTSAVI_DEQUEUE = 11
 };
 
-/* The refusals, by the numbers of documents 01 and 02. Where several apply, the first that a call meets is given; 17 and 18 stand behind 6. */
+/* The refusals, by the numbers of documents 01 and 02. Where several apply, the first that a call meets is given; 17 to 20 stand behind 6. */
 enum lughtsavi_refusal {
     LUGHTSAVI_ACCEPTED = 0,
     LUGHTSAVI_OUT_OF_ORDER = 1,     /* the areas are not in order; for an opening: an area of a wrong size;
                                        for a step also: an answer that has not four words */
     LUGHTSAVI_BAD_OPENING = 2,      /* not eight bytes, first byte not 0, a count out of range (processors 1 to 8, pages 1 to 8,
                                        locks 1 to 16), or bytes 4 to 7 not all 0 */
-    LUGHTSAVI_UNKNOWN_KIND = 3,     /* kind not 1 to 6, 8 or 9 */
+    LUGHTSAVI_UNKNOWN_KIND = 3,     /* kind not 1 to 6 or 8 to 11 */
     LUGHTSAVI_NO_PROCESSOR = 4,     /* processor absent */
     LUGHTSAVI_NO_OBJECT = 5,        /* word, lock or tally absent, or an unused field not 0 */
     LUGHTSAVI_HAS_ARRIVED = 6,      /* the processor has arrived, and the round is not complete */
@@ -74,7 +78,9 @@ enum lughtsavi_refusal {
     LUGHTSAVI_DIFF_ROOM = 13,       /* the destination is shorter than the diff */
     LUGHTSAVI_PAGE_LENGTH = 14,     /* a page lent is not 32 words */
     LUGHTSAVI_WAITS = 17,           /* the processor waits for a lock */
-    LUGHTSAVI_HOLDS_LOCK = 18       /* arrive: the processor holds a lock */
+    LUGHTSAVI_HOLDS_LOCK = 18,      /* arrive: the processor holds a lock */
+    LUGHTSAVI_QUEUE_FULL = 19,      /* enqueue: 32 jobs wait */
+    LUGHTSAVI_QUEUE_EMPTY = 20      /* dequeue: no job waits */
 };
 
 /*
@@ -103,9 +109,9 @@ bool lughtsavi_in_order(
 /*
  * One step of a processor. Processors are numbered from 1; words, locks and tallies from 0.
  * Answers 0 where the step was done: `answer` is 0, value, count, words, and the areas hold the state after the step. Only a read, of a word
- * or of a tally, has a value other than 0; the count is the change records that the step applied to copies, the words are those that these
- * records set, all the words of each, a word that had its value already too.
- * Refuses by 1, then 3 to 6, 17, 18, 7 to 10: it returns the refusal, `answer` is refusal, 0, 0, 0, and the areas are left untouched.
+ * or of a tally, and a dequeue have a value other than 0; the count is the change records that the step applied to copies, the words are those
+ * that these records set, all the words of each, a word that had its value already too.
+ * Refuses by 1, then 3 to 6, 17 to 20, 7 to 10: it returns the refusal, `answer` is refusal, 0, 0, 0, and the areas are left untouched.
  * Where `answer` has not four words it returns 1, and `answer` too is left untouched.
  */
 uint8_t lughtsavi_step(

@@ -6,19 +6,21 @@ use crate::batons::{baton_turn, deal_batons, rest_batons, use_baton};
 use crate::generate::{
     deal_words, dealt_turn, guarded_turn, hot_word, no_room, nonsense, out_of_turn, read_or_write,
 };
+use crate::jobs::queue_tide;
 use crate::rng::Rng;
 use crate::script::Script;
 use crate::triggers::tally_turn;
 
 /// blend: each stretch ends with a round of all cards. What was done before
 /// the round is ordered before all that comes after it, so there is no race as
-/// long as there is none within a stretch. Tallies are used in every stretch.
+/// long as there is none within a stretch. Tallies and jobs are used in every
+/// stretch.
 pub fn blend(rng: Rng, steps: usize) -> Vec<u8> {
     blended(rng, steps, true)
 }
 
-/// quiet: a blend without tallies in which nobody asks for a lock that another
-/// card holds. So no card waits, and no line printed depends on waiting.
+/// quiet: a blend without tallies and jobs in which nobody asks for a lock that
+/// another card holds. So no card waits, and no line printed depends on waiting.
 pub fn quiet(rng: Rng, steps: usize) -> Vec<u8> {
     blended(rng, steps, false)
 }
@@ -26,7 +28,7 @@ pub fn quiet(rng: Rng, steps: usize) -> Vec<u8> {
 fn blended(mut rng: Rng, steps: usize, whole: bool) -> Vec<u8> {
     let counts = [rng.within(3, 8), rng.within(2, 8), rng.within(2, 16)];
     let mut s = Script::new(rng, counts, steps);
-    (s.waiting, s.tallies) = (whole, whole);
+    (s.waiting, s.mixed_in) = (whole, whole);
     while !s.full() {
         match s.rng.below(4) {
             0 => stretch(&mut s, &mut guarded_turn),
@@ -54,8 +56,11 @@ fn turns(s: &mut Script, turn: &mut dyn FnMut(&mut Script)) {
         if s.rng.percent(2) {
             out_of_turn(s);
         }
-        if s.tallies && s.rng.percent(15) {
+        if s.mixed_in && s.rng.percent(15) {
             tally_turn(s);
+        }
+        if s.mixed_in && s.rng.percent(15) {
+            queue_tide(s);
         }
     }
 }

@@ -3,7 +3,7 @@
 
 use crate::forecast_lines::{Forecast, Line};
 use crate::model::{Answer, Step, ACQUIRE, ARRIVE, READ, RELEASE, WANT, WRITE};
-use crate::model::{TALLY_ADD, TALLY_READ};
+use crate::model::{DEQUEUE, ENQUEUE, TALLY_ADD, TALLY_READ};
 use crate::moved::Moved;
 use crate::space_figures::figures;
 use crate::stepfile::Printed;
@@ -58,6 +58,15 @@ pub fn add(card: u8, tally: u16, value: u32) -> Step {
 /// Reads a tally.
 pub fn look(card: u8, tally: u16) -> Step {
     step(TALLY_READ, card, tally, 0)
+}
+
+/// Enqueues a job.
+pub fn enqueue(card: u8, value: u32) -> Step {
+    step(ENQUEUE, card, 0, value)
+}
+
+pub fn dequeue(card: u8) -> Step {
+    step(DEQUEUE, card, 0, 0)
 }
 
 pub fn any(kind: u8, card: u8, object: u16, value: u32) -> Step {

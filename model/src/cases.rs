@@ -2,14 +2,17 @@
 //! those of stores that alter nothing in `equal_cases.rs`, those of tallies in
 //! `tally_cases.rs`, those of skipped records in `skip_cases.rs`, those of words
 //! set in `words_cases.rs`, those of holders that arrive in `holder_cases.rs`,
-//! those of the space forecast in `space_cases.rs`. Each expected answer is written
-//! by hand from documents 01 and 02; `model make-files` refuses to write a file
-//! whose lines the model does not print.
+//! those of the queue in `queue_cases.rs` and `queue_refusal_cases.rs`, those of the
+//! space forecast in `space_cases.rs`. Each expected answer is written by hand from
+//! documents 01 and 02; `model make-files` refuses to write a file whose lines the
+//! model does not print.
 
 use crate::case::{acquire, any, arrive, read, release, want, write, Case};
 use crate::equal_cases::equal_cases;
 use crate::holder_cases::holder_cases;
 use crate::model::Step;
+use crate::queue_cases::queue_cases;
+use crate::queue_refusal_cases::queue_refusal_cases;
 use crate::skip_cases::skip_cases;
 use crate::space_cases::space_cases;
 use crate::tally_cases::tally_cases;
@@ -30,6 +33,8 @@ pub fn all_cases() -> Vec<Case> {
     cases.extend(words_cases());
     cases.extend(holder_cases());
     cases.extend(space_cases());
+    cases.extend(queue_cases());
+    cases.extend(queue_refusal_cases());
     cases
 }
 

@@ -3,11 +3,13 @@
 
 use crate::fault::{Fault, FAULTS};
 use crate::generate::PROFILES;
-use crate::model::{Step, ACQUIRE, ARRIVE, READ, RELEASE, TALLY_ADD, TALLY_READ, WRITE};
+use crate::model::{Step, ACQUIRE, ARRIVE, DEQUEUE, ENQUEUE, READ, RELEASE, WRITE};
+use crate::model::{TALLY_ADD, TALLY_READ};
 use crate::options::Options;
 use crate::plan::{plan, Source};
+use crate::queue::MOST_JOBS;
 use crate::stepfile::{record_at, run, Line, Printed, REFUSALS};
-use std::collections::BTreeMap;
+use std::collections::{BTreeMap, VecDeque};
 use std::thread;
 
 /// What was seen in some files.
@@ -47,6 +49,12 @@ pub struct Seen {
     pub adds: usize,
     pub looks: usize,
     pub look_values: usize,
+    /// Accepted enqueues, dequeues, and those of the dequeues that return a job
+    /// which another one than the card enqueued; enqueues that fill the queue.
+    pub enqueues: usize,
+    pub dequeues: usize,
+    pub jobs_of_others: usize,
+    pub filled: usize,
     /// Reads, writes and collections that skip a record, and those of the
     /// reads and writes that apply none.
     pub skipping_reads: usize,
@@ -54,7 +62,25 @@ pub struct Seen {
     pub skipping_collections: usize,
     pub all_skipped: usize,
     /// Files with other lines under each fault.
-    pub faults: [usize; FAULTS.len()],
+    pub faults: ByFault,
+}
+
+/// A number for each fault.
+#[derive(Clone, Copy)]
+pub struct ByFault(pub [usize; FAULTS.len()]);
+
+impl Default for ByFault {
+    fn default() -> ByFault {
+        ByFault([0; FAULTS.len()])
+    }
+}
+
+/// What is kept of the accepted steps so far: for each lock how many there are,
+/// its holder and those that wait for it, and who enqueued the jobs that wait.
+#[derive(Default)]
+struct Turns {
+    locks: BTreeMap<u16, usize>,
+    jobs: VecDeque<u8>,
 }
 
 impl Seen {
@@ -64,9 +90,9 @@ impl Seen {
         self.add_opening(file, lines);
         self.add_words(printed);
         let before = self.refusals;
-        let mut in_turn = BTreeMap::new();
+        let mut turns = Turns::default();
         for line in lines {
-            self.add_line(file, line, &mut in_turn);
+            self.add_line(file, line, &mut turns);
         }
         let rose = |refusal: usize| self.refusals[refusal] > before[refusal];
         self.full_twice += usize::from(rose(9) && rose(10));
@@ -83,8 +109,7 @@ impl Seen {
         self.sixteen_locks += usize::from(locks == 16);
     }
 
-    /// `in_turn` counts for each lock its holder and those that wait for it.
-    fn add_line(&mut self, file: &[u8], line: &Line, in_turn: &mut BTreeMap<u16, usize>) {
+    fn add_line(&mut self, file: &[u8], line: &Line, turns: &mut Turns) {
         self.lines += 1;
         self.refusals[line.refusal as usize] += 1;
         if line.number == 0 || line.refusal != 0 {
@@ -103,14 +128,16 @@ impl Seen {
                 self.read_large_values += usize::from(line.value > 0xffff);
             }
             WRITE => self.write_counts += counted,
-            ACQUIRE => self.add_acquire(in_turn.entry(step.object).or_default()),
-            RELEASE => self.add_release(in_turn.entry(step.object).or_default()),
+            ACQUIRE => self.add_acquire(turns.locks.entry(step.object).or_default()),
+            RELEASE => self.add_release(turns.locks.entry(step.object).or_default()),
             ARRIVE => self.collections += counted,
             TALLY_ADD => self.adds += 1,
             TALLY_READ => {
                 self.looks += 1;
                 self.look_values += usize::from(line.value != 0);
             }
+            ENQUEUE => self.add_enqueue(step.card, &mut turns.jobs),
+            DEQUEUE => self.add_dequeue(step.card, &mut turns.jobs),
             _ => {}
         }
     }
@@ -138,6 +165,18 @@ impl Seen {
         *in_turn -= 1;
     }
 
+    fn add_enqueue(&mut self, card: u8, jobs: &mut VecDeque<u8>) {
+        jobs.push_back(card);
+        self.enqueues += 1;
+        self.filled += usize::from(jobs.len() == MOST_JOBS);
+    }
+
+    fn add_dequeue(&mut self, card: u8, jobs: &mut VecDeque<u8>) {
+        let by = jobs.pop_front();
+        self.dequeues += 1;
+        self.jobs_of_others += usize::from(by != Some(card));
+    }
+
     /// A model that counts all pending records has larger counts where some are
     /// skipped, and all else the same.
     pub fn add_skips(&mut self, file: &[u8], printed: &Printed) {
@@ -158,7 +197,7 @@ impl Seen {
     }
 
     pub fn add_faults(&mut self, file: &[u8], right: &Printed) {
-        for (files, (_, fault)) in self.faults.iter_mut().zip(FAULTS) {
+        for (files, (_, fault)) in self.faults.0.iter_mut().zip(FAULTS) {
             *files += usize::from(run(file, Some(fault)) != *right);
         }
     }
@@ -229,7 +268,7 @@ fn rows() -> Vec<Row> {
         row("lines of records", |s| s.lines),
         row("  refusal 0", |s| s.refusals[0]),
     ];
-    for refusal in (2..=10).chain([15, 16, 17, 18]) {
+    for refusal in (2..=10).chain(15..=20) {
         let name = format!("  refusal {refusal}");
         rows.push(row(&name, move |s| s.refusals[refusal]));
     }
@@ -253,10 +292,14 @@ fn rows() -> Vec<Row> {
         row("adds to tallies accepted", |s| s.adds),
         row("reads of tallies accepted", |s| s.looks),
         row("  value not 0", |s| s.look_values),
+        row("enqueues accepted", |s| s.enqueues),
+        row("  that fill the queue", |s| s.filled),
+        row("dequeues accepted", |s| s.dequeues),
+        row("  of another card's job", |s| s.jobs_of_others),
     ]);
     for (at, (fault, _)) in FAULTS.iter().enumerate() {
         let name = format!("files where {fault} shows");
-        rows.push(row(&name, move |s| s.faults[at]));
+        rows.push(row(&name, move |s| s.faults.0[at]));
     }
     rows
 }

@@ -1,7 +1,7 @@
 //! The names of the switches of `model run --fault NAME`: document 01's
 //! "Faults that pass on a two-card bench", one against request L2 of document
-//! 02, five against request L4, six against request L5, seven against request L6
-//! and four against request L7.
+//! 02, five against request L4, six against request L5, seven against request L6,
+//! four against request L7 and fifteen against request L9.
 
 #[derive(Clone, Copy, PartialEq, Eq, Debug)]
 pub enum Fault {
@@ -71,9 +71,41 @@ pub enum Fault {
     /// Against L7, "18, an arrival by a holder, after 17": it comes before 5, 6
     /// and 17.
     HolderFirst,
+    /// Against L9, "first in first out": the newest job is removed.
+    JobNewest,
+    /// Against L9, "learns its clock": a dequeue learns nothing.
+    JobSilent,
+    /// Against L9: a job's clock is that before the closing.
+    JobEarly,
+    /// Against L9: a job carries only its card's own intervals.
+    JobOwn,
+    /// Against L9: a dequeue learns before it closes.
+    JobLearnFirst,
+    /// Against L9, "kind 11 closes": it does not.
+    DequeueOpen,
+    /// Against L9, "and of itself no other": the jobs that wait tell what those
+    /// removed before them told.
+    JobsHeard,
+    /// Against L9, "and of itself no other": a dequeue learns the clocks of all
+    /// jobs that wait.
+    JobsAll,
+    /// Against L9: a collecting round keeps the clocks of jobs.
+    JobClocksKept,
+    /// Against L9: a collecting round takes the jobs away.
+    JobsCollected,
+    /// Against L9, "19, enqueue with 32 jobs waiting": 31 will do.
+    FullAt31,
+    /// Against L9: a job more than 32 is taken.
+    FullAt33,
+    /// Against L9, "space is used again after each removal": it is not.
+    FullForGood,
+    /// Against L9, "both after 18": 19 and 20 come before 5, 6 and 17.
+    QueueFirst,
+    /// Against L9, "20, dequeue with none": it answers 0.
+    EmptyPasses,
 }
 
-pub const FAULTS: [(&str, Fault); 29] = [
+pub const FAULTS: [(&str, Fault); 44] = [
     ("lock-own", Fault::LockOwn),
     ("by-card", Fault::ByCard),
     ("join", Fault::Join),
@@ -103,6 +135,21 @@ pub const FAULTS: [(&str, Fault); 29] = [
     ("18-lock-0", Fault::LockZeroAlone),
     ("18-awaited", Fault::AwaitedAlone),
     ("18-first", Fault::HolderFirst),
+    ("job-newest", Fault::JobNewest),
+    ("job-silent", Fault::JobSilent),
+    ("job-early", Fault::JobEarly),
+    ("job-own", Fault::JobOwn),
+    ("job-first", Fault::JobLearnFirst),
+    ("job-open", Fault::DequeueOpen),
+    ("job-heard", Fault::JobsHeard),
+    ("job-all", Fault::JobsAll),
+    ("job-clocks", Fault::JobClocksKept),
+    ("job-gone", Fault::JobsCollected),
+    ("19-at-31", Fault::FullAt31),
+    ("19-at-33", Fault::FullAt33),
+    ("19-for-good", Fault::FullForGood),
+    ("19-first", Fault::QueueFirst),
+    ("20-never", Fault::EmptyPasses),
 ];
 
 pub fn by_name(name: &str) -> Option<Fault> {

@@ -66,8 +66,8 @@ stopped at 2, 15 or 16; that of a forecast, `most` and a number, always. The
 texts are written by `tests/steps/store`, the others by `model make-files`; each
 line was set down by hand from documents 01 and 02 (model/src/cases.rs,
 wait_cases.rs, equal_cases.rs, tally_cases.rs, skip_cases.rs, words_cases.rs,
-holder_cases.rs, space_cases.rs, and space_figures.rs for the forecasts) and
-agrees with the second model.
+holder_cases.rs, space_cases.rs, queue_cases.rs, queue_refusal_cases.rs, and
+space_figures.rs for the forecasts) and agrees with the second model.
 
 ";
 
@@ -155,7 +155,7 @@ fn check_forecasts(dir: &Path) -> Result<usize, String> {
 }
 
 /// What a fault does to a file: nothing, other lines, or lines that break
-/// demand 3, or what is due of tallies, as well.
+/// demand 3, or what is due of tallies and jobs, as well.
 pub fn effect(file: &[u8], right: &Printed, fault: Fault) -> &'static str {
     let faulty = run(file, Some(fault));
     let broken = judge(file, &faulty).is_ok_and(|verdict| !verdict.broken.is_empty());
@@ -191,7 +191,7 @@ pub fn fault_table(dir: &Path) -> Result<String, String> {
 const FAULT_KEY: &str = "
 .      the lines are the right ones
 lines  the lines differ
-judge  the lines differ and break demand 3 or what is due of tallies
+judge  the lines differ and break demand 3 or what is due of tallies and jobs
 
 ";
 

@@ -3,7 +3,7 @@
 //! value." The run is that of the full model.
 
 use crate::forecast_lines::{Figures, Forecast, Line};
-use crate::model::{Model, TALLY_ADD, WRITE};
+use crate::model::{Model, ENQUEUE, TALLY_ADD, WRITE};
 use crate::stepfile::run_watched;
 
 /// The numbers and refusals of the run's lines, with what is counted in its state
@@ -29,11 +29,11 @@ fn figures_of(model: &Model) -> Figures {
     }
 }
 
-/// The file with 0 for each value that is stored or added to a tally.
+/// The file with 0 for each value that is stored, added to a tally or enqueued.
 pub fn without_values(file: &[u8]) -> Vec<u8> {
     let mut file = file.to_vec();
     for step in file.chunks_exact_mut(8).skip(1) {
-        if matches!(step[0], WRITE | TALLY_ADD) {
+        if matches!(step[0], WRITE | TALLY_ADD | ENQUEUE) {
             step[4..].fill(0);
         }
     }

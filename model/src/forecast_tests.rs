@@ -35,7 +35,7 @@ fn the_figures_set_down_are_those_found() {
         assert_eq!(forecast(&case.file, None), due, "{}", case.name);
         compared += 1;
     }
-    assert_eq!(compared, 25);
+    assert_eq!(compared, 31);
 }
 
 /// Listing A, as `tests/files` has it.
@@ -61,16 +61,21 @@ fn it_is_what_the_run_has() {
     }
 }
 
-/// Each run of five steps of two cards with one page and one lock, reads left
-/// out.
+/// Each run of five steps of two cards with one page and one lock, reads and the
+/// queue left out, and each of four steps with the queue.
 #[test]
 fn it_is_what_every_short_run_has() {
+    is_what_every_run_has(5, &[2, 3, 4, 5, 6]);
+    is_what_every_run_has(4, &[2, 3, 4, 5, 6, 10, 11]);
+}
+
+fn is_what_every_run_has(length: u32, kinds: &[u8]) {
     let steps: Vec<Step> = (1..=2)
-        .flat_map(|card| (2..=6).map(move |kind| any(kind, card, 0, 0)))
+        .flat_map(|card| kinds.iter().map(move |kind| any(*kind, card, 0, 0)))
         .collect();
-    for number in 0..steps.len().pow(5) {
+    for number in 0..steps.len().pow(length) {
         let mut file = vec![0, 2, 1, 1, 0, 0, 0, 0];
-        for place in 0..5 {
+        for place in 0..length {
             let step = steps[number / steps.len().pow(place) % steps.len()];
             file.extend(step.to_bytes());
         }
@@ -92,12 +97,14 @@ fn values_do_not_matter() {
 }
 
 #[test]
-fn values_are_taken_out_of_stores_and_adds_alone() {
+fn values_are_taken_out_of_stores_adds_and_jobs_alone() {
     let steps = [
         write(1, 3, 700),
         any(8, 2, 1, 5),
         any(1, 1, 0, 9),
         any(8, 9, 9, 9),
+        any(10, 2, 1, 6),
+        any(11, 2, 0, 7),
     ];
     let mut file = vec![8, 2, 1, 1, 7, 7, 7, 7];
     file.extend(steps.iter().flat_map(|step| step.to_bytes()));
@@ -109,6 +116,8 @@ fn values_are_taken_out_of_stores_and_adds_alone() {
         any(8, 2, 1, 0),
         any(1, 1, 0, 9),
         any(8, 9, 9, 0),
+        any(10, 2, 1, 0),
+        any(11, 2, 0, 7),
     ];
     for (number, step) in due.iter().enumerate() {
         assert_eq!(
@@ -116,7 +125,7 @@ fn values_are_taken_out_of_stores_and_adds_alone() {
             Some(step.to_bytes())
         );
     }
-    assert_eq!(bare[40..], file[40..]);
+    assert_eq!(bare[56..], file[56..]);
 }
 
 /// A file with one record standing and one dirty page after record 3.

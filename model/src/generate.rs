@@ -3,16 +3,19 @@
 
 use crate::batons::chains;
 use crate::blend::{blend, quiet};
+use crate::jobs::{jobs, queue_turn};
 use crate::model::{Answer, ACQUIRE, ARRIVE, READ, RELEASE, WANT, WRITE};
 use crate::rng::Rng;
 use crate::script::Script;
 use crate::triggers::{tally_turn, triggers};
 
 /// The profiles; each is described at its function. Tallies are used in racy,
-/// damaged, blend and triggers. The others are those of the benchmark, whose
-/// files change only where a rule of locks or barriers asks for it.
-pub const PROFILES: [&str; 10] = [
+/// damaged, blend and triggers, the queue in racy, damaged, blend and jobs. The
+/// others are those of the benchmark, whose files change only where a rule of
+/// locks or barriers asks for it.
+pub const PROFILES: [&str; 11] = [
     "mixed", "locks", "rounds", "soak", "racy", "damaged", "chains", "blend", "quiet", "triggers",
+    "jobs",
 ];
 
 /// A file of an opening and `steps` step records (damaged ones may differ).
@@ -29,6 +32,7 @@ pub fn generate(profile: &str, seed: u64, steps: usize) -> Option<Vec<u8>> {
         "blend" => Some(blend(rng, steps)),
         "quiet" => Some(quiet(rng, steps)),
         "triggers" => Some(triggers(rng, steps)),
+        "jobs" => Some(jobs(rng, steps)),
         _ => None,
     }
 }
@@ -285,7 +289,8 @@ fn soak_turn(s: &mut Script) {
     read_or_write(s, card, word, 60);
 }
 
-/// racy: few words, many cards, little order, and tallies, which order nothing.
+/// racy: few words, many cards, little order, jobs among it, and tallies, which
+/// order nothing.
 fn racy(mut rng: Rng, steps: usize) -> Vec<u8> {
     let counts = [rng.within(2, 8), rng.within(1, 2), rng.within(1, 4)];
     let mut s = Script::new(rng, counts, steps);
@@ -301,10 +306,11 @@ fn racy_turn(s: &mut Script, words: &[u16]) {
     let word = s.rng.pick(words);
     match s.rng.below(100) {
         0..=29 => s.read(card, word),
-        30..=64 => s.write(card, word),
-        65..=76 => return s.ask(card),
-        77..=88 => s.release_some(card),
-        89..=94 => return tally_turn(s),
+        30..=62 => s.write(card, word),
+        63..=71 => return s.ask(card),
+        72..=80 => s.release_some(card),
+        81..=83 => return tally_turn(s),
+        84..=94 => return queue_turn(s),
         95..=96 => return out_of_turn(s),
         97..=98 => s.arrive(card),
         _ => s.want(),
@@ -315,7 +321,7 @@ fn racy_turn(s: &mut Script, words: &[u16]) {
 /// cut or a bad opening lies in the last fifth: a damaged plan soon hangs.
 fn damaged(mut rng: Rng, seed: u64, steps: usize) -> Vec<u8> {
     let sound = rng.pick(&[
-        "mixed", "locks", "rounds", "soak", "racy", "chains", "triggers",
+        "mixed", "locks", "rounds", "soak", "racy", "chains", "triggers", "jobs",
     ]);
     let mut file = generate(sound, seed, steps).unwrap_or_default();
     let last_fifth = 8 * (1 + steps * 4 / 5);
@@ -383,7 +389,7 @@ fn mix_in_noise(rng: &mut Rng, records: &mut [u8]) {
 fn spoil_fields(rng: &mut Rng, records: &mut [u8]) {
     for record in records.chunks_mut(8) {
         match rng.below(60) {
-            0 => record[0] = rng.pick(&[0, 6, 7, 8, 9, 10, 255]),
+            0 => record[0] = rng.pick(&[0, 6, 7, 8, 9, 10, 11, 12, 255]),
             1 => record[1] = rng.pick(&[0, 8, 9, 255]),
             2 => record[2] = rng.pick(&[15, 16, 31, 32, 255]),
             3 => record[3] = rng.pick(&[0, 1, 255]),
@@ -397,7 +403,7 @@ fn spoil_fields(rng: &mut Rng, records: &mut [u8]) {
 fn only_noise(rng: &mut Rng, records: &mut [u8]) {
     for record in records.chunks_mut(8) {
         record.fill(0);
-        record[0] = rng.below(11) as u8;
+        record[0] = rng.below(13) as u8;
         record[1] = rng.below(9) as u8;
         record[2] = rng.below(20) as u8;
         record[4] = rng.below(2) as u8;

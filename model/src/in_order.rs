@@ -1,11 +1,12 @@
-//! "A state is in order when": document 01's list, and what requests L1, L4 and
-//! L7 of document 02 add of lines, tallies and holders, asked of the model's state as a
-//! check on the model itself. What the model's types exclude (sizes, absent
+//! "A state is in order when": document 01's list, and what requests L1, L4, L7
+//! and L9 of document 02 add of lines, tallies, holders and jobs, asked of the model's
+//! state as a check on the model itself. What the model's types exclude (sizes, absent
 //! cards and pages) is not asked.
 
 use crate::clock::{IntervalId, ProcId, VectorClock};
 use crate::model::{Lock, Model, Processor, Record, Tally};
 use crate::model::{MOST_INTERVALS, MOST_RECORDS, TALLIES};
+use crate::queue::MOST_JOBS;
 
 /// The first clause that does not hold, if any.
 pub fn broken_clause(model: &Model) -> Option<&'static str> {
@@ -28,6 +29,7 @@ pub fn broken_clause(model: &Model) -> Option<&'static str> {
         (waiters_not_holders(model), "no waiter that holds the lock"),
         (tallies_fit(model), "16 tallies, adds of present cards"),
         (holders_not_arrived(model), "no arrived card holds a lock"),
+        (jobs_fit(model), "at most 32 jobs"),
     ];
     let broken = clauses.iter().find(|(holds, _)| !holds);
     broken.map(|(_, clause)| *clause)
@@ -51,6 +53,7 @@ fn all_clocks(model: &Model) -> Vec<&VectorClock> {
     let mut clocks = vec![&model.barrier.clock];
     clocks.extend(model.intervals.values());
     clocks.extend(model.locks.values().map(|lock| &lock.clock));
+    clocks.extend(model.queue.jobs.iter().map(|job| &job.clock));
     for processor in model.processors.values() {
         clocks.push(&processor.clock);
         clocks.extend(processor.pages.values().map(|page| &page.applied));
@@ -59,7 +62,7 @@ fn all_clocks(model: &Model) -> Vec<&VectorClock> {
 }
 
 /// "no clock entry exceeds that card's own entry in its own clock"; entries
-/// for absent cards are 0.
+/// for absent cards are 0. L9: the jobs' "clocks keep the bound of every clock".
 fn entries_known(model: &Model) -> bool {
     let own = |card: ProcId| match model.processors.get(&card) {
         Some(processor) => processor.clock.entry(card),
@@ -164,4 +167,9 @@ fn waiters_not_holders(model: &Model) -> bool {
 fn tallies_fit(model: &Model) -> bool {
     let fits = |tally: &Tally| tally.since.keys().eq(model.processors.keys());
     model.tallies.len() == usize::from(TALLIES) && model.tallies.values().all(fits)
+}
+
+/// L9: "A state in order has at most 32 jobs".
+fn jobs_fit(model: &Model) -> bool {
+    model.queue.jobs.len() <= MOST_JOBS
 }

@@ -6,6 +6,9 @@
 //! may come from the model or from any other program. Document 02's request
 //! L1 adds the order of a release before what the waiter that it serves does
 //! next; which waiter that is, is counted off from the accepted steps too.
+//! Request L9 adds the order of an enqueue before the dequeue that returns its
+//! job, which is counted off as well; what the dequeue must answer, and when the
+//! queue is full or empty, is in `queue_judge.rs`.
 //! Tallies are no words: they order nothing, and what a read of one must answer
 //! is in `tally_judge.rs`. Of the last line the judge asks whether it is due, and
 //! whether the records applied can have set so many words. That nobody arrives
@@ -17,10 +20,11 @@
 
 use crate::arrival_judge::arrivals_fit;
 use crate::diff::PAGE_WORDS;
-use crate::model::{Step, ACQUIRE, ARRIVE, READ, RELEASE, TALLY_READ, WRITE};
+use crate::model::{Step, ACQUIRE, ARRIVE, DEQUEUE, ENQUEUE, READ, RELEASE, TALLY_READ, WRITE};
+use crate::queue_judge::{job_due, queue_fits, returned_at, Waiting};
 use crate::stepfile::{record_at, stops, Line, Printed};
 use crate::tally_judge::{due_by_places, Totals};
-use std::collections::{BTreeMap, BTreeSet};
+use std::collections::{BTreeMap, BTreeSet, VecDeque};
 
 /// Lists up to this many accepted steps are judged both ways.
 const SHORT: usize = 2500;
@@ -48,15 +52,17 @@ pub struct Verdict {
     pub strong_written: usize,
     /// Reads of tallies; each has one value that is due.
     pub tally_reads: usize,
+    /// Dequeues; each has one value that is due.
+    pub dequeues: usize,
     pub broken: Vec<Broken>,
 }
 
-/// A read that breaks demand 3, or a read of a tally with another value than
-/// the one that is due.
+/// A read that breaks demand 3, or a read of a tally or a dequeue with another
+/// value than the one that is due.
 #[derive(Clone, Debug, PartialEq, Eq)]
 pub struct Broken {
     pub number: usize,
-    /// The word or the tally.
+    /// The word or the tally; 0 for a dequeue.
     pub object: u16,
     pub answered: u32,
     pub rule: Rule,
@@ -68,25 +74,30 @@ pub enum Rule {
     Strong(u32),
     Weak,
     Tally(u32),
+    Job(u32),
 }
 
 impl Broken {
     pub fn text(&self) -> String {
-        let (what, rule) = match self.rule {
-            Rule::Strong(due) => ("word", format!("strong half: {due} is due")),
-            Rule::Weak => {
-                let rule = "weak half: neither 0 nor a value written before";
-                ("word", rule.to_string())
-            }
-            Rule::Tally(due) => ("tally", format!("{due} is due")),
-        };
         let Broken {
             number,
             object,
             answered,
-            ..
+            rule,
         } = self;
-        format!("record {number}: read of {what} {object} answered {answered}; {rule}")
+        let (what, rule) = match rule {
+            Rule::Strong(due) => {
+                let rule = format!("strong half: {due} is due");
+                (format!("read of word {object}"), rule)
+            }
+            Rule::Weak => {
+                let rule = "weak half: neither 0 nor a value written before";
+                (format!("read of word {object}"), rule.to_string())
+            }
+            Rule::Tally(due) => (format!("read of tally {object}"), format!("{due} is due")),
+            Rule::Job(due) => ("dequeue".to_string(), format!("{due} is due")),
+        };
+        format!("record {number}: {what} answered {answered}; {rule}")
     }
 }
 
@@ -123,6 +134,13 @@ impl Verdict {
         }
     }
 
+    fn take_job(&mut self, dequeue: &Accepted, due: u32) {
+        self.dequeues += 1;
+        if dequeue.answered != due {
+            self.add_broken(dequeue, Rule::Job(due));
+        }
+    }
+
     fn add_broken(&mut self, read: &Accepted, rule: Rule) {
         self.broken.push(Broken {
             number: read.number,
@@ -138,6 +156,7 @@ pub fn judge(file: &[u8], printed: &Printed) -> Result<Verdict, String> {
     let (cards, list) = accepted_steps(file, &printed.lines)?;
     words_fit(printed)?;
     arrivals_fit(file, &printed.lines)?;
+    queue_fits(file, &printed.lines)?;
     let verdict = by_clocks(cards, &list);
     if list.len() <= SHORT && by_relation(cards, &list) != verdict {
         return Err("the two judges differ".to_string());
@@ -287,10 +306,22 @@ pub fn grants(file: &[u8], printed: &Printed) -> Result<Vec<(usize, u8)>, String
         .collect())
 }
 
+/// The enqueues whose jobs are returned, by record number, with their dequeues.
+#[cfg(test)]
+pub fn jobs_returned(file: &[u8], printed: &Printed) -> Result<Vec<(usize, usize)>, String> {
+    let (_, list) = accepted_steps(file, &printed.lines)?;
+    let returned = returned_at(&list).into_iter().enumerate();
+    let number = |place: usize| list[place].number;
+    let pair = |(place, dequeue): (usize, Option<usize>)| Some((number(place), number(dequeue?)));
+    Ok(returned.filter_map(pair).collect())
+}
+
 /// What makes one step directly before another, beside the steps themselves.
 pub struct Ties {
     pub ends: Vec<Option<usize>>,
     pub served: Vec<Option<u8>>,
+    /// For each enqueue the dequeue that returns its job.
+    pub returned: Vec<Option<usize>>,
 }
 
 impl Ties {
@@ -298,6 +329,7 @@ impl Ties {
         Ties {
             ends: round_ends(cards, list),
             served: served_cards(list),
+            returned: returned_at(list),
         }
     }
 }
@@ -305,15 +337,17 @@ impl Ties {
 /// Whether the step at `s` is before the later one at `t` without chaining:
 /// "a card's steps in their order; each release before every later acquire of
 /// that lock; every arrival of a completed round before every step any card
-/// takes after that round's last arrival"; and L1's "the release precedes the
-/// waiter's next step".
+/// takes after that round's last arrival"; L1's "the release precedes the
+/// waiter's next step"; and L9's "An enqueue precedes ... the dequeue that returns
+/// its job, and of itself no other."
 pub fn directly_before(list: &[Accepted], ties: &Ties, s: usize, t: usize) -> bool {
     let (first, second) = (list[s].step, list[t].step);
     let same_card = first.card == second.card;
     let by_lock = first.kind == RELEASE && second.kind == ACQUIRE && first.object == second.object;
     let by_round = ties.ends[s].is_some_and(|end| end < t);
     let by_grant = ties.served[s] == Some(second.card);
-    same_card || by_lock || by_round || by_grant
+    let by_job = ties.returned[s] == Some(t);
+    same_card || by_lock || by_round || by_grant || by_job
 }
 
 /// "and what follows by chaining": for each step the set of those before it.
@@ -335,7 +369,7 @@ fn happens_before(cards: usize, list: &[Accepted]) -> Vec<Set> {
 
 fn by_relation(cards: usize, list: &[Accepted]) -> Verdict {
     let before = happens_before(cards, list);
-    let ends = round_ends(cards, list);
+    let Ties { ends, returned, .. } = Ties::of(cards, list);
     let mut verdict = Verdict {
         accepted: list.len(),
         ..Verdict::default()
@@ -344,6 +378,7 @@ fn by_relation(cards: usize, list: &[Accepted]) -> Verdict {
         match taken.step.kind {
             READ => verdict.take(taken, finding_by_relation(list, &before, place)),
             TALLY_READ => verdict.take_tally(taken, due_by_places(list, &ends, place)),
+            DEQUEUE => verdict.take_job(taken, job_due(list, &returned, place)),
             _ => {}
         }
     }
@@ -444,7 +479,8 @@ impl LockHistory {
     }
 }
 
-/// The judge's own vectors: of each card, of each lock, of each round.
+/// The judge's own vectors: of each card, of each lock, of each round, of each
+/// job that waits.
 #[derive(Default)]
 pub struct Clocks {
     card: BTreeMap<u8, Known>,
@@ -453,6 +489,8 @@ pub struct Clocks {
     arrivals: usize,
     /// What the arrivals of all completed rounds give to each later step.
     completed: Known,
+    /// What the enqueues of the jobs that wait hand on, the oldest first.
+    jobs: VecDeque<Known>,
 }
 
 impl Clocks {
@@ -464,6 +502,10 @@ impl Clocks {
             let lock = self.lock.entry(step.object).or_default();
             lock.askers.push(step.card);
             learn(known, &lock.released);
+        }
+        if step.kind == DEQUEUE {
+            let job = self.jobs.pop_front().unwrap_or_default();
+            learn(known, &job);
         }
         *known.entry(step.card).or_insert(0) += 1;
         known.clone()
@@ -485,6 +527,9 @@ impl Clocks {
                 learn(&mut self.completed, &self.round);
             }
         }
+        if step.kind == ENQUEUE {
+            self.jobs.push_back(known.clone());
+        }
     }
 }
 
@@ -492,6 +537,7 @@ fn by_clocks(cards: usize, list: &[Accepted]) -> Verdict {
     let mut clocks = Clocks::default();
     let mut words: BTreeMap<u16, WordHistory> = BTreeMap::new();
     let mut totals = Totals::default();
+    let mut waiting = Waiting::default();
     let mut verdict = Verdict {
         accepted: list.len(),
         ..Verdict::default()
@@ -504,6 +550,9 @@ fn by_clocks(cards: usize, list: &[Accepted]) -> Verdict {
             WRITE => word.or_default().write(&taken.step, &known),
             TALLY_READ => verdict.take_tally(taken, totals.due(&taken.step)),
             _ => {}
+        }
+        if let Some(due) = waiting.take(&taken.step) {
+            verdict.take_job(taken, due);
         }
         clocks.leave(&taken.step, &known, cards);
         totals.take(&taken.step, cards);

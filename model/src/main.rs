@@ -32,12 +32,21 @@ mod holder_cases;
 #[cfg(test)]
 mod holder_tests;
 mod in_order;
+mod jobs;
 mod judge;
 mod model;
 mod moved;
 mod options;
 mod plan;
 mod program;
+mod queue;
+mod queue_cases;
+mod queue_judge;
+#[cfg(test)]
+mod queue_judge_tests;
+mod queue_refusal_cases;
+#[cfg(test)]
+mod queue_tests;
 mod rng;
 mod script;
 mod skip;
@@ -75,7 +84,7 @@ use std::process::ExitCode;
 const USAGE: &str = "model run < FILE                      the lines of a step file
 model answers < FILE                  refusal, value, count and words of each record
 model forecast < FILE                 the forecast of a step file
-model judge < FILE                    demand 3, tallies and words, on the model's own lines
+model judge < FILE                    demand 3, tallies, jobs and words, on the model's own lines
 model judge FILE LINES                the same on the lines given
 model gen PROFILE SEED STEPS > FILE   a step file
 model gen --list                      the profiles
@@ -210,12 +219,13 @@ fn judge_given(file: &str, lines: &str) -> Result<String, String> {
 fn report(file: &[u8], printed: &stepfile::Printed) -> Result<String, String> {
     let found = judge::judge(file, printed)?;
     let mut text = format!(
-        "{} accepted steps, {} reads, {} under the strong half ({} written before), {} of tallies, {} broken\n",
+        "{} accepted steps, {} reads, {} under the strong half ({} written before), {} of tallies, {} dequeues, {} broken\n",
         found.accepted,
         found.reads,
         found.strong,
         found.strong_written,
         found.tally_reads,
+        found.dequeues,
         found.broken.len()
     );
     for broken in &found.broken {

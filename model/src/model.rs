@@ -1,8 +1,8 @@
-//! The rules of document 01 with requests L1, L2 and L4 to L7 of document 02:
-//! opening, the eight kinds of step, their refusals, the lines of cards that
+//! The rules of document 01 with requests L1, L2, L4 to L7 and L9 of document
+//! 02: opening, the ten kinds of step, their refusals, the lines of cards that
 //! wait for locks, a record for each dirty page at closing, tallies, fetches
-//! that skip what later records replace (`skip.rs`), and the words that they
-//! set (`moved.rs`).
+//! that skip what later records replace (`skip.rs`), the words that they set
+//! (`moved.rs`), and the queue of jobs (`queue.rs`).
 //!
 //! Written from the documents alone, as plainly as they state them. Quoted
 //! text is theirs; "L1", "L2" or so stands before that of document 02.
@@ -12,6 +12,7 @@ use crate::clock::{IntervalId, LockId, PageId, ProcId, TallyId, VectorClock};
 use crate::diff::{Diff, PAGE_WORDS};
 use crate::fault::Fault;
 use crate::moved::{handed_on_faulty, words_faulty, Moved};
+use crate::queue::{Job, Queue};
 use crate::skip::{unreplaced, unreplaced_faulty};
 use std::collections::{BTreeMap, VecDeque};
 
@@ -25,6 +26,11 @@ pub const WANT: u8 = 6;
 /// it."
 pub const TALLY_ADD: u8 = 8;
 pub const TALLY_READ: u8 = 9;
+/// L9: "Kind 10 closes the card's interval and adds the value with the card's
+/// clock; kind 11 closes, removes the oldest job, learns its clock and answers
+/// its value."
+pub const ENQUEUE: u8 = 10;
+pub const DEQUEUE: u8 = 11;
 
 /// "an interval number 1 to 63"
 pub const MOST_INTERVALS: u32 = 63;
@@ -153,6 +159,7 @@ pub struct Model {
     pub locks: BTreeMap<LockId, Lock>,
     pub barrier: Barrier,
     pub tallies: BTreeMap<TallyId, Tally>,
+    pub queue: Queue,
     fault: Option<Fault>,
 }
 
@@ -223,6 +230,7 @@ impl Model {
                 wanted: false,
             },
             tallies: tallies.map(|t| (t, fresh_tally(cards.clone()))).collect(),
+            queue: Queue::default(),
             fault,
         }
     }
@@ -308,8 +316,9 @@ impl Model {
 // then."
 impl Model {
     fn refusal(&self, step: &Step) -> Option<u32> {
-        // "3: kind not 1 to 6"; L4: "kinds 8 and 9 leave the reach of 3"
-        if !matches!(step.kind, READ..=WANT | TALLY_ADD | TALLY_READ) {
+        // "3: kind not 1 to 6"; L4: "kinds 8 and 9 leave the reach of 3"; L9:
+        // "kinds 10 and 11 leave the reach of 3"
+        if !matches!(step.kind, READ..=WANT | TALLY_ADD..=DEQUEUE) {
             return Some(3);
         }
         // "4: card absent"
@@ -319,6 +328,9 @@ impl Model {
         }
         if self.fault == Some(Fault::HolderFirst) && step.kind == ARRIVE && self.holds_any(card) {
             return Some(18);
+        }
+        if self.fault == Some(Fault::QueueFirst) && self.refusal_by_queue(step).is_some() {
+            return self.refusal_by_queue(step);
         }
         // "5: word or lock absent, or an unused field not 0"; L4: "an absent
         // tally is 5"
@@ -337,7 +349,19 @@ impl Model {
         if step.kind == ARRIVE && self.found_holding(card) {
             return Some(18);
         }
-        self.refusal_by_kind(step, card)
+        let by_queue = self.refusal_by_queue(step);
+        by_queue.or_else(|| self.refusal_by_kind(step, card))
+    }
+
+    /// L9: "19, enqueue with 32 jobs waiting; 20, dequeue with none; both after
+    /// 18"
+    fn refusal_by_queue(&self, step: &Step) -> Option<u32> {
+        let never = self.fault == Some(Fault::EmptyPasses);
+        match step.kind {
+            ENQUEUE if self.queue.is_full(self.fault) => Some(19),
+            DEQUEUE if self.queue.is_empty() && !never => Some(20),
+            _ => None,
+        }
     }
 
     /// Whether a card that arrives is found to be a holder.
@@ -350,7 +374,8 @@ impl Model {
 
     /// "Object is the word (kinds 1, 2) or lock (3, 4), else 0; value is used
     /// by kind 2 alone." L4: the object of kinds 8 and 9 is the tally, and kind
-    /// 8 has a value.
+    /// 8 has a value. L9: "The object of both kinds is 0, and kind 11 has no value
+    /// field in use."
     fn fields_fit(&self, step: &Step) -> bool {
         let object_fits = match step.kind {
             READ | WRITE => self.page_present(place(step.object).0),
@@ -358,7 +383,7 @@ impl Model {
             TALLY_ADD | TALLY_READ => self.tallies.contains_key(&TallyId(step.object)),
             _ => step.object == 0,
         };
-        object_fits && (matches!(step.kind, WRITE | TALLY_ADD) || step.value == 0)
+        object_fits && (matches!(step.kind, WRITE | TALLY_ADD | ENQUEUE) || step.value == 0)
     }
 
     fn refusal_by_kind(&self, step: &Step, card: ProcId) -> Option<u32> {
@@ -385,7 +410,7 @@ impl Model {
     }
 }
 
-// The eight kinds of step.
+// The ten kinds of step.
 impl Model {
     /// Takes or refuses one step. A refused step changes nothing.
     pub fn step(&mut self, step: &Step) -> Answer {
@@ -409,6 +434,8 @@ impl Model {
             ARRIVE => self.arrive(card),
             TALLY_ADD => self.add_to_tally(card, TallyId(step.object), step.value),
             TALLY_READ => self.read_tally(card, TallyId(step.object)),
+            ENQUEUE => self.enqueue(card, step.value),
+            DEQUEUE => self.dequeue(card),
             _ => self.want_collection(),
         }
     }
@@ -534,6 +561,10 @@ impl Model {
             lock.clock = VectorClock::zeros();
         }
         self.intervals.clear();
+        match self.fault {
+            None => self.queue.zero_clocks(),
+            Some(fault) => self.queue.collect_faulty(fault),
+        }
     }
 
     /// "Want collection: set the wish; setting it again changes nothing."
@@ -600,6 +631,43 @@ impl Model {
 
     fn tally_mut(&mut self, tally: TallyId) -> &mut Tally {
         self.tallies.get_mut(&tally).expect("present tally")
+    }
+}
+
+// The queue of jobs (L9).
+impl Model {
+    /// "Kind 10 closes the card's interval and adds the value with the card's
+    /// clock": that after the closing.
+    fn enqueue(&mut self, card: ProcId, value: u32) -> Answer {
+        let before = self.processors[&card].clock.clone();
+        self.close(card);
+        let after = self.processors[&card].clock.clone();
+        let clock = match self.fault {
+            Some(Fault::JobEarly) => before,
+            Some(Fault::JobOwn) => after.with_entry_alone(card),
+            _ => after,
+        };
+        self.queue.add(Job { value, clock });
+        Answer::done()
+    }
+
+    /// "kind 11 closes, removes the oldest job, learns its clock and answers its
+    /// value."
+    fn dequeue(&mut self, card: ProcId) -> Answer {
+        match self.fault {
+            None => self.close(card),
+            Some(fault) => self.close_for_job_faulty(fault, card),
+        }
+        // There is none only under a fault.
+        let Some(job) = self.queue.remove(self.fault) else {
+            return Answer::done();
+        };
+        let told = match self.fault {
+            None => job.clock,
+            Some(fault) => self.told_by_job_faulty(fault, job.clock),
+        };
+        self.processor_mut(card).clock.join(&told);
+        Answer::accepted(job.value, Moved::NOTHING)
     }
 }
 
@@ -698,8 +766,33 @@ impl Model {
     }
 }
 
-// The faulty ways to refuse and to apply, for `model run --fault NAME` alone.
+// The faulty ways to refuse, to learn and to apply, for `model run --fault NAME`
+// alone.
 impl Model {
+    fn close_for_job_faulty(&mut self, fault: Fault, card: ProcId) {
+        match (fault, self.queue.jobs.front()) {
+            (Fault::DequeueOpen, _) => return,
+            (Fault::JobLearnFirst, Some(job)) => {
+                let told = job.clock.clone();
+                self.processor_mut(card).clock.join(&told);
+            }
+            _ => {}
+        }
+        self.close(card);
+    }
+
+    /// What a dequeue learns of a job with this clock, which is removed.
+    fn told_by_job_faulty(&mut self, fault: Fault, mut clock: VectorClock) -> VectorClock {
+        match fault {
+            Fault::JobSilent => clock = VectorClock::zeros(),
+            Fault::JobsAll => clock.join(&self.queue.all_clocks()),
+            Fault::JobsHeard => self.queue.hear(&clock),
+            // The others show elsewhere.
+            _ => {}
+        }
+        clock
+    }
+
     fn found_holding_faulty(&self, fault: Fault, card: ProcId) -> bool {
         let holds = |lock: &&Lock| lock.holder == Some(card);
         let mut held = self.locks.values().filter(holds);

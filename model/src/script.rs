@@ -5,7 +5,7 @@
 
 use crate::clock::{LockId, ProcId};
 use crate::model::{Answer, Model, Step, ACQUIRE, ARRIVE, READ, RELEASE, WANT, WRITE};
-use crate::model::{TALLIES, TALLY_ADD, TALLY_READ};
+use crate::model::{DEQUEUE, ENQUEUE, TALLIES, TALLY_ADD, TALLY_READ};
 use crate::rng::Rng;
 
 pub struct Script {
@@ -16,8 +16,8 @@ pub struct Script {
     pub locks: u16,
     /// Whether a card may ask for a lock that another card holds.
     pub waiting: bool,
-    /// Whether stretches that are not about tallies have turns with them.
-    pub tallies: bool,
+    /// Whether stretches that are not about tallies or jobs have turns with them.
+    pub mixed_in: bool,
     bytes: Vec<u8>,
     steps: usize,
     fresh: u32,
@@ -35,15 +35,20 @@ impl Script {
             pages: pages.into(),
             locks: locks.into(),
             waiting: true,
-            tallies: false,
+            mixed_in: false,
             bytes: opening.to_vec(),
             steps,
             fresh: 0,
         }
     }
 
+    /// How many records there are, the opening among them.
+    pub fn written(&self) -> usize {
+        self.bytes.len() / 8
+    }
+
     pub fn full(&self) -> bool {
-        self.bytes.len() >= 8 * (self.steps + 1)
+        self.written() > self.steps
     }
 
     pub fn finish(mut self) -> Vec<u8> {
@@ -117,6 +122,30 @@ impl Script {
     /// Reads a tally.
     pub fn look(&mut self, card: u8, tally: u16) -> Answer {
         self.put(TALLY_READ, card, tally, 0)
+    }
+
+    /// Enqueues a job, mostly with a value never used before.
+    pub fn enqueue(&mut self, card: u8) -> Answer {
+        let value = match self.rng.below(20) {
+            0 => 0,
+            1 => u32::MAX - self.rng.below(3) as u32,
+            2 => self.rng.next() as u32,
+            3 => self.fresh,
+            _ => {
+                self.fresh += 1;
+                self.fresh
+            }
+        };
+        self.put(ENQUEUE, card, 0, value)
+    }
+
+    pub fn dequeue(&mut self, card: u8) -> Answer {
+        self.put(DEQUEUE, card, 0, 0)
+    }
+
+    /// How many jobs wait.
+    pub fn waiting_jobs(&self) -> usize {
+        self.model.queue.jobs.len()
     }
 
     fn value(&mut self, card: u8, word: u16) -> u32 {

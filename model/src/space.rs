@@ -7,7 +7,8 @@
 //! opinion on it too: shared are the fields of a step and the names of its kinds.
 
 use crate::forecast_lines::Figures;
-use crate::model::{Step, ACQUIRE, ARRIVE, READ, RELEASE, TALLY_ADD, TALLY_READ, WANT, WRITE};
+use crate::model::{Step, ACQUIRE, ARRIVE, DEQUEUE, ENQUEUE, READ, RELEASE, WANT, WRITE};
+use crate::model::{TALLY_ADD, TALLY_READ};
 use crate::space_fault::SpaceFault;
 use std::collections::VecDeque;
 
@@ -21,6 +22,8 @@ const TALLIES: usize = 16;
 const INTERVALS: usize = 63;
 /// "At most 128 stand."
 const ROOM: usize = 128;
+/// L9: "One queue holds up to 32 jobs"
+const JOBS: usize = 32;
 
 /// What is kept of a card.
 struct Card {
@@ -40,6 +43,8 @@ pub struct Space {
     locks: Vec<VecDeque<u8>>,
     records: usize,
     wanted: bool,
+    /// How many jobs wait: their values and clocks are left out.
+    jobs: usize,
     fault: Option<SpaceFault>,
 }
 
@@ -66,6 +71,7 @@ impl Space {
             locks: vec![VecDeque::new(); locks],
             records: 0,
             wanted: false,
+            jobs: 0,
             fault,
         })
     }
@@ -109,12 +115,15 @@ impl Space {
         }
         let at_barrier = self.cards[usize::from(step.card) - 1].arrived;
         // L1: "17, a step by a waiting card, after 6"; L7: "18, an arrival by a
-        // holder, after 17"
+        // holder, after 17"; L9: "19, enqueue with 32 jobs waiting; 20, dequeue
+        // with none; both after 18"
         let by_state = &[
             (5, !self.fields_fit(step)),
             (6, at_barrier),
             (17, self.waits(step.card)),
             (18, step.kind == ARRIVE && self.holds_any(step.card)),
+            (19, step.kind == ENQUEUE && self.jobs == JOBS),
+            (20, step.kind == DEQUEUE && self.jobs == 0),
         ];
         first_of(by_state).unwrap_or_else(|| self.refusal_by_kind(step))
     }
@@ -123,8 +132,8 @@ impl Space {
         (1..=self.cards.len()).contains(&number.into())
     }
 
-    /// Object: a word, a lock, a tally, else 0. Value: any for a write and for
-    /// an add to a tally, else 0.
+    /// Object: a word, a lock, a tally, else 0. Value: any for a write, for an add
+    /// to a tally and for an enqueue, else 0.
     fn fields_fit(&self, step: &Step) -> bool {
         let objects = match step.kind {
             READ | WRITE => PAGE_WORDS * self.pages(),
@@ -132,7 +141,7 @@ impl Space {
             TALLY_ADD | TALLY_READ => TALLIES,
             _ => 1,
         };
-        let has_value = matches!(step.kind, WRITE | TALLY_ADD);
+        let has_value = matches!(step.kind, WRITE | TALLY_ADD | ENQUEUE);
         usize::from(step.object) < objects && (has_value || step.value == 0)
     }
 
@@ -176,9 +185,10 @@ impl Space {
     }
 }
 
-/// "3: kind not 1 to 6"; L4: "kinds 8 and 9 leave the reach of 3"
+/// "3: kind not 1 to 6"; L4: "kinds 8 and 9 leave the reach of 3"; L9: so do "kinds
+/// 10 and 11"
 fn is_kind(kind: u8) -> bool {
-    matches!(kind, 1..=6 | 8 | 9)
+    matches!(kind, 1..=6 | 8..=11)
 }
 
 fn first_of(rows: &[(u32, bool)]) -> Option<u32> {
@@ -194,6 +204,9 @@ impl Space {
         if refusal == 0 || (self.has(SpaceFault::RefusedStores) && matches!(refusal, 9 | 10)) {
             self.take(step);
         }
+        if self.has(SpaceFault::RefusedJobs) && matches!(refusal, 19 | 20) {
+            self.close(step.card);
+        }
         refusal
     }
 
@@ -206,6 +219,8 @@ impl Space {
             RELEASE => self.release(step.card, object),
             ARRIVE => self.arrive(step.card),
             WANT => self.wanted = true,
+            ENQUEUE => self.enqueue(step.card),
+            DEQUEUE => self.dequeue(step.card),
             _ => {}
         }
     }
@@ -256,8 +271,26 @@ impl Space {
         }
     }
 
+    /// L9: "Kind 10 closes the card's interval and adds".
+    fn enqueue(&mut self, card: u8) {
+        if !self.has(SpaceFault::EnqueueOpen) {
+            self.close(card);
+        }
+        self.jobs += 1;
+    }
+
+    /// L9: "kind 11 closes, removes the oldest job".
+    fn dequeue(&mut self, card: u8) {
+        if !self.has(SpaceFault::DequeueOpen) {
+            self.close(card);
+        }
+        if !self.has(SpaceFault::JobsKept) {
+            self.jobs -= 1;
+        }
+    }
+
     /// "If collection is wanted ... records go, all clocks ... become zeros, and
-    /// the wish clears."
+    /// the wish clears." L9: the jobs stay.
     fn complete_round(&mut self) {
         self.cards.iter_mut().for_each(|card| card.arrived = false);
         if !self.wanted && !self.has(SpaceFault::EveryRound) {
@@ -269,6 +302,9 @@ impl Space {
         }
         if !self.has(SpaceFault::EntriesKept) {
             self.cards.iter_mut().for_each(|card| card.own = 0);
+        }
+        if self.has(SpaceFault::JobsCollected) {
+            self.jobs = 0;
         }
     }
 }

@@ -1,8 +1,10 @@
-//! The named files of the space forecast (document 02, request L8): how many
-//! records stand and how many pages are dirty after each record. Their figures,
+//! The named files of the space forecast (document 02, requests L8 and L9): how
+//! many records stand and how many pages are dirty after each record. Their figures,
 //! and those of further named files, are in `space_figures.rs`.
 
-use crate::case::{acquire, add, any, arrive, look, read, release, want, write, Case};
+use crate::case::{
+    acquire, add, any, arrive, dequeue, enqueue, look, read, release, want, write, Case,
+};
 
 pub fn space_cases() -> Vec<Case> {
     vec![
@@ -14,6 +16,8 @@ pub fn space_cases() -> Vec<Case> {
         tallies_use_none(),
         refusals_use_none(),
         dirty_of_each_card(),
+        jobs_close(),
+        jobs_stay_over_a_collection(),
     ]
 }
 
@@ -101,5 +105,35 @@ fn dirty_of_each_card() -> Case {
     c.ok(&[write(1, 0, 1), write(2, 1, 2), write(3, 2, 3)]);
     c.ok(&[write(1, 4, 4), acquire(1, 0), release(1, 0)]);
     c.ok(&[arrive(2), write(3, 5, 5), arrive(1), arrive(3)]);
+    c
+}
+
+fn jobs_close() -> Case {
+    let shows = "An enqueue and a dequeue close; with no job waiting, and behind an arrival, they change nothing.";
+    let mut c = Case::open("space-jobs-close", [2, 1, 1], shows);
+    c.ok(&[write(1, 0, 5), enqueue(1, 77), write(2, 1, 5)]);
+    c.gives(dequeue(2), 77, 0);
+    c.refused(dequeue(2), 20);
+    c.ok(&[arrive(1)]);
+    c.refused(enqueue(1, 1), 6);
+    c
+}
+
+fn jobs_stay_over_a_collection() -> Case {
+    let shows = "A collecting round gives the space back and keeps the jobs; 19 and 20 with dirty pages change neither figure.";
+    let mut c = Case::open("space-jobs-stay", [2, 2, 1], shows);
+    c.ok(&[write(1, 0, 1), write(1, 32, 2), enqueue(1, 0)]);
+    c.ok(&[want(1), arrive(1)]);
+    c.gives(arrive(2), 0, 2);
+    c.ok(&[write(2, 0, 3)]);
+    c.ok(&[enqueue(1, 1); 31]);
+    c.refused(enqueue(2, 1), 19);
+    c.gives(dequeue(2), 0, 0);
+    c.ok(&[write(1, 0, 4)]);
+    for _ in 0..31 {
+        c.gives(dequeue(2), 1, 0);
+    }
+    c.refused(dequeue(1), 20);
+    c.ok(&[enqueue(1, 1)]);
     c
 }

@@ -1,5 +1,5 @@
 //! The names of the switches of `model forecast --fault NAME`: what a forecast
-//! of space could get wrong (document 02, request L8).
+//! of space could get wrong (document 02, requests L8 and L9).
 
 #[derive(Clone, Copy, PartialEq, Eq, Debug)]
 pub enum SpaceFault {
@@ -39,9 +39,19 @@ pub enum SpaceFault {
     MostRecords,
     /// "most" is not printed after 2, 15 or 16.
     MostUnstopped,
+    /// An enqueue does not close.
+    EnqueueOpen,
+    /// A dequeue does not close.
+    DequeueOpen,
+    /// A dequeue leaves the number of jobs as it was.
+    JobsKept,
+    /// A collection takes the jobs away.
+    JobsCollected,
+    /// An enqueue or a dequeue that is refused by 19 or 20 closes.
+    RefusedJobs,
 }
 
-pub const SPACE_FAULTS: [(&str, SpaceFault); 18] = [
+pub const SPACE_FAULTS: [(&str, SpaceFault); 23] = [
     ("close-one", SpaceFault::CloseOne),
     ("close-clean", SpaceFault::CloseClean),
     ("asker-open", SpaceFault::AskerOpen),
@@ -60,6 +70,11 @@ pub const SPACE_FAULTS: [(&str, SpaceFault); 18] = [
     ("most-last", SpaceFault::MostLast),
     ("most-records", SpaceFault::MostRecords),
     ("most-unstopped", SpaceFault::MostUnstopped),
+    ("enqueue-open", SpaceFault::EnqueueOpen),
+    ("dequeue-open", SpaceFault::DequeueOpen),
+    ("jobs-kept", SpaceFault::JobsKept),
+    ("jobs-collected", SpaceFault::JobsCollected),
+    ("refused-jobs", SpaceFault::RefusedJobs),
 ];
 
 pub fn by_name(name: &str) -> Option<SpaceFault> {

@@ -31,6 +31,12 @@ pub fn figures(name: &str) -> Option<Vec<Figures>> {
         "space-tallies-use-none" => opened().stay(6, 0, 0),
         "space-refusals-use-none" => opened().stay(1, 0, 1).stay(1, 1, 0).stay(11, 1, 1),
         "space-dirty-of-each-card" => dirty_of_each_card(),
+        "space-jobs-close" => jobs_close(),
+        "space-jobs-stay" => jobs_stay(),
+        "queue-equal-store" => queue_equal_store(),
+        "queue-refused-untouched" => queue_refused_untouched(),
+        "queue-space-used-again" => opened().stay(71, 0, 0),
+        "queue-without-space" => queue_without_space(),
         _ => return None,
     };
     Some(figures)
@@ -167,4 +173,38 @@ fn nine_until_collected() -> Rows {
 fn dirty_of_each_card() -> Rows {
     let dirty = opened().stay(1, 0, 1).stay(1, 0, 2).stay(2, 0, 3);
     dirty.stay(2, 1, 2).stay(3, 2, 1).stay(1, 3, 0)
+}
+
+/// Records 2 and 4 close, 5 and 7 are refused.
+fn jobs_close() -> Rows {
+    let one = opened().stay(1, 0, 1).stay(1, 1, 0);
+    one.stay(1, 1, 1).stay(4, 2, 0)
+}
+
+/// Two pages, their closing and collection; then a dirty page, 31 enqueues and a
+/// refused one, and the dequeue that closes it; a second store, which 31 dequeues
+/// and a refused one leave dirty, and the enqueue that closes it.
+fn jobs_stay() -> Rows {
+    let one = opened().stay(1, 0, 1).stay(1, 0, 2).stay(3, 2, 0);
+    let collected = one.stay(1, 0, 0);
+    let other = collected.stay(1, 0, 1).stay(32, 0, 1).stay(1, 1, 0);
+    other.stay(1, 1, 1).stay(32, 1, 1).stay(1, 2, 0)
+}
+
+fn queue_equal_store() -> Rows {
+    let one = opened().stay(1, 0, 1).stay(1, 1, 0);
+    one.stay(1, 1, 1).stay(5, 2, 0)
+}
+
+/// The refused dequeue and enqueue, records 2 and 40, leave the page dirty.
+fn queue_refused_untouched() -> Rows {
+    let one = opened().stay(3, 0, 1).stay(1, 1, 0);
+    let full = one.stay(2, 1, 0).stay(32, 1, 0);
+    full.stay(3, 1, 1).stay(5, 2, 0)
+}
+
+fn queue_without_space() -> Rows {
+    let nine = opened().intervals(63).stay(2, 63, 0);
+    let closings = (0..8).fold(nine, |rows, n| rows.pages(63 + 8 * n, 8));
+    closings.stay(1, 127, 1).stay(13, 128, 0)
 }

@@ -7,7 +7,7 @@ use crate::model::{Answer, Model, Step};
 /// "the 1,000,000th step record"
 pub const MOST_STEPS: usize = 1_000_000;
 /// One more than the largest refusal that a line may have.
-pub const REFUSALS: usize = 19;
+pub const REFUSALS: usize = 21;
 
 /// A printed line: "record number (opening 0), refusal or 0, value, count".
 #[derive(Clone, Copy, Debug, PartialEq, Eq)]

@@ -21,6 +21,10 @@ mod model;
 #[allow(dead_code)]
 mod moved;
 #[allow(dead_code)]
+mod queue;
+#[allow(dead_code)]
+mod queue_judge;
+#[allow(dead_code)]
 mod skip;
 #[allow(dead_code)]
 mod stepfile;
@@ -37,6 +41,9 @@ mod blend;
 #[cfg(test)]
 #[allow(dead_code)]
 mod generate;
+#[cfg(test)]
+#[allow(dead_code)]
+mod jobs;
 #[cfg(test)]
 #[allow(dead_code)]
 mod plan;

@@ -43,6 +43,7 @@ fn head() -> String {
         "accepted reads",
         "reads under the strong half (written before)",
         "accepted reads of tallies",
+        "accepted dequeues",
         "broken",
     ];
     columns.join(", ") + "\n"
@@ -51,7 +52,7 @@ fn head() -> String {
 fn row(profile: &str, tally: &Tally) -> String {
     let v = &tally.verdict;
     let found = format!(
-        "{profile}: {} lines, {} words, {:.1} % or more accepted, {} reads, {} strong ({} written), {} of tallies, {} broken",
+        "{profile}: {} lines, {} words, {:.1} % or more accepted, {} reads, {} strong ({} written), {} of tallies, {} dequeues, {} broken",
         tally.lines,
         tally.words,
         tally.least_accepted,
@@ -59,6 +60,7 @@ fn row(profile: &str, tally: &Tally) -> String {
         v.strong,
         v.strong_written,
         v.tally_reads,
+        v.dequeues,
         v.broken.len()
     );
     format!("{found}\n    {}\n", by_refusal(&tally.refusals))
@@ -126,6 +128,7 @@ impl Tally {
         self.verdict.strong += verdict.strong;
         self.verdict.strong_written += verdict.strong_written;
         self.verdict.tally_reads += verdict.tally_reads;
+        self.verdict.dequeues += verdict.dequeues;
         self.verdict.broken.extend(verdict.broken);
     }
 }

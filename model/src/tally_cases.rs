@@ -1,6 +1,6 @@
 //! The named files of tallies (document 02, request L4).
 
-use crate::case::{acquire, add, any, arrive, look, read, release, want, write, Case};
+use crate::case::{acquire, add, any, arrive, enqueue, look, read, release, want, write, Case};
 use crate::cases::{make_intervals, write_as};
 
 pub fn tally_cases() -> Vec<Case> {
@@ -50,13 +50,13 @@ fn tally_wraps() -> Case {
 }
 
 fn tally_refusals() -> Case {
-    let shows = "Tally 16 and a read with a value are 5, kinds 7 and 10 stay 3, card 3 of 2 is 4; an arrived card's add and read are 6.";
+    let shows = "Tally 16 and a read with a value are 5, kind 7 stays 3, card 3 of 2 is 4; an arrived card's add and read are 6. Kind 10 between them enqueues 0.";
     let mut c = Case::open("tally-refusals", [2, 1, 1], shows);
     c.refused(add(1, 16, 1), 5);
     c.refused(any(9, 1, 0, 7), 5);
     c.ok(&[add(1, 15, 0)]);
     c.refused(any(7, 1, 0, 0), 3);
-    c.refused(any(10, 1, 0, 0), 3);
+    c.ok(&[enqueue(1, 0)]);
     c.refused(add(3, 0, 1), 4);
     c.refused(look(2, 16), 5);
     c.ok(&[arrive(1)]);
@@ -94,18 +94,25 @@ fn tally_orders_nothing() -> Case {
 }
 
 fn refusal_3_beside_tallies() -> Case {
-    let shows =
-        "Refusal 3: kind 7 and kinds from 10 on, whatever the other fields; it comes before 4, 5, 6 and 17.";
+    let shows = "Refusal 3: kind 7 and kinds from 12 on, whatever the other fields; it comes before 4, 5, 6 and 17. Kinds 10 and 11 between them enqueue 0 and dequeue it, or are 4, 6 and 17.";
     let mut c = Case::open("refusal-3-beside-tallies", [3, 1, 1], shows);
     for kind in [0, 7, 10, 11, 12, 128, 136, 137, 255] {
-        c.refused(any(kind, 1, 0, 0), 3);
-        c.refused(any(kind, 4, 16, 1), 3);
+        match kind {
+            10 | 11 => {
+                c.ok(&[any(kind, 1, 0, 0)]);
+                c.refused(any(kind, 4, 16, 1), 4);
+            }
+            _ => {
+                c.refused(any(kind, 1, 0, 0), 3);
+                c.refused(any(kind, 4, 16, 1), 3);
+            }
+        }
     }
     c.ok(&[arrive(1), acquire(2, 0), acquire(3, 0)]);
-    for kind in [7, 10] {
-        c.refused(any(kind, 1, 0, 0), 3);
-        c.refused(any(kind, 3, 0, 0), 3);
-    }
+    c.refused(any(7, 1, 0, 0), 3);
+    c.refused(any(7, 3, 0, 0), 3);
+    c.refused(enqueue(1, 0), 6);
+    c.refused(enqueue(3, 0), 17);
     c
 }
 
@@ -168,14 +175,14 @@ fn refusal_6_tally() -> Case {
 }
 
 fn refusal_17_tally() -> Case {
-    let shows = "Refusal 17: a waiting card's adds and reads of tallies, after 3 to 5; what it added before it asked stays its own. It may not arrive with the lock, so the round does not end.";
+    let shows = "Refusal 17: a waiting card's adds and reads of tallies, after 5; what it added before it asked stays its own. It may not arrive with the lock, so the round does not end.";
     let mut c = Case::open("refusal-17-tally", [2, 1, 1], shows);
     c.ok(&[acquire(1, 0), add(2, 7, 3), acquire(2, 0)]);
     c.refused(add(2, 7, 100), 17);
     c.refused(look(2, 7), 17);
     c.refused(add(2, 16, 1), 5);
     c.refused(any(9, 2, 7, 1), 5);
-    c.refused(any(10, 2, 7, 0), 3);
+    c.refused(any(10, 2, 7, 0), 5);
     c.ok(&[add(1, 7, 10), release(1, 0)]);
     c.gives(look(2, 7), 3, 0);
     c.ok(&[add(2, 7, 4)]);

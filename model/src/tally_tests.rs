@@ -181,7 +181,7 @@ fn refusals_of_tallies() {
         }
     }
     assert_eq!(take(&mut model, TALLY_READ, 1, 0, 1), (5, 0, 0));
-    for kind in [0, 7].into_iter().chain(10..=255) {
+    for kind in [0, 7].into_iter().chain(12..=255) {
         assert_eq!(take(&mut model, kind, 1, 0, 0), (3, 0, 0));
     }
     assert_eq!(tally(&model, 0), (0, vec![9, 0, 0]));

@@ -2,7 +2,8 @@
 //! tests of cards that wait are in `wait_tests.rs`, those of stores that alter
 //! nothing in `equal_tests.rs`, those of tallies in `tally_tests.rs`, those of
 //! skipped records in `skip_tests.rs`, those of words set in `words_tests.rs`,
-//! those of holders that arrive in `holder_tests.rs`.
+//! those of holders that arrive in `holder_tests.rs`, those of the queue in
+//! `queue_tests.rs` and `queue_judge_tests.rs`.
 
 use crate::clock::{ProcId, VectorClock};
 use crate::diff;

@@ -111,7 +111,7 @@ fn tally_nonsense(s: &mut Script) {
     let no_tally = s.rng.pick(&[TALLIES, TALLIES + 1, 255, 256, u16::MAX]);
     let no_card = s.rng.pick(&[0, s.cards + 1, 255]);
     let value = s.rng.next() as u32 | 1;
-    let no_kind = s.rng.pick(&[7, 10, 11]);
+    let no_kind = s.rng.pick(&[7, 12, 13]);
     let kind = s.rng.pick(&[TALLY_ADD, TALLY_READ]);
     match s.rng.below(5) {
         0 => s.put(TALLY_ADD, card, no_tally, value),

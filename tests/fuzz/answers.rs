@@ -1,6 +1,6 @@
 //! What a step on a state in order must be answered and leave, read off the
 //! state before: the refusal, who holds and who waits. Written from document
-//! 01's table, and from requests L1, L4 and L7 of document 02.
+//! 01's table, and from requests L1, L4, L7 and L9 of document 02.
 
 use crate::areas::*;
 use crate::library::Step;
@@ -14,11 +14,13 @@ pub const ARRIVE: u32 = 5;
 pub const WANT: u32 = 6;
 pub const TALLY_ADD: u32 = 8;
 pub const TALLY_READ: u32 = 9;
+pub const ENQUEUE: u32 = 10;
+pub const DEQUEUE: u32 = 11;
 
 /// The refusal or 0, "the first that applies ... and only then".
 pub fn refusal(s: State, step: Step) -> u8 {
     let (p, object) = (step.processor as usize, step.object as usize);
-    if !matches!(step.kind, READ..=WANT | TALLY_ADD | TALLY_READ) {
+    if !matches!(step.kind, READ..=WANT | TALLY_ADD..=DEQUEUE) {
         return 3;
     }
     if !s.has_processor(p) {
@@ -30,7 +32,7 @@ pub fn refusal(s: State, step: Step) -> u8 {
         TALLY_ADD | TALLY_READ => object < TALLIES,
         _ => object == 0,
     };
-    let has_value = matches!(step.kind, WRITE | TALLY_ADD);
+    let has_value = matches!(step.kind, WRITE | TALLY_ADD | ENQUEUE);
     if !object_fits || !has_value && step.value != 0 {
         return 5;
     }
@@ -42,6 +44,8 @@ pub fn refusal(s: State, step: Step) -> u8 {
     }
     match step.kind {
         ARRIVE if s.holds_any(p) => 18,
+        ENQUEUE if s.jobs() == JOBS => 19,
+        DEQUEUE if s.jobs() == 0 => 20,
         ACQUIRE if s.holder(object) == p => 7,
         RELEASE if s.holder(object) != p => 8,
         WRITE if s.dirty(p, object / PAGE_WORDS) => 0,

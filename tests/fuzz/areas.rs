@@ -12,6 +12,7 @@ pub const SLOTS: usize = 128;
 pub const SLOT: usize = 135;
 pub const PAGE_WORDS: usize = 32;
 pub const TALLIES: usize = 16;
+pub const JOBS: usize = 32;
 /// Rows of eight entries in the clocks.
 pub const ROWS: usize = CLOCKS / 8;
 
@@ -36,8 +37,14 @@ pub fn kept_row(p: usize, interval: usize) -> usize {
     89 + INTERVALS * (p - 1) + (interval - 1)
 }
 
-/// The entries of all applied clocks.
+/// The clock of a place of the queue.
+pub fn job_row(place: usize) -> usize {
+    593 + place
+}
+
+/// The entries of all applied clocks, and of the clocks of jobs.
 pub const APPLIED: Range<usize> = 8 * 25..8 * 89;
+pub const JOB_CLOCKS: Range<usize> = 8 * 593..CLOCKS;
 
 /// The first of the 32 words of a processor's copy of a page.
 pub fn copy_at(p: usize, page: usize) -> usize {
@@ -54,7 +61,10 @@ pub fn twin_at(p: usize, page: usize) -> usize {
 
 /// The words of the tallies, behind the twins: the posted totals, then the adds
 /// of each processor.
-pub const TALLY_WORDS: Range<usize> = 2 * TWINS_AT..WORDS;
+pub const TALLY_WORDS: Range<usize> = 2 * TWINS_AT..2 * TWINS_AT + TALLIES * (1 + PROCESSORS);
+
+/// The words of the queue, behind the tallies: a value for each of its places.
+pub const JOB_WORDS: Range<usize> = TALLY_WORDS.end..WORDS;
 
 /// The posted total of a tally.
 pub fn posted_at(tally: usize) -> usize {
@@ -66,6 +76,11 @@ pub fn added_at(p: usize, tally: usize) -> usize {
     posted_at(tally) + TALLIES * p
 }
 
+/// The value of a place of the queue.
+pub fn job_at(place: usize) -> usize {
+    JOB_WORDS.start + place
+}
+
 // Marks.
 
 pub const PROCESSORS_AT: usize = 0;
@@ -75,6 +90,9 @@ pub const LOCKS_AT: usize = 2;
 pub const STANDING_AT: usize = 3;
 pub const STANDING_HIGH_AT: usize = 4;
 pub const WISH_AT: usize = 5;
+/// The place of the oldest job, and how many jobs wait.
+pub const FIRST_JOB_AT: usize = 110;
+pub const JOBS_AT: usize = 111;
 
 /// All dirty marks, and the marks that say who holds and who waits.
 pub const DIRTY: Range<usize> = 30..94;

@@ -1,11 +1,13 @@
 //! What is checked of every call. Each check gives what is wrong in words.
 
-use crate::answers::{self, ACQUIRE, ARRIVE, READ, RELEASE, TALLY_ADD, TALLY_READ};
-use crate::areas::{copy_at, lock_row, processor_row, Areas, PAGE_WORDS};
+use crate::answers::{self, ACQUIRE, ARRIVE, DEQUEUE, ENQUEUE, READ, RELEASE};
+use crate::answers::{TALLY_ADD, TALLY_READ};
+use crate::areas::{copy_at, lock_row, processor_row, Areas, JOBS, PAGE_WORDS};
 use crate::closing;
 use crate::fetching::{self, Fetched};
 use crate::library::{self, Step};
 use crate::order;
+use crate::queue;
 use crate::random::Random;
 use crate::state::State;
 use crate::tallies;
@@ -13,8 +15,8 @@ use crate::tallies;
 /// What the checks have met, for the report.
 #[derive(Default)]
 pub struct Met {
-    /// Steps by refusal, 0 to 18.
-    pub refusals: [u64; 19],
+    /// Steps by refusal, 0 to 20.
+    pub refusals: [u64; 21],
     /// States that broke this clause of "in order" and no other.
     pub alone: [u64; order::CLAUSES.len()],
     /// States whose order was asked: in order, not in order.
@@ -43,6 +45,12 @@ pub struct Met {
     pub looks: u64,
     pub posted: u64,
     pub wrapped: u64,
+    /// Accepted enqueues, those of them that fill the queue, dequeues, and those of
+    /// them that pass the end of the ring.
+    pub enqueues: u64,
+    pub filled: u64,
+    pub dequeues: u64,
+    pub around: u64,
 }
 
 impl Met {
@@ -77,6 +85,20 @@ impl Met {
         let (posted, wrapped) = tallies::postings(s, step);
         self.posted += posted;
         self.wrapped += wrapped;
+    }
+
+    fn add_queue_use(&mut self, s: State, step: Step) {
+        match step.kind {
+            ENQUEUE => {
+                self.enqueues += 1;
+                self.filled += u64::from(s.jobs() == JOBS - 1);
+            }
+            DEQUEUE => {
+                self.dequeues += 1;
+                self.around += u64::from(s.first() == JOBS - 1);
+            }
+            _ => {}
+        }
     }
 }
 
@@ -140,6 +162,7 @@ pub fn check_step(
         met.add_lock_use(State(before.shown()), step);
         met.add_closing(State(before.shown()), step);
         met.add_tally_use(State(before.shown()), step);
+        met.add_queue_use(State(before.shown()), step);
         let fetches = fetching::fetches(State(before.shown()), step);
         met.add_fetches(step, &fetches);
         accepted(areas, before, step, &fetches, [value, count, words])
@@ -163,9 +186,10 @@ fn same(areas: &Areas, before: &Areas, wrong: &str) -> Result<(), String> {
 }
 
 /// An accepted step leaves a state in order and touches nothing outside; its
-/// value is the word that stands in the copy or the tally's total, its count the
-/// records applied, its words those that they set; locks and their lines are as
-/// they must be, and so is what a closing and a fetch leave, and the tallies.
+/// value is the word that stands in the copy, the tally's total or the oldest job's
+/// value, its count the records applied, its words those that they set; locks and
+/// their lines are as they must be, and so is what a closing and a fetch leave, the
+/// tallies and the queue.
 fn accepted(
     areas: &Areas,
     before: &Areas,
@@ -202,9 +226,13 @@ fn accepted(
     if let Some(wrong) = tallies::wrong(was, is, step) {
         return Err(wrong.to_string());
     }
+    if let Some(wrong) = queue::wrong(was, is, step) {
+        return Err(wrong.to_string());
+    }
     let number = match step.kind {
         READ => word_of(areas, step),
         TALLY_READ => tallies::value(was, step),
+        DEQUEUE => queue::value(was),
         _ => 0,
     };
     let [count, words] = fetching::moved(fetches);

@@ -3,7 +3,7 @@
 //! document 02: each dirty page of the processor gets a record, which is the
 //! byte 0 where no word differs, and any dirty page makes an interval.
 
-use crate::answers::{ACQUIRE, ARRIVE, RELEASE};
+use crate::answers::{ACQUIRE, ARRIVE, DEQUEUE, ENQUEUE, RELEASE};
 use crate::areas::*;
 use crate::library::Step;
 use crate::state::State;
@@ -11,7 +11,7 @@ use crate::state::State;
 /// The pages that the step closes: the processor's dirty ones, upwards.
 pub fn closed_pages(was: State, step: Step) -> Vec<usize> {
     match step.kind {
-        ACQUIRE | RELEASE | ARRIVE => {
+        ACQUIRE | RELEASE | ARRIVE | ENQUEUE | DEQUEUE => {
             let p = step.processor as usize;
             (0..PAGES).filter(|page| was.dirty(p, *page)).collect()
         }

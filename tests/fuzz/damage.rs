@@ -7,7 +7,7 @@ use crate::random::Random;
 use crate::state::State;
 
 pub fn damage(random: &mut Random, areas: &mut Areas) {
-    match random.below(36) {
+    match random.below(41) {
         0 => flip_byte(random, areas),
         1 => flip_word(random, areas),
         2 => change(random, areas, PROCESSORS_AT, &[0, 1, 8, 9, 255]),
@@ -47,6 +47,13 @@ pub fn damage(random: &mut Random, areas: &mut Areas) {
         29 => change_tally(random, areas),
         30 => absent_add(random, areas),
         31..=32 => arrived_holder(random, areas),
+        33 => change(random, areas, FIRST_JOB_AT, &[0, 1, 30, 31, 32, 255]),
+        34 => change(random, areas, JOBS_AT, &[0, 1, 31, 32, 33, 255]),
+        35..=36 => change_job_entry(random, areas),
+        37 => {
+            let at = job_at(random.below(JOBS));
+            areas.words.part_mut()[at] = random.pick(&[0, 1, 1 << 31, u32::MAX]);
+        }
         _ => change_line(random, areas),
     }
 }
@@ -106,11 +113,12 @@ fn all_arrive(areas: &mut Areas) {
 /// One entry of a clock of any kind.
 fn change_entry(random: &mut Random, areas: &mut Areas) {
     let p = random.within(1, PROCESSORS);
-    let row = match random.below(5) {
+    let row = match random.below(6) {
         0 => BARRIER_ROW,
         1 => processor_row(p),
         2 => lock_row(random.below(LOCKS)),
         3 => applied_row(p, random.below(PAGES)),
+        4 => job_row(random.below(JOBS)),
         _ => kept_row(p, any_interval(random, areas, p)),
     };
     let q = random.within(1, PROCESSORS);
@@ -127,6 +135,16 @@ fn change_entry(random: &mut Random, areas: &mut Areas) {
     ];
     let entry = areas.entry(row, q);
     *entry = changed(random, *entry, &list);
+}
+
+/// An entry of a job's clock, often that of the first place or of the last, up to
+/// the own entry or just above it; of an absent processor too.
+fn change_job_entry(random: &mut Random, areas: &mut Areas) {
+    let place = random.below(JOBS);
+    let place = random.pick(&[0, place, place, JOBS - 1]);
+    let q = random.within(1, PROCESSORS);
+    let own = *areas.entry(processor_row(q), q);
+    *areas.entry(job_row(place), q) = random.pick(&[0, own, own.wrapping_add(1), 63, 64, 255]);
 }
 
 /// An interval, often the last one made, the next one or the last of all.

@@ -23,6 +23,7 @@ pub fn make(random: &mut Random, areas: &mut Areas) {
     make_tallies(random, areas, processors);
     let own: Vec<u8> = (0..processors).map(|_| own_entry(random)).collect();
     make_clocks(random, areas, counts, &own);
+    make_queue(random, areas, &own);
     make_marks(random, areas, counts, &own);
     make_records(random, areas, pages, &own);
 }
@@ -41,6 +42,18 @@ fn make_tallies(random: &mut Random, areas: &mut Areas, processors: usize) {
             };
         }
     }
+}
+
+/// Any values and clocks in all places, from any place on as many jobs as there is
+/// room for or fewer.
+fn make_queue(random: &mut Random, areas: &mut Areas, own: &[u8]) {
+    for place in 0..JOBS {
+        put_clock(random, areas, job_row(place), own);
+        areas.words.part_mut()[job_at(place)] = random.word();
+    }
+    let (first, jobs) = (random.below(JOBS), random.within(0, JOBS));
+    *areas.mark(FIRST_JOB_AT) = random.pick(&[0, first, first, JOBS - 1]) as u8;
+    *areas.mark(JOBS_AT) = random.pick(&[0, jobs, jobs, JOBS]) as u8;
 }
 
 /// A count, often the largest.

@@ -14,6 +14,7 @@ mod fetching;
 mod library;
 mod made;
 mod order;
+mod queue;
 mod random;
 mod shapes;
 mod state;
@@ -96,6 +97,10 @@ fn report(met: &Met) {
     println!(
         "tallies: {} adds, {} reads, {} totals posted to, {} of them wrapped",
         met.adds, met.looks, met.posted, met.wrapped
+    );
+    println!(
+        "queue: {} enqueues, {} of them fill it, {} dequeues, {} of them pass its end",
+        met.enqueues, met.filled, met.dequeues, met.around
     );
     println!(
         "order asked: {} in order, {} not",

@@ -1,5 +1,5 @@
-//! "A state is in order when: ..." of document 01 and, of lines, tallies and
-//! holders, requests L1, L4 and L7 of document 02, clause by clause, in plain
+//! "A state is in order when: ..." of document 01 and, of lines, tallies, holders
+//! and jobs, requests L1, L4, L7 and L9 of document 02, clause by clause, in plain
 //! Rust. It is written from the documents and the layout alone, and is what the library's
 //! `in_order` is compared with.
 
@@ -11,8 +11,9 @@ type Clause = (&'static str, fn(State) -> bool);
 
 /// The clauses after the first (the sizes), in the documents' order. That a
 /// card waits at most once in all holds by the layout: it has one place for
-/// the lock it waits for. Turns number the waiters of a lock from 0.
-pub const CLAUSES: [Clause; 29] = [
+/// the lock it waits for. Turns number the waiters of a lock from 0. The clocks of
+/// all places of the queue are clocks as any other, those of free places too.
+pub const CLAUSES: [Clause; 31] = [
     ("counts in range", counts_in_range),
     ("absent entries are 0", absent_entries_zero),
     ("absent copies' words are 0", absent_copies_zero),
@@ -42,13 +43,15 @@ pub const CLAUSES: [Clause; 29] = [
     ("turns count those before", turns_count),
     ("absent processors have added 0", absent_adds_zero),
     ("no holder has arrived", holders_arrived_not),
+    ("the oldest job is in one of 32 places", oldest_in_ring),
+    ("at most 32 jobs", at_most_32_jobs),
 ];
 
 pub fn sizes_hold(areas: Shown) -> bool {
-    areas.clocks.len() == 593 * 8
-        && areas.words.len() == 128 * 32 + 9 * 16
+    areas.clocks.len() == (593 + 32) * 8
+        && areas.words.len() == 128 * 32 + 9 * 16 + 32
         && areas.records.len() == 128 * 135
-        && areas.marks.len() == 110
+        && areas.marks.len() == 110 + 2
 }
 
 pub fn in_order(areas: Shown) -> bool {
@@ -312,4 +315,14 @@ fn holders_arrived_not(s: State) -> bool {
 fn absent_adds_zero(s: State) -> bool {
     let zero = |p| (0..TALLIES).all(|tally| s.added(p, tally) == 0);
     all_processors().all(|p| s.has_processor(p) || zero(p))
+}
+
+/// The place of the oldest job is one of the queue's, also where none waits.
+fn oldest_in_ring(s: State) -> bool {
+    s.first() < JOBS
+}
+
+/// L9: "A state in order has at most 32 jobs".
+fn at_most_32_jobs(s: State) -> bool {
+    s.jobs() <= JOBS
 }

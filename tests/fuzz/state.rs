@@ -133,6 +133,21 @@ impl<'a> State<'a> {
         self.0.words[added_at(p, tally)]
     }
 
+    /// The place of the oldest job.
+    pub fn first(self) -> usize {
+        self.0.marks[FIRST_JOB_AT].into()
+    }
+
+    /// How many jobs wait.
+    pub fn jobs(self) -> usize {
+        self.0.marks[JOBS_AT].into()
+    }
+
+    /// The value of a place of the queue.
+    pub fn job_value(self, place: usize) -> u32 {
+        self.0.words[job_at(place)]
+    }
+
     /// The records that stand, as far as there are slots for them.
     pub fn records(self) -> impl Iterator<Item = Record<'a>> {
         let slots = self.0.records.chunks_exact(SLOT);

@@ -1,22 +1,24 @@
 //! Random steps: mostly ones that fit the state, some with any fields.
 
-use crate::answers::{ACQUIRE, ARRIVE, READ, RELEASE, TALLY_ADD, TALLY_READ, WANT, WRITE};
+use crate::answers::{ACQUIRE, ARRIVE, DEQUEUE, ENQUEUE, READ, RELEASE, WANT, WRITE};
+use crate::answers::{TALLY_ADD, TALLY_READ};
 use crate::areas::*;
 use crate::library::Step;
 use crate::random::Random;
 use crate::state::State;
 
-/// How often of 100 each kind comes in a run where no tally is used: read,
-/// write, lock, arrive; the rest wants collection.
+/// How often of 100 each kind comes in a run where no tally and no job is used:
+/// read, write, lock, arrive; the rest wants collection. And how many of 100 steps
+/// on the queue are enqueues.
 #[derive(Clone, Copy)]
-pub struct Habits([usize; 4]);
+pub struct Habits([usize; 4], usize);
 
-/// Runs that fill the records, mixed runs, runs of many rounds.
+/// Runs that fill the records and the queue, mixed runs, runs of many rounds.
 const HABITS: [Habits; 4] = [
-    Habits([15, 45, 40, 0]),
-    Habits([30, 35, 32, 2]),
-    Habits([25, 35, 30, 8]),
-    Habits([30, 30, 10, 25]),
+    Habits([15, 45, 40, 0], 75),
+    Habits([30, 35, 32, 2], 50),
+    Habits([25, 35, 30, 8], 60),
+    Habits([30, 30, 10, 25], 45),
 ];
 
 pub fn any_habits(random: &mut Random) -> Habits {
@@ -31,7 +33,10 @@ pub fn any_step(random: &mut Random, s: State, habits: Habits) -> Step {
     if random.percent(12) {
         return use_tally(random, s);
     }
-    let Habits([read, write, lock, arrive]) = habits;
+    let Habits([read, write, lock, arrive], enqueues) = habits;
+    if random.percent(12) {
+        return use_queue(random, s, enqueues);
+    }
     let turn = random.below(100);
     if turn < read {
         use_word(random, s, READ)
@@ -103,6 +108,25 @@ fn use_tally(random: &mut Random, s: State) -> Step {
         _ => random.below(3) as u32,
     };
     step(TALLY_ADD, p, tally, value)
+}
+
+/// An enqueue of any value or a dequeue. Seldom there is an object, or a dequeue
+/// has a value.
+fn use_queue(random: &mut Random, s: State, enqueues: usize) -> Step {
+    let p = any_processor(random, s);
+    let object = match random.below(40) {
+        0 => random.pick(&[1, JOBS - 1, JOBS, 256, 65536]),
+        _ => 0,
+    };
+    if !random.percent(enqueues) {
+        return step(DEQUEUE, p, object, random.percent(3).into());
+    }
+    let value = match random.below(4) {
+        0 => 0,
+        1 => u32::MAX - random.below(3) as u32,
+        _ => random.word(),
+    };
+    step(ENQUEUE, p, object, value)
 }
 
 /// Mostly a free lock is taken, and one that is held is asked for or freed,
@@ -178,7 +202,7 @@ fn wild_step(random: &mut Random, s: State) -> Step {
         _ => random.below(most) as u32,
     };
     Step {
-        kind: field(12),
+        kind: field(14),
         processor: field(10),
         object: field(20),
         value: field(2),

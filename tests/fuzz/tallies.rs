@@ -64,9 +64,10 @@ pub fn wrong(was: State, is: State, step: Step) -> Option<&'static str> {
     if is.0.words[TALLY_WORDS] != words_due(was, step) {
         return Some("leaves other tallies");
     }
-    let pages = ..TALLY_WORDS.start;
+    let (pages, jobs) = (..TALLY_WORDS.start, TALLY_WORDS.end..);
     let same = was.0.clocks == is.0.clocks
         && was.0.words[pages] == is.0.words[pages]
+        && was.0.words[jobs.clone()] == is.0.words[jobs]
         && was.0.records == is.0.records
         && was.0.marks == is.0.marks;
     let on_tally = matches!(step.kind, TALLY_ADD | TALLY_READ);

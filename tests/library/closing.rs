@@ -8,11 +8,13 @@ use crate::Tally;
 /// How a processor closes: the steps before its stores, and the step that closes.
 type Closing = (&'static str, &'static [Step], Step);
 
-const CLOSINGS: [Closing; 4] = [
+const CLOSINGS: [Closing; 6] = [
     ("a release", &[(3, 1, 0, 0)], (4, 1, 0, 0)),
     ("an acquire", &[], (3, 1, 0, 0)),
     ("an acquire that waits", &[(3, 2, 0, 0)], (3, 1, 0, 0)),
     ("an arrival", &[], (5, 1, 0, 0)),
+    ("an enqueue", &[], (10, 1, 0, 7)),
+    ("a dequeue", &[(10, 2, 0, 0)], (11, 1, 0, 0)),
 ];
 
 pub fn check(tally: &mut Tally) {

@@ -20,7 +20,7 @@ pub fn check(tally: &mut Tally, reached: &Areas) {
 // ---- where things lie (crates/layout/specs/Areas.antt)
 
 /// The entry of processor q in a row of clocks; row 0 is the barrier's, row p processor p's.
-fn entry(row: usize, q: usize) -> usize {
+pub fn entry(row: usize, q: usize) -> usize {
     8 * row + q - 1
 }
 
@@ -36,6 +36,11 @@ pub fn interval_row(p: usize, i: usize) -> usize {
     89 + (p - 1) * 63 + i - 1
 }
 
+/// The clock of a place of the queue.
+pub fn job_row(place: usize) -> usize {
+    593 + place
+}
+
 /// The first word of a processor's copy of a page.
 pub fn copy(p: usize, g: usize) -> usize {
     32 * ((p - 1) * 8 + g)
@@ -43,6 +48,11 @@ pub fn copy(p: usize, g: usize) -> usize {
 
 pub fn twin(p: usize, g: usize) -> usize {
     32 * 64 + copy(p, g)
+}
+
+/// The value of a place of the queue.
+pub fn job_word(place: usize) -> usize {
+    4240 + place
 }
 
 pub fn slot(i: usize) -> usize {
@@ -73,13 +83,16 @@ pub fn turn(p: usize) -> usize {
 
 /// The high byte of the number of standing records.
 const STANDING_HIGH: usize = 4;
+/// The place of the oldest job, and how many jobs wait.
+pub const FIRST_JOB: usize = 110;
+pub const JOBS: usize = 111;
 
 // ---- damage
 
 /// The reached state with one condition of "in order" broken.
 fn damages(reached: &Areas) -> Vec<(String, Areas)> {
     let mut all = Vec::new();
-    let clocks: [(&str, usize, u8); 17] = [
+    let clocks: [(&str, usize, u8); 21] = [
         ("an entry for an absent processor", entry(1, 6), 1),
         ("a clock of an absent processor", entry(6, 1), 1),
         ("a clock of an absent lock", entry(lock_row(2), 1), 1),
@@ -133,6 +146,18 @@ fn damages(reached: &Areas) -> Vec<(String, Areas)> {
             entry(applied_row(2, 0), 1),
             255,
         ),
+        ("a job's entry above the own entry", entry(job_row(0), 1), 2),
+        (
+            "a job's entry for one that made no interval",
+            entry(job_row(16), 2),
+            1,
+        ),
+        (
+            "a job's entry for an absent processor",
+            entry(job_row(0), 6),
+            1,
+        ),
+        ("the last job's clock", entry(job_row(31), 8), 1),
     ];
     for (name, place, byte) in clocks {
         let mut areas = reached.clone();
@@ -150,7 +175,7 @@ fn damages(reached: &Areas) -> Vec<(String, Areas)> {
         ("the last word of all the twins", twin(8, 7) + 31),
         ("an add of an absent processor", added(6, 0)),
         ("the last add of an absent processor", added(7, 15)),
-        ("the last word of all", added(8, 15)),
+        ("the last add of all", added(8, 15)),
     ];
     for (name, place) in words {
         let mut areas = reached.clone();
@@ -181,7 +206,7 @@ fn damages(reached: &Areas) -> Vec<(String, Areas)> {
         areas.records[place] = byte;
         all.push((name.to_string(), areas));
     }
-    let marks: [(&str, usize, u8); 35] = [
+    let marks: [(&str, usize, u8); 39] = [
         ("no processors", 0, 0),
         ("nine processors", 0, 9),
         ("fewer processors than are used", 0, 2),
@@ -217,6 +242,10 @@ fn damages(reached: &Areas) -> Vec<(String, Areas)> {
         ("two waiters with the second turn", turn(4), 1),
         ("a gap between two turns", turn(5), 2),
         ("a first turn that nobody has", awaited(4), 0),
+        ("the oldest job at place 32", FIRST_JOB, 32),
+        ("the oldest job at place 255", FIRST_JOB, 255),
+        ("33 jobs", JOBS, 33),
+        ("255 jobs", JOBS, 255),
     ];
     for (name, place, byte) in marks {
         let mut areas = reached.clone();
@@ -266,6 +295,8 @@ fn not_in_order(tally: &mut Tally, name: &str, damaged: &Areas) {
         (6, 1, 0, 0),
         (8, 1, 0, 5),
         (9, 1, 0, 0),
+        (10, 1, 0, 5),
+        (11, 1, 0, 0),
         (0, 0, 0, 0),
     ];
     let refused = steps.iter().all(|&fields| {
@@ -331,7 +362,7 @@ fn sweep(
 
 /// Changes of which "in order" says nothing: the step is done.
 fn harmless(tally: &mut Tally, reached: &Areas) {
-    let changes: [(&str, fn(&mut Areas)); 13] = [
+    let changes: [(&str, fn(&mut Areas)); 17] = [
         ("a word of a copy", |a| a.words[copy(3, 1)] = 1),
         ("a twin of a clean page", |a| a.words[twin(1, 0)] = 1),
         ("a slot behind the standing records", |a| {
@@ -354,6 +385,18 @@ fn harmless(tally: &mut Tally, reached: &Areas) {
         }),
         ("a posted total", |a| a.words[posted(15)] = u32::MAX),
         ("an add of one who waits", |a| a.words[added(5, 15)] = 1),
+        ("a value in a free place of the queue", |a| {
+            a.words[job_word(31)] = u32::MAX
+        }),
+        ("a job's clock within the own entries", |a| {
+            a.clocks[entry(job_row(31), 1)] = 1
+        }),
+        ("an empty queue at its last place", |a| {
+            a.marks[FIRST_JOB] = 31
+        }),
+        ("32 jobs from the last place on", |a| {
+            (a.marks[FIRST_JOB], a.marks[JOBS]) = (31, 32)
+        }),
         ("two that wait for each other", |a| {
             a.marks[holder(1)] = 4;
             a.marks[awaited(2)] = 2;

@@ -20,9 +20,9 @@ pub fn check(tally: &mut Tally) {
     for (name, length) in lengths {
         tally.check(&format!("header: {name}"), defined(name) == Some(length));
     }
-    let kinds: Vec<usize> = (1..=6).chain([8, 9]).collect();
+    let kinds: Vec<usize> = (1..=6).chain(8..=11).collect();
     tally.check("header: the kinds", numbers_of("lughtsavi_kind") == kinds);
-    let refusals: Vec<usize> = (0..=14).chain([17, 18]).collect();
+    let refusals: Vec<usize> = (0..=14).chain(17..=20).collect();
     tally.check(
         "header: the refusals",
         numbers_of("lughtsavi_refusal") == refusals,

@@ -10,6 +10,7 @@ mod header;
 mod library;
 mod lines;
 mod openings;
+mod queue;
 mod runs;
 mod steps;
 mod tallies;
@@ -49,6 +50,7 @@ fn main() -> ExitCode {
     closing::check(&mut tally);
     fetching::check(&mut tally);
     tallies::check(&mut tally, &reached);
+    queue::check(&mut tally, &reached);
     damage::check(&mut tally, &reached);
     diffs::check(&mut tally);
     println!("{} passed, {} failed", tally.passed, tally.failed);

@@ -54,9 +54,9 @@ fn answers_of_wrong_lengths(tally: &mut Tally, reached: &Areas) {
     }
 }
 
-/// The refusals 3 to 8, 17 and 18, each in its place of the table: every byte is left as it was.
+/// The refusals 3 to 8, 17, 18 and 20, each in its place of the table: every byte is left as it was.
 fn refused_steps(tally: &mut Tally, reached: &Areas) {
-    let steps: [(u8, Step); 69] = [
+    let steps: [(u8, Step); 88] = [
         (3, (0, 1, 0, 0)),
         (3, (7, 1, 0, 0)),
         (3, (257, 1, 0, 0)),
@@ -102,8 +102,8 @@ fn refused_steps(tally: &mut Tally, reached: &Areas) {
         (7, (3, 2, 0, 0)),
         (8, (4, 1, 0, 0)),
         (8, (4, 2, 1, 0)),
-        (3, (10, 1, 0, 0)),
-        (3, (11, 4, 16, 1)),
+        (3, (12, 1, 0, 0)),
+        (3, (13, 4, 16, 1)),
         (3, (264, 1, 0, 0)),
         (3, (265, 1, 0, 0)),
         (4, (8, 0, 0, 1)),
@@ -126,6 +126,25 @@ fn refused_steps(tally: &mut Tally, reached: &Areas) {
         (17, (8, 5, 15, 0)),
         (17, (9, 4, 0, 0)),
         (17, (9, 5, 15, 0)),
+        (3, (266, 1, 0, 0)),
+        (3, (267, 1, 0, 0)),
+        (4, (10, 0, 0, 1)),
+        (4, (10, 6, 1, 1)),
+        (4, (11, 6, 0, 0)),
+        (4, (11, 257, 0, 1)),
+        (5, (10, 1, 1, 0)),
+        (5, (10, 1, 65_536, 7)),
+        (5, (10, 3, u32::MAX, 0)),
+        (5, (11, 1, 1, 0)),
+        (5, (11, 1, 0, 1)),
+        (5, (11, 4, 0, 0x8000_0000)),
+        (6, (10, 3, 0, 1)),
+        (6, (11, 3, 0, 0)),
+        (17, (10, 4, 0, 1)),
+        (17, (10, 5, 0, 0)),
+        (17, (11, 4, 0, 0)),
+        (20, (11, 1, 0, 0)),
+        (20, (11, 2, 0, 0)),
     ];
     for (refusal, fields) in steps {
         let mut areas = reached.clone();

@@ -1,11 +1,13 @@
 //! Tallies through the library: the exact words of the tally part after adds, rounds and collections, that no other byte is written, and what
 //! an opening and damage make of that part.
 
+use crate::damage::job_word;
 use crate::library::{in_order, open, step, Answer, Areas, Step, DONE, UNANSWERED, WORDS};
 use crate::Tally;
 
-/// Behind the twins: 16 posted totals, then 16 adds of each of the eight processors.
+/// Behind the twins: 16 posted totals, then 16 adds of each of the eight processors. The values of jobs lie behind them.
 const TALLIES: usize = 4096;
+const END: usize = TALLIES + 9 * 16;
 
 /// The posted total of a tally.
 pub fn posted(t: usize) -> usize {
@@ -24,7 +26,10 @@ type Word = (usize, u32);
 type Row = (Step, Answer, Vec<Word>);
 
 pub fn check(tally: &mut Tally, reached: &Areas) {
-    tally.check("tallies: the last word", added(8, 15) == WORDS - 1);
+    tally.check(
+        "tallies: the last word",
+        added(8, 15) == END - 1 && END == job_word(0),
+    );
     one_round(tally);
     collecting(tally);
     one_processor(tally);
@@ -47,7 +52,7 @@ fn opened(tally: &mut Tally, counts: [u8; 3]) -> Areas {
 
 /// The tally part with these words in it, and 0 everywhere else.
 fn tally_part(words: &[Word]) -> Vec<u32> {
-    let mut part = vec![0; WORDS - TALLIES];
+    let mut part = vec![0; END - TALLIES];
     words
         .iter()
         .for_each(|&(place, word)| part[place - TALLIES] = word);
@@ -66,7 +71,7 @@ fn rows(tally: &mut Tally, name: &str, areas: &mut Areas, rows: Vec<Row>) {
         );
         tally.check(
             &format!("tallies: {name}, {n}: the words"),
-            areas.words[TALLIES..] == tally_part(&words),
+            areas.words[TALLIES..END] == tally_part(&words),
         );
         if matches!(fields.0, 8 | 9) {
             tally.check(
@@ -80,6 +85,7 @@ fn rows(tally: &mut Tally, name: &str, areas: &mut Areas, rows: Vec<Row>) {
 fn same_but_tallies(areas: &Areas, before: &Areas) -> bool {
     areas.clocks == before.clocks
         && areas.words[..TALLIES] == before.words[..TALLIES]
+        && areas.words[END..] == before.words[END..]
         && areas.records == before.records
         && areas.marks == before.marks
 }
@@ -215,7 +221,7 @@ fn eight_processors(tally: &mut Tally) {
     tally.check("tallies: eight processors add", fine && in_order(&areas));
     tally.check(
         "tallies: eight processors' adds",
-        areas.words[TALLIES..] == tally_part(&words),
+        areas.words[TALLIES..END] == tally_part(&words),
     );
     for p in (1..=8).rev() {
         fine &= step((5, p, 0, 0), &mut { UNANSWERED }, &mut areas) == 0;
@@ -228,7 +234,7 @@ fn eight_processors(tally: &mut Tally) {
         .collect();
     tally.check(
         "tallies: the totals of eight processors",
-        fine && in_order(&areas) && areas.words[TALLIES..] == tally_part(&totals),
+        fine && in_order(&areas) && areas.words[TALLIES..END] == tally_part(&totals),
     );
 }
 
@@ -289,7 +295,7 @@ fn openings(tally: &mut Tally, reached: &Areas) {
 /// Each word of the tally part, one after the other: not in order exactly where it is an add of one of the three absent processors.
 fn each_word_turned(tally: &mut Tally, reached: &Areas) {
     let mut agree = true;
-    for place in TALLIES..WORDS {
+    for place in TALLIES..END {
         let mut areas = reached.clone();
         areas.words[place] ^= u32::MAX;
         agree &= in_order(&areas) == (place < added(6, 0));

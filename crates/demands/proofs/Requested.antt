@@ -19,18 +19,19 @@ use Rattle.rules.specs.Lines.{waits}
 use Rattle.rules.specs.Tallies.{tallyTotal}
 use Rattle.rules.specs.Opening.{openingRefusal, opened}
 use Rattle.rules.specs.Steps.{collected, emptied}
-use Rattle.rules.specs.Refusals.{Step, effect, refusalInOrder, refusal}
+use Rattle.rules.specs.Refusals.{Step, effect, Answer, refusalInOrder, refusal}
 use Rattle.rules.specs.Runs.{answers, wordsMoved}
-use Rattle.rules.specs.Order.{granted}
+use Rattle.rules.specs.Order.{Event, Returns, Before, granted, job}
 use Rattle.rules.specs.Waiting.{refusalAt, ServedInTurn}
 use Rattle.rules.specs.TallyTotals.{TalliesJudged}
 use Rattle.rules.specs.Moved.{EffectsTold}
-use Rattle.rules.specs.Bench.{mainframeWith, answering, accepted, listing, listingAnswers, stepsUnderLock, answersUnderLock, stepsF, equalStores, setToWhatItWas}
+use Rattle.rules.specs.Jobs.{FirstInFirstOut, QueueRefuses}
+use Rattle.rules.specs.Bench.{mainframeWith, answering, accepted, listing, listingAnswers, stepsUnderLock, answersUnderLock, stepsF, equalStores, setToWhatItWas, oneJob, oneJobAnswers, noOtherJob, noOtherJobAnswers, collectedJob, collectedJobAnswers, fullTwice, fullTwiceAnswers}
 use Rattle.rules.specs.Noted.{withoutValue, refusalsOf}
 use Rattle.rules.specs.Forecast.{openedFor, Figures, forecastFigures}
 use Rattle.rules.proofs.Foretold.{forecast-is-the-run}
 use Rattle.rules.proofs.NoValues.{foreseen-without-values, refusals-foreseen, refused-without-values}
-use Rattle.rules.proofs.ForecastCases.{two-pages-figures}
+use Rattle.rules.proofs.ForecastCases.{two-pages-figures, jobs-figures}
 use Rattle.rules.proofs.InOrderRuns.{refusal-is-not-one}
 use Rattle.rules.proofs.inorder.InOrderSays.{in-order-says}
 use Rattle.rules.proofs.inorder.Accepted.{present-says}
@@ -45,6 +46,11 @@ use Rattle.rules.proofs.LocksFree.{arrived-holder-out, round-finds-locks-free}
 use Rattle.rules.proofs.StoresNoted.{ordered-reads-by-events, closing-notes, written-is-dirty, refusals-alike, nine-sooner}
 use Rattle.rules.proofs.TallyReads.{posting-any-order, posted-totals, tally-reads}
 use Rattle.rules.proofs.WordsMoved.{steps-move, effects-told, what-it-was}
+use Rattle.rules.proofs.FirstOut.{one-enqueue, one-dequeue, first-in-first-out}
+use Rattle.rules.proofs.QueueSpace.{nineteen-exactly-when, twenty-exactly-when, job-never-3, job-object-is-5, dequeue-value-is-5, queue-refuses}
+use Rattle.rules.proofs.QueueSteps.{queue-as-claimed, adds-job, removes-job, leaves-jobs}
+use Rattle.rules.proofs.JobsTold.{precedes-no-other, returns-exactly, learns-its-clock}
+use Rattle.rules.proofs.QueueCases.{queue-cases}
 use Rattle.rules.proofs.Cases.{bench-cases}
 use Rattle.rules.proofs.runs.FromStart.{listing-a}
 use Rattle.rules.proofs.runs.Listing.{start}
@@ -56,8 +62,8 @@ use Rattle.stepfile.specs.Files.{answerLines, endLine, stepAnswers}
 use Rattle.stepfile.proofs.Judged.{accepted-lines}
 use Rattle.stepfile.proofs.Cases.{listing-file}
 use Rattle.forecast_file.specs.Files.{forecastLines}
-use Rattle.demands.specs.Answered.{OfAnswers}
-use Rattle.demands.specs.Requests.{WaitForAHeldLock, StoringTheSame, ClosingInSequence, TalliesCount, NotApplyingReplaced, WordsTold, NoArrivingWithALock, SpaceForecast, Requests}
+use Rattle.demands.specs.Answered.{OfAnswers, AnswersAs}
+use Rattle.demands.specs.Requests.{WaitForAHeldLock, StoringTheSame, ClosingInSequence, TalliesCount, NotApplyingReplaced, WordsTold, NoArrivingWithALock, SpaceForecast, TaskQueue, Requests}
 use Rattle.demands.proofs.Lifted.{lifted, case-lifted}
 use Rattle.demands.proofs.SixteenPages.{sixteen-pages}
 use Rattle.demands.proofs.SideBySide.{side-by-side, forecast-printed, run-printed, stops-at-15, stops-at-16, listing-rows, cut-rows}
@@ -236,6 +242,45 @@ space-forecast =
       two-pages = two-pages-figures;
     }
 
+-- ---- L9
+
+-- a job is returned to the dequeue of its number, which the order has as an edge
+job-precedes : (n : ℕ) (es : List Event) (i p v j q : ℕ) → Returns es i p v j q → Before n es i j
+job-precedes n es i p v j q h = job p v q h
+
+-- a run of the queue's cases
+queue-case : (p g l : ℕ) (ts : List Step) (expected : List Answer) → answers mainframe (start p g l) ts ≡ expected → OfAnswers (AnswersAs (mainframeWith p g l) ts expected)
+queue-case p g l ts expected h = case-lifted (mainframeWith p g l) ts expected (rw (from-start p g l) h)
+
+task-queue : TaskQueue
+unfolding mainframe
+task-queue =
+    record {
+      thirty-two = refl;
+      first-out = lifted (λ c ts answered. FirstInFirstOut ts answered) (λ o e ts. first-in-first-out mainframe o words-there e ts);
+      used-again = queue-case 2 1 1 fullTwice fullTwiceAnswers (queue-cases .full-twice);
+      adds = λ s t v ordered e is. adds-job mainframe s t ordered v e is;
+      removes = λ s t first rest ordered e is line. removes-job mainframe s t ordered first rest e is line;
+      precedes = job-precedes;
+      one-job = queue-case 3 1 1 oneJob oneJobAnswers (queue-cases .one-job);
+      no-other-way = precedes-no-other;
+      one-dequeue = one-dequeue;
+      one-enqueue = one-enqueue;
+      no-other = queue-case 3 1 1 noOtherJob noOtherJobAnswers (queue-cases .no-other-job);
+      returned = λ o e ts i p v j q a d. returns-exactly mainframe o words-there e ts i p v j q a d;
+      learned = λ o e ts i p v j q h. learns-its-clock mainframe o words-there e ts i p v j q h;
+      in-order = queue-as-claimed mainframe;
+      leaves = λ s t ordered a b. leaves-jobs mainframe s t ordered a b;
+      collected-job = queue-case 2 1 1 collectedJob collectedJobAnswers (queue-cases .collected-job);
+      object-five = λ s t ordered is there big. job-object-is-5 mainframe s t is ordered there big;
+      value-five = λ s t ordered is there big. dequeue-value-is-5 mainframe s t is ordered there big;
+      forecast = jobs-figures;
+      nineteen = λ s t v ordered h is. by-table s t 19 (s .marks .jobs ≡ 32) ordered (nineteen-exactly-when mainframe s t v h is);
+      twenty = λ s t ordered h is. by-table s t 20 (s .marks .jobs ≡ 0) ordered (twenty-exactly-when mainframe s t h is);
+      refuses = lifted (λ c ts answered. QueueRefuses mainframe c ts answered) (λ o e ts. queue-refuses mainframe o words-there e ts);
+      not-three = λ s t is. job-never-3 mainframe s t is;
+    }
+
 -- all of them
 pub requests : Requests
 requests =
@@ -248,5 +293,6 @@ requests =
       L6 = words-told;
       L7 = no-arriving-with-a-lock;
       L8 = space-forecast;
+      L9 = task-queue;
       L10 = sixteen-pages;
     }

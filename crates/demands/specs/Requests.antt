@@ -24,9 +24,9 @@ use Rattle.rules.specs.Opening.{Opening, openingRefusal, opened}
 use Rattle.rules.specs.Close.{closed}
 use Rattle.rules.specs.Fetch.{due, appliedAll, fetched}
 use Rattle.rules.specs.Steps.{pageOfWord, atBarrier, allArrived, collected}
-use Rattle.rules.specs.Refusals.{Step, Action, Read, Write, Acquire, Release, Arrive, TallyAdd, TallyRead, actionOf, effect, Answer, refusedAs, refusal}
+use Rattle.rules.specs.Refusals.{Step, Action, Read, Write, Acquire, Release, Arrive, TallyAdd, TallyRead, Enqueue, Dequeue, actionOf, effect, Answer, refusedAs, refusal}
 use Rattle.rules.specs.Runs.{answers, stateAfter, wordsMoved}
-use Rattle.rules.specs.Order.{Event, events, Took, Before}
+use Rattle.rules.specs.Order.{Event, events, Took, Returns, Before}
 use Rattle.rules.specs.Demand.{Synchronized, valueAt, ReadsJudged}
 use Rattle.rules.specs.Rows.{Addressed, Comes, HoldsOne}
 use Rattle.rules.specs.Noted.{ClosingNotes, outline, withoutValue, refusalsOf}
@@ -34,9 +34,10 @@ use Rattle.rules.specs.Waiting.{lineIn, eventsIn, WaitsInLine, GoesTo, LinesAsC
 use Rattle.rules.specs.TallyTotals.{postedDue, TalliesJudged, takenUp, takenDown}
 use Rattle.rules.specs.Moved.{Skips, StepsMove, EffectsTold}
 use Rattle.rules.specs.LocksFree.{FindsLocksFree}
+use Rattle.rules.specs.Jobs.{Queued, queueIn, QueueAsClaimed, AddsJob, RemovesJob, LeavesJobs, FirstInFirstOut, QueueRefuses, PrecedesBy, TakesItsJob, LearnsItsClock}
 use Rattle.rules.specs.WiderLimits.{isTen}
 use Rattle.rules.specs.Forecast.{openedFor, Figures, runFigures, forecastFigures}
-use Rattle.rules.specs.Bench.{mainframeWith, answering, accepted, listing, listingAnswers, stepsUnderLock, answersUnderLock, StoredValues, stepsF, equalStores, setToWhatItWas, twoPages, twoPagesFigures}
+use Rattle.rules.specs.Bench.{mainframeWith, answering, accepted, listing, listingAnswers, stepsUnderLock, answersUnderLock, StoredValues, stepsF, equalStores, setToWhatItWas, twoPages, twoPagesFigures, oneJob, oneJobAnswers, noOtherJob, noOtherJobAnswers, collectedJob, collectedJobAnswers, fullTwice, fullTwiceAnswers, jobsForecast, jobsFigures}
 use Rattle.step_close.specs.Sequence.{closedInSequence}
 use Rattle.layout.specs.Areas.{Areas, heldBy, rightSizes}
 use Rattle.opening.specs.Promises.{openingOf, openRefusal, areasOpened}
@@ -226,6 +227,54 @@ pub record SpaceForecast : Type 0 where
   pub cut : forecastRows cutFile ≡ cutRows
   pub two-pages : runFigures mainframe (opened mainframe (mainframeWith 2 2 1)) twoPages ≡ twoPagesFigures
 
+-- ---- L9. Task queue
+
+pub record TaskQueue : Type 0 where
+  -- "One queue holds up to 32 jobs, ..
+  pub thirty-two : mainframe .jobs ≡ 32
+  -- .. first in first out, ..
+  pub first-out : OfAnswers (λ c ts answered. FirstInFirstOut ts answered)
+  -- .. and space is used again after each removal": 32 jobs, two of them removed, two added, and all removed
+  pub used-again : OfAnswers (AnswersAs (mainframeWith 2 1 1) fullTwice fullTwiceAnswers)
+  -- "Kind 10 closes the card's interval and adds the value with the card's clock; ..
+  pub adds : (s : State) (t : Step) (v : ℕ) → inOrder mainframe s ≡ true → refusal mainframe s t ≡ 0 → actionOf t ≡ Enqueue v → AddsJob mainframe s t v
+  -- .. kind 11 closes, removes the oldest job, learns its clock and answers its value"
+  pub removes : (s : State) (t : Step) (job : Queued) (rest : List Queued) → inOrder mainframe s ≡ true → refusal mainframe s t ≡ 0 → actionOf t ≡ Dequeue
+      → queueIn mainframe s ≡ job ∷ rest → RemovesJob mainframe s t job rest
+  -- "An enqueue precedes in happens-before-1 the dequeue that returns its job, ..
+  pub precedes : (n : ℕ) (es : List Event) (i p v j q : ℕ) → Returns es i p v j q → Before n es i j
+  pub one-job : OfAnswers (AnswersAs (mainframeWith 3 1 1) oneJob oneJobAnswers)
+  -- .. and of itself no other": what it precedes, it precedes by a later step of its card or by that dequeue, which is one; other dequeues are told nothing
+  pub no-other-way : (n : ℕ) (es : List Event) (i p v j : ℕ) → Took es i p (Enqueue v) → Before n es i j → PrecedesBy n es i p v j
+  pub one-dequeue : (es : List Event) (i p v j j′ q q′ : ℕ) → Returns es i p v j q → Returns es i p v j′ q′ → j ≡ j′
+  pub one-enqueue : (es : List Event) (i i′ p p′ v v′ j q : ℕ) → Returns es i p v j q → Returns es i′ p′ v′ j q → i ≡ i′
+  pub no-other : OfAnswers (AnswersAs (mainframeWith 3 1 1) noOtherJob noOtherJobAnswers)
+  -- the list names exactly the job that the dequeue takes from the state, and the clock that it learns
+  pub returned : (o : Opening) → openingRefusal mainframe o ≡ 0 → (ts : List Step) (i p v j q : ℕ)
+      → Took (eventsIn mainframe (opened mainframe (o .counts)) ts) i p (Enqueue v) → Took (eventsIn mainframe (opened mainframe (o .counts)) ts) j q Dequeue
+      → TakesItsJob mainframe (opened mainframe (o .counts)) ts i j ↔ Returns (eventsIn mainframe (opened mainframe (o .counts)) ts) i p v j q
+  pub learned : (o : Opening) → openingRefusal mainframe o ≡ 0 → (ts : List Step) (i p v j q : ℕ)
+      → Returns (eventsIn mainframe (opened mainframe (o .counts)) ts) i p v j q → LearnsItsClock mainframe (opened mainframe (o .counts)) ts i p j q
+  -- "A state in order has at most 32 jobs, and their clocks keep the bound of every clock"
+  pub in-order : (s : State) → inOrder mainframe s ≡ true → QueueAsClaimed mainframe s
+  -- "Demand 3 is judged by that wider order": `Before` has the edge, and demand 3 is `Demands.three`
+  -- "A collecting round sets the clocks of queued jobs to zeros", and no other step of another kind changes a job
+  pub leaves : (s : State) (t : Step) → inOrder mainframe s ≡ true → (t .kind ≡ 10 → ⊥) → (t .kind ≡ 11 → ⊥) → LeavesJobs mainframe s t
+  pub collected-job : OfAnswers (AnswersAs (mainframeWith 2 1 1) collectedJob collectedJobAnswers)
+  -- "The object of both kinds is 0, and kind 11 has no value field in use"
+  pub object-five : (s : State) (t : Step) → inOrder mainframe s ≡ true → (t .kind ≡ 10) ⊎ (t .kind ≡ 11) → present s (t .processor) ≡ true → 0 < t .object
+      → refusal mainframe s t ≡ 5
+  pub value-five : (s : State) (t : Step) → inOrder mainframe s ≡ true → t .kind ≡ 11 → present s (t .processor) ≡ true → 0 < t .value → refusal mainframe s t ≡ 5
+  -- "The forecast covers both kinds": L8's fields are of lists of steps of every kind; both close
+  pub forecast : runFigures mainframe (opened mainframe (mainframeWith 2 1 1)) jobsForecast ≡ jobsFigures
+  -- "19, enqueue with 32 jobs waiting; 20, dequeue with none; both after 18": in every state in order, and in every list by its answers
+  pub nineteen : (s : State) (t : Step) (v : ℕ) → inOrder mainframe s ≡ true → Comes mainframe s t → actionOf t ≡ Enqueue v
+      → refusal mainframe s t ≡ 19 ↔ s .marks .jobs ≡ 32
+  pub twenty : (s : State) (t : Step) → inOrder mainframe s ≡ true → Comes mainframe s t → actionOf t ≡ Dequeue → refusal mainframe s t ≡ 20 ↔ s .marks .jobs ≡ 0
+  pub refuses : OfAnswers (λ c ts answered. QueueRefuses mainframe c ts answered)
+  -- "kinds 10 and 11 leave the reach of 3"
+  pub not-three : (s : State) (t : Step) → (t .kind ≡ 10) ⊎ (t .kind ≡ 11) → refusal mainframe s t ≡ 3 → ⊥
+
 -- ---- L10. Sixteen pages
 
 pub record SixteenPages : Type 0 where
@@ -266,4 +315,5 @@ pub record Requests : Type 0 where
   pub L6 : WordsTold
   pub L7 : NoArrivingWithALock
   pub L8 : SpaceForecast
+  pub L9 : TaskQueue
   pub L10 : SixteenPages

@@ -1,11 +1,13 @@
 -- What a forecast shows of the state in order that it foretells, and what the functions may so ask of the marks. Rests on Foretold of the crate
 -- rules. Assumes nothing.
-use Prim.Native.Nat.{ℕ, zero, suc, _+_, _-_, _≤_}
+use Prim.Native.Nat.{ℕ, zero, suc, _+_, _-_, _≤_, _<_}
 use native.Mathlib.Omega.{arith}
 use mathlib.Core.Path.{_≡_, ap}
 use mathlib.Core.Bool.{true, false}
+use mathlib.Core.Logic.{_⊎_, inl, inr}
 use mathlib.Core.List.{List, [], _∷_}
 use lib.ListN.{getD}
+use Rattle.limits.specs.Limits.{jobLimit}
 use Rattle.rules.specs.InOrder.{present, presentHolder, dirtyPages}
 use Rattle.rules.specs.Close.{closed}
 use Rattle.rules.specs.Lines.{waits}
@@ -16,7 +18,8 @@ use Rattle.rules.proofs.inorder.Accepted.{present-when}
 use Rattle.rules.proofs.inorder.Facts.{InOrder, LinesInOrder}
 use Rattle.rules.proofs.inorder.KeptClose.{closed-keeps}
 use Rattle.rules.proofs.inorder.KeptParts.{ownIn}
-use Rattle.layout.specs.Areas.{stateIn}
+use Rattle.layout.specs.Areas.{marksIn, stateIn}
+use Rattle.layout.specs.inner.Marks.{firstMark, jobsMark}
 use Rattle.refusals.specs.inner.Needed.{MarksCountable, PagesOf}
 use Rattle.refusals.specs.inner.Parts.{seen}
 use Rattle.barrier_marks.specs.inner.Needed.{AbsentAway}
@@ -36,6 +39,8 @@ pub record ForecastInOrder (lim : Limits) (f : Forecast) : Type 0 where
   pub absent-not-arrived : (p : ℕ) → 1 ≤ p → present (bare f) p ≡ false → hasArrived (bare f) p ≡ false
   pub absent-awake : (p : ℕ) → 1 ≤ p → present (bare f) p ≡ false → waits (f .marks) p ≡ false
   pub lines : LinesInOrder (f .counts) (f .marks)
+  pub first-there : (lim .jobs ≡ 0) ⊎ (f .marks .first < lim .jobs)
+  pub few-jobs : f .marks .jobs ≤ lim .jobs
   pub room : f .standing + dirtyFor f ≤ lim .records
   pub own-fits : (p : ℕ) → ownFor f p ≤ lim .intervals
 
@@ -50,6 +55,8 @@ seen-in-order lim s e o owns =
       absent-not-arrived = o .absent-not-arrived;
       absent-awake = o .absent-awake;
       lines = o .lines;
+      first-there = o .first-there;
+      few-jobs = o .few-jobs;
       room = o .room;
       own-fits = λ p. rw (← owns p) (o .own-fits p);
     }
@@ -82,6 +89,19 @@ module _ (own m : List ℕ) (h : Foreseen own m) where
   counted-foreseen =
       let o = foreseen-in-order in
       record { marks = h .marks; processors = o .processors-fit; pages = o .pages-fit; locks = o .locks-fit; absent-clean = record { clean = o .absent-clean } }
+
+  -- the oldest job has a place, and no more jobs wait than there are places
+  pub first-foreseen : firstMark m < jobLimit
+  unfolding forecastIn seenIn stateIn marksIn mainframe
+  first-foreseen = go (foreseen-in-order .first-there)
+    where
+      go : (jobLimit ≡ 0) ⊎ (firstMark m < jobLimit) → firstMark m < jobLimit
+      go (inl e) = absurd (omega (arith, e))
+      go (inr l) = l
+
+  pub jobs-foreseen : jobsMark m ≤ jobLimit
+  unfolding forecastIn seenIn stateIn marksIn mainframe
+  jobs-foreseen = foreseen-in-order .few-jobs
 
   -- nobody who is absent has arrived
   pub away-foreseen : AbsentAway m

@@ -18,7 +18,7 @@ use Rattle.rules.proofs.Foretold.{opened-foretold}
 use Rattle.rules.proofs.inorder.OpenedInOrder.{opened-in-order, opening-counts}
 use Rattle.lists.specs.Tables.{tabulate}
 use Rattle.layout.specs.Layout.{perProcessor}
-use Rattle.layout.specs.Areas.{stateIn, pagesIn, recordsIn, marksIn, dirtyPlace, holderPlace, arrivedPlace, awaitedPlace, turnPlace, standingCount}
+use Rattle.layout.specs.Areas.{stateIn, pagesIn, recordsIn, marksIn, dirtyPlace, holderPlace, arrivedPlace, awaitedPlace, turnPlace, firstPlace, jobsPlace, standingCount}
 use Rattle.opening.specs.Promises.{openingOf}
 use Rattle.opening.specs.inner.Openings.{openingFits, openedMarks, MarksOpenable, OpeningIs}
 use Rattle.refusals.specs.inner.Needed.{MarksCountable}
@@ -31,7 +31,7 @@ use Rattle.forecast_step.proofs.Foreseeing.{foreseen-in-order, counted-
 
 -- the marks of an opened mainframe and own entries of 0 hold its forecast
 opened-shown : (bytes : List ℕ) → forecastIn (replicate processorLimit 0) (openedMarks bytes) ≡ openedFor mainframe (openingOf bytes .counts)
-unfolding forecastIn openedMarks openedFor openingOf stateIn mainframe zeroPages pagesIn recordsIn zeroMarks marksIn perProcessor tabulate rows dirtyPlace holderPlace arrivedPlace awaitedPlace turnPlace standingCount
+unfolding forecastIn openedMarks openedFor openingOf stateIn mainframe zeroPages pagesIn recordsIn zeroMarks marksIn perProcessor tabulate rows dirtyPlace holderPlace arrivedPlace awaitedPlace turnPlace firstPlace jobsPlace standingCount
 opened-shown bytes = refl
 
 module _ (bytes own m : List ℕ) (h : OpeningGiven bytes own m) (fits : Bool) (is : OpeningIs fits bytes) where

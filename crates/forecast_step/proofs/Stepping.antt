@@ -63,7 +63,7 @@ pub ruleset refusal-laws = (counted-foreseen, refused-early, step-fitting, fitti
 value-unused : (f : Forecast) (k p o v : ℕ) → knownKind k ≡ true → forecastAfter mainframe f p (actionOf (stepOf k p o v)) ≡ forecastAfter mainframe f p (actionOf (stepOf k p o 0))
 unfolding forecastAfter actionOf stepOf
 value-unused f k p o v known =
-    by-kind (λ j. forecastAfter mainframe f p (actionOf (stepOf j p o v)) ≡ forecastAfter mainframe f p (actionOf (stepOf j p o 0))) refl refl refl refl refl refl refl refl k known
+    by-kind (λ j. forecastAfter mainframe f p (actionOf (stepOf j p o v)) ≡ forecastAfter mainframe f p (actionOf (stepOf j p o 0))) refl refl refl refl refl refl refl refl refl refl k known
 
 -- the forecast of the next state is that of some state in order
 next-foreseen : (own m : List ℕ) (t : Step) (own′ m′ : List ℕ) → Foreseen own m → Shows own′ m′ (forecastNext mainframe (forecastIn own m) t) → Foreseen own′ m′

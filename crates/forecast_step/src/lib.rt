@@ -8,7 +8,7 @@ ghost use lib.Seq.{sets};
 ghost use Rattle.limits.specs.Limits.{pageLimit};
 ghost use Rattle.rules.specs.State.{mainframe};
 ghost use Rattle.rules.specs.Forecast.{forecastRefusal, closedFor, collectedFor, forecastAfter};
-ghost use Rattle.rules.specs.Refusals.{Acquire, Release, Arrive, stepOf, actionOf};
+ghost use Rattle.rules.specs.Refusals.{Acquire, Release, Arrive, Enqueue, Dequeue, stepOf, actionOf};
 ghost use Rattle.rules.proofs.inorder.KeptParts.{dirtyBelow};
 ghost use Rattle.layout.specs.Areas.{dirtyPlace};
 ghost use Rattle.layout.specs.inner.Marks.{pageCount};
@@ -17,7 +17,7 @@ ghost use Rattle.refusals.specs.inner.Needed.{PagesOf, WriteOf};
 ghost use Rattle.refusals.specs.inner.Parts.{seen};
 ghost use Rattle.forecast_step.specs.Memory.{forecastIn};
 ghost use Rattle.forecast_step.specs.inner.Needed.{Foreseen, OpeningGiven, OpeningForeseen, MarksForeseen, FiguresShown, StepForeseen};
-ghost use Rattle.forecast_step.specs.inner.Parts.{BothLent, ActsForeseen, LockForeseen, ArrivalForeseen, AcceptedForeseen, Shows, PageWritten, roundCompleted};
+ghost use Rattle.forecast_step.specs.inner.Parts.{BothLent, ActsForeseen, LockForeseen, RoomForeseen, JobForeseen, ArrivalForeseen, AcceptedForeseen, Shows, PageWritten, roundCompleted};
 use clock::PageId;
 use clock::ProcessorId;
 use layout::clear;
@@ -128,6 +128,14 @@ fn act(kind: u32, p: ProcessorId, object: usize, own: &mut [u8], marks: &mut [u8
         barrier_marks::want(marks);
         return;
     }
+    if kind == 10 {
+        enqueue(p, own, marks);
+        return;
+    }
+    if kind == 11 {
+        dequeue(p, own, marks);
+        return;
+    }
 }
 
 // Write: a clean page becomes dirty.
@@ -158,6 +166,24 @@ fn release(p: ProcessorId, lock: usize, own: &mut [u8], marks: &mut [u8])
 {
     close(p, own, marks);
     lock_line::hand_on(marks, lock);
+}
+
+// Enqueue: closes the interval; one job more waits.
+fn enqueue(p: ProcessorId, own: &mut [u8], marks: &mut [u8])
+    requires { ⌜ RoomForeseen (now own) (now marks) (p .0) ⌝ }
+    ensures { λ _. ⌜ Shows (now (own .exit)) (now (marks .exit)) (forecastAfter mainframe (forecastIn (now (own .entry)) (now (marks .entry))) (p .0) (Enqueue 0)) ⌝ }
+{
+    close(p, own, marks);
+    queue_marks::add_job(marks);
+}
+
+// Dequeue: closes the interval; the oldest job is removed.
+fn dequeue(p: ProcessorId, own: &mut [u8], marks: &mut [u8])
+    requires { ⌜ JobForeseen (now own) (now marks) (p .0) ⌝ }
+    ensures { λ _. ⌜ Shows (now (own .exit)) (now (marks .exit)) (forecastAfter mainframe (forecastIn (now (own .entry)) (now (marks .entry))) (p .0) Dequeue) ⌝ }
+{
+    close(p, own, marks);
+    queue_marks::remove_job(marks);
 }
 
 // Arrive: closes the interval; the processor is marked. When the last processor arrives the round is completed.

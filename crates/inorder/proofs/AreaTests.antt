@@ -10,8 +10,8 @@ use borrow.Author.Needs.{needs}
 use Rattle.lists.specs.Tables.{every}
 use Rattle.lists.proofs.Conditions.{and-left, and-right}
 use Rattle.lists.proofs.Passing.{and-fails, and-goes-on}
-use Rattle.limits.specs.Limits.{lockLimit, pageLimit, processorLimit, recordLimit}
-use Rattle.limits.specs.inner.Sizes.{copyLimit, firstLockRow}
+use Rattle.limits.specs.Limits.{jobLimit, lockLimit, pageLimit, processorLimit, recordLimit}
+use Rattle.limits.specs.inner.Sizes.{copyLimit, firstJobRow, firstLockRow}
 use Rattle.layout.specs.Areas.{standingCount}
 use Rattle.layout.specs.inner.Needed.{Lent}
 use Rattle.layout.specs.inner.Marks.{lockCount, pageCount, processorCount}
@@ -87,7 +87,7 @@ module _ (c w r m : List ℕ) (processors pages locks standing : ℕ) (p : Areas
 pub own-fit-clocks : (own c : List ℕ) (processors pages locks : ℕ) (t : Bool) → t ≡ clocksHoldWith own c processors pages locks → not t ≡ false → OwnFit own
 unfolding clocksHoldWith
 own-fit-clocks own c processors pages locks t e k =
-    record { fit = and-left (every processorLimit (ownFits own)) (rowsHold own c 0 firstLockRow (processors + 1) && (rowsHold own c firstLockRow lockLimit locks && (every processorLimit (appliedHold c processors pages) && every processorLimit (intervalsHold own c)))) (sym e ∙ not-false t k) }
+    record { fit = and-left (every processorLimit (ownFits own)) (rowsHold own c 0 firstLockRow (processors + 1) && (rowsHold own c firstLockRow lockLimit locks && (rowsHold own c firstJobRow jobLimit jobLimit && (every processorLimit (appliedHold c processors pages) && every processorLimit (intervalsHold own c))))) (sym e ∙ not-false t k) }
 
 -- the tests of the areas, one after the other
 pub areas-is : (own c w r m : List ℕ) (processors pages locks standing : ℕ) (t : Bool)

@@ -12,8 +12,8 @@ use borrow.Author.Needs.{needs}
 use Rattle.lists.specs.Tables.{every}
 use Rattle.lists.proofs.Tables.{every-at}
 use Rattle.lists.proofs.Passing.{Passed, passed-none, pass-one, fail-one, passed-more, passed-broken, passed-all, Kept, kept-none, kept-on, kept-off, kept-all, and-fails, and-goes-on}
-use Rattle.limits.specs.Limits.{intervalLimit, lockLimit, pageLimit, processorLimit}
-use Rattle.limits.specs.inner.Sizes.{clockArea, clockWidth, firstAppliedRow, firstIntervalRow, firstLockRow, ownStep}
+use Rattle.limits.specs.Limits.{intervalLimit, jobLimit, lockLimit, pageLimit, processorLimit}
+use Rattle.limits.specs.inner.Sizes.{clockArea, clockWidth, firstAppliedRow, firstIntervalRow, firstJobRow, firstLockRow, ownStep}
 use Rattle.layout.specs.Layout.{rowOf}
 use Rattle.layout.specs.inner.Needed.{RowThere}
 use Rattle.lists.proofs.Tabulated.{length-tabulate, get-tabulate}
@@ -171,11 +171,15 @@ processor-rows-there c processors pages locks p = record { within = omega (arith
 pub lock-rows-there : (c : List ℕ) (processors pages locks : ℕ) → ClocksThere c processors pages locks → RowsThere c firstLockRow lockLimit locks
 lock-rows-there c processors pages locks p = record { within = omega (arith, p .clocks); among = omega (arith, p .locks-fit) }
 
+-- those of the places of the queue do
+pub job-rows-there : (c : List ℕ) (processors pages locks : ℕ) → ClocksThere c processors pages locks → RowsThere c firstJobRow jobLimit jobLimit
+job-rows-there c processors pages locks p = record { within = omega (arith, p .clocks); among = omega arith }
+
 -- the tests of all clocks, one after the other
 pub clocks-is : (own c : List ℕ) (processors pages locks : ℕ) (r : Bool)
-    → r ≡ (every processorLimit (ownFits own) && (rowsHold own c 0 firstLockRow (processors + 1) && (rowsHold own c firstLockRow lockLimit locks && (every processorLimit (appliedHold c processors pages) && every processorLimit (intervalsHold own c)))))
+    → r ≡ (every processorLimit (ownFits own) && (rowsHold own c 0 firstLockRow (processors + 1) && (rowsHold own c firstLockRow lockLimit locks && (rowsHold own c firstJobRow jobLimit jobLimit && (every processorLimit (appliedHold c processors pages) && every processorLimit (intervalsHold own c))))))
     → r ≡ clocksHoldWith own c processors pages locks
 unfolding clocksHoldWith
 clocks-is own c processors pages locks r e = e
 
-pub ruleset clocks-checked = (passed-none, passed-more, passed-broken, passed-all, and-fails, and-goes-on, kept-none, kept-all, within-kept, within-lost, row-is, row-there, first-rows-there, other-rows-there, rows-hold-is, own-read-begins, own-place-there, own-place-free, own-read-more, own-read-all, own-more, own-broken, own-fit-all, row-of-processor, applied-rows-there, applied-is, clocks-one, interval-rows-there, intervals-is, intervals-one, processor-rows-there, lock-rows-there, clocks-is, needs)
+pub ruleset clocks-checked = (passed-none, passed-more, passed-broken, passed-all, and-fails, and-goes-on, kept-none, kept-all, within-kept, within-lost, row-is, row-there, first-rows-there, other-rows-there, rows-hold-is, own-read-begins, own-place-there, own-place-free, own-read-more, own-read-all, own-more, own-broken, own-fit-all, row-of-processor, applied-rows-there, applied-is, clocks-one, interval-rows-there, intervals-is, intervals-one, processor-rows-there, lock-rows-there, job-rows-there, clocks-is, needs)

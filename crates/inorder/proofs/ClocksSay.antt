@@ -10,14 +10,14 @@ use lib.Dec.{ltb}
 use borrow.Author.Tests.{le-ltb, le-leb}
 use Rattle.lists.specs.Tables.{every}
 use Rattle.lists.proofs.Tables.{every-holds}
-use Rattle.limits.specs.Limits.{intervalLimit, lockLimit, pageLimit, pageWidth, processorLimit, tallyLimit}
-use Rattle.limits.specs.inner.Sizes.{clockWidth, copyLimit, firstAppliedRow, firstIntervalRow, firstLockRow, firstTally}
+use Rattle.limits.specs.Limits.{intervalLimit, jobLimit, lockLimit, pageLimit, pageWidth, processorLimit, tallyLimit}
+use Rattle.limits.specs.inner.Sizes.{clockWidth, copyLimit, firstAppliedRow, firstIntervalRow, firstJobRow, firstLockRow, firstTally}
 use Rattle.clock.specs.Clocks.{zeros}
 use Rattle.rules.specs.InOrder.{presentHolder}
 use Rattle.rules.specs.Refusals.{fits}
-use Rattle.rules.specs.State.{mainframe, Holder, Processor, Lock, Barrier, Applied, Interval, copyOf, twinOf, clock}
+use Rattle.rules.specs.State.{mainframe, Holder, Processor, Lock, Barrier, Applied, Interval, Job, copyOf, twinOf, clock}
 use Rattle.rules.proofs.inorder.Facts.{Within, InOrder}
-use Rattle.layout.specs.Areas.{lockRow, appliedRow, intervalRow, clockRow, stateIn, tallyPlace}
+use Rattle.layout.specs.Areas.{lockRow, appliedRow, intervalRow, jobRow, clockRow, stateIn, tallyPlace}
 use Rattle.layout.specs.Layout.{rowOf}
 use Rattle.layout.specs.inner.Marks.{lockCount, pageCount, processorCount}
 use Rattle.layout.proofs.RowLaws.{get-row}
@@ -66,6 +66,11 @@ module _ (c w r m : List ℕ) (o : InOrder mainframe (stateIn mainframe c w r m)
       zeros : (i q : ℕ) → lockCount m ≤ i → i < lockLimit → q < processorLimit → getD c (clockWidth * (firstLockRow + i) + q) 0 ≡ 0
       zeros i q h n b = row-zero (Lock i) (firstLockRow + i) q n (omega arith) b (lock-present-read c w r m i ∙ le-ltb i (lockCount m) h)
 
+  job-rows-says : rowsHold (ownEntries c) c firstJobRow jobLimit jobLimit ≡ true
+  unfolding Within clockRow jobRow mainframe
+  job-rows-says =
+      rows-hold-when (ownEntries c) c firstJobRow jobLimit jobLimit (λ i q h b. row-known (Job i) (firstJobRow + i) q h (omega arith) b) (λ i q h n b. absurd (omega arith))
+
   applied-says : every processorLimit (appliedHold c (processorCount m) (pageCount m)) ≡ true
   unfolding appliedHold Within clockRow appliedRow mainframe stateIn clock pagesOf
   applied-says = every-holds processorLimit (appliedHold c (processorCount m) (pageCount m)) each
@@ -113,7 +118,7 @@ module _ (c w r m : List ℕ) (o : InOrder mainframe (stateIn mainframe c w r m)
   -- all clocks pass
   pub clocks-say : clocksHoldWith (ownEntries c) c (processorCount m) (pageCount m) (lockCount m) ≡ true
   unfolding clocksHoldWith
-  clocks-say = rw (own-fits-says, processor-rows-says, lock-rows-says, applied-says, intervals-says)
+  clocks-say = rw (own-fits-says, processor-rows-says, lock-rows-says, job-rows-says, applied-says, intervals-says)
 
   -- ---- words
 

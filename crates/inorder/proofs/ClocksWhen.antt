@@ -9,14 +9,14 @@ use borrow.Author.Tests.{ltb-false}
 use Rattle.lists.specs.Tables.{every}
 use Rattle.lists.proofs.Conditions.{and-left, and-right}
 use Rattle.lists.proofs.Tables.{every-at}
-use Rattle.limits.specs.Limits.{intervalLimit, lockLimit, pageLimit, processorLimit}
-use Rattle.limits.specs.inner.Sizes.{clockWidth, firstAppliedRow, firstIntervalRow, firstLockRow}
+use Rattle.limits.specs.Limits.{intervalLimit, jobLimit, lockLimit, pageLimit, processorLimit}
+use Rattle.limits.specs.inner.Sizes.{clockWidth, firstAppliedRow, firstIntervalRow, firstJobRow, firstLockRow}
 use Rattle.rules.specs.InOrder.{presentHolder}
 use Rattle.rules.specs.Refusals.{next}
-use Rattle.rules.specs.State.{mainframe, Holder, Processor, Lock, Barrier, Applied, Interval, State}
+use Rattle.rules.specs.State.{mainframe, Holder, Processor, Lock, Barrier, Applied, Interval, Job, State}
 use Rattle.rules.proofs.inorder.Facts.{Within}
 use Rattle.rules.proofs.inorder.Outside.{applied-rows, interval-rows}
-use Rattle.layout.specs.Areas.{lockRow, appliedRow, intervalRow, clockRow, stateIn}
+use Rattle.layout.specs.Areas.{lockRow, appliedRow, intervalRow, jobRow, clockRow, stateIn}
 use Rattle.layout.specs.Layout.{rowOf}
 use Rattle.layout.specs.inner.Marks.{lockCount, pageCount, processorCount}
 use Rattle.layout.proofs.RowLaws.{get-row}
@@ -35,6 +35,7 @@ pub record ClocksPass (c : List ℕ) (processors pages locks : ℕ) : Type 0 whe
   pub own-fit : every processorLimit (ownFits (ownEntries c)) ≡ true
   pub processor-rows : rowsHold (ownEntries c) c 0 firstLockRow (processors + 1) ≡ true
   pub lock-rows : rowsHold (ownEntries c) c firstLockRow lockLimit locks ≡ true
+  pub job-rows : rowsHold (ownEntries c) c firstJobRow jobLimit jobLimit ≡ true
   pub applied-rows : every processorLimit (appliedHold c processors pages) ≡ true
   pub interval-rows : every processorLimit (intervalsHold (ownEntries c) c) ≡ true
 
@@ -42,16 +43,23 @@ pub record ClocksPass (c : List ℕ) (processors pages locks : ℕ) : Type 0 whe
 pub clocks-pass : (c : List ℕ) (processors pages locks : ℕ) → clocksHoldWith (ownEntries c) c processors pages locks ≡ true → ClocksPass c processors pages locks
 unfolding clocksHoldWith
 clocks-pass c processors pages locks e =
+    let own : Bool = every processorLimit (ownFits (ownEntries c)) in
+    let rows : Bool = rowsHold (ownEntries c) c 0 firstLockRow (processors + 1) in
+    let lock-rows : Bool = rowsHold (ownEntries c) c firstLockRow lockLimit locks in
+    let job-rows : Bool = rowsHold (ownEntries c) c firstJobRow jobLimit jobLimit in
+    let applied : Bool = every processorLimit (appliedHold c processors pages) in
     let last : Bool = every processorLimit (intervalsHold (ownEntries c) c) in
-    let a = and-right (every processorLimit (ownFits (ownEntries c))) (rowsHold (ownEntries c) c 0 firstLockRow (processors + 1) && (rowsHold (ownEntries c) c firstLockRow lockLimit locks && (every processorLimit (appliedHold c processors pages) && last))) e in
-    let b = and-right (rowsHold (ownEntries c) c 0 firstLockRow (processors + 1)) (rowsHold (ownEntries c) c firstLockRow lockLimit locks && (every processorLimit (appliedHold c processors pages) && last)) a in
-    let d = and-right (rowsHold (ownEntries c) c firstLockRow lockLimit locks) (every processorLimit (appliedHold c processors pages) && last) b in
+    let a = and-right own (rows && (lock-rows && (job-rows && (applied && last)))) e in
+    let b = and-right rows (lock-rows && (job-rows && (applied && last))) a in
+    let d = and-right lock-rows (job-rows && (applied && last)) b in
+    let f = and-right job-rows (applied && last) d in
     record {
-      own-fit = and-left (every processorLimit (ownFits (ownEntries c))) (rowsHold (ownEntries c) c 0 firstLockRow (processors + 1) && (rowsHold (ownEntries c) c firstLockRow lockLimit locks && (every processorLimit (appliedHold c processors pages) && last))) e;
-      processor-rows = and-left (rowsHold (ownEntries c) c 0 firstLockRow (processors + 1)) (rowsHold (ownEntries c) c firstLockRow lockLimit locks && (every processorLimit (appliedHold c processors pages) && last)) a;
-      lock-rows = and-left (rowsHold (ownEntries c) c firstLockRow lockLimit locks) (every processorLimit (appliedHold c processors pages) && last) b;
-      applied-rows = and-left (every processorLimit (appliedHold c processors pages)) last d;
-      interval-rows = and-right (every processorLimit (appliedHold c processors pages)) last d;
+      own-fit = and-left own (rows && (lock-rows && (job-rows && (applied && last)))) e;
+      processor-rows = and-left rows (lock-rows && (job-rows && (applied && last))) a;
+      lock-rows = and-left lock-rows (job-rows && (applied && last)) b;
+      job-rows = and-left job-rows (applied && last) d;
+      applied-rows = and-left applied last f;
+      interval-rows = and-right applied last f;
     }
 
 -- a place of the clocks, its row written otherwise
@@ -68,7 +76,7 @@ module _ (c w r m : List ℕ) (z : ClocksPass c (processorCount m) (pageCount m)
 
   -- no row exceeds the own entries
   pub row-known : (h : Holder) (q : ℕ) → Within mainframe h → q < processorLimit → getD c (clockWidth * clockRow mainframe h + q) 0 ≤ getD (ownEntries c) q 0
-  unfolding Within clockRow lockRow appliedRow intervalRow mainframe appliedHold intervalsHold
+  unfolding Within clockRow lockRow appliedRow intervalRow jobRow mainframe appliedHold intervalsHold
   row-known (Processor p) q t b = processor-known p q (omega arith) b
   row-known (Lock l) q t b = rows-known (ownEntries c) c firstLockRow lockLimit (lockCount m) l q (z .lock-rows) t b
   row-known Barrier q t b = processor-known 0 q (omega arith) b
@@ -82,6 +90,7 @@ module _ (c w r m : List ℕ) (z : ClocksPass c (processorCount m) (pageCount m)
   row-known (Interval (suc k) (suc i)) q t b =
       let row : clockRow mainframe (Interval (suc k) (suc i)) ≡ firstIntervalRow + intervalLimit * k + i = omega arith in
       omega (arith, same-row c (clockRow mainframe (Interval (suc k) (suc i))) (firstIntervalRow + intervalLimit * k + i) q row, rows-known (ownEntries c) c (firstIntervalRow + intervalLimit * k) intervalLimit (getD (ownEntries c) k 0) i q (every-at processorLimit (intervalsHold (ownEntries c) c) k (z .interval-rows) (t .1)) (t .3) b)
+  row-known (Job k) q t b = rows-known (ownEntries c) c firstJobRow jobLimit jobLimit k q (z .job-rows) t b
 
   -- an applied clock does not exceed its processor's
   pub applied-below : (k g q : ℕ) → k < processorLimit → g < pageLimit → q < processorLimit → getD c (clockWidth * clockRow mainframe (Applied (suc k) g) + q) 0 ≤ getD c (clockWidth * clockRow mainframe (Processor (suc k)) + q) 0
@@ -126,3 +135,4 @@ module _ (c w r m : List ℕ) (z : ClocksPass c (processorCount m) (pageCount m)
   absent-zero (Interval (suc k) zero) q t b a = absurd (omega arith)
   absent-zero (Interval (suc k) (suc i)) q t b a =
       later-zero k i q (t .1) (t .3) b (omega (arith, own-absent k (ltb-false k (processorCount m) (sym (present-read c w r m k) ∙ a)) (t .1)))
+  absent-zero (Job k) q t b a = absurd (false≢true (sym a))

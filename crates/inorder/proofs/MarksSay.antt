@@ -11,7 +11,7 @@ use borrow.Author.Tests.{ltb-false, leb-true, eqb-true, not-true, not-false, lt-
 use Rattle.lists.specs.Tables.{every, any, total}
 use Rattle.lists.proofs.Conditions.{and-left, and-right, and-both}
 use Rattle.lists.proofs.Tables.{every-holds, any-holds}
-use Rattle.limits.specs.Limits.{intervalLimit, lockLimit, pageLimit, pageWidth, processorLimit, recordLimit}
+use Rattle.limits.specs.Limits.{intervalLimit, jobLimit, lockLimit, pageLimit, pageWidth, processorLimit, recordLimit}
 use Rattle.limits.specs.Places.{firstArrived}
 use Rattle.limits.specs.inner.Sizes.{diffLimit, firstDirty, firstHolder, slotWidth}
 use Rattle.diff.specs.Reading.{readRefusal}
@@ -19,9 +19,9 @@ use Rattle.rules.specs.InOrder.{present, slotSize}
 use Rattle.rules.specs.Refusals.{fits}
 use Rattle.rules.specs.State.{mainframe, dirtyAt, own, holder, hasArrived}
 use Rattle.rules.proofs.inorder.Facts.{RecordSound, InOrder}
-use Rattle.layout.specs.Areas.{recordsIn, stateIn, standingCount}
-use Rattle.layout.specs.inner.Marks.{lockCount, pageCount, processorCount, slotInterval, slotLength, slotPage, slotProcessor}
-use Rattle.inorder_marks.specs.inner.Tests.{zeroAt, pagesOf, mayBeDirty, dirtyHold, holderWithin, holdersHold, arrivedHold, dirtyOf, roomHolds, marksHoldWith}
+use Rattle.layout.specs.Areas.{recordsIn, marksIn, stateIn, standingCount}
+use Rattle.layout.specs.inner.Marks.{firstMark, jobsMark, lockCount, pageCount, processorCount, slotInterval, slotLength, slotPage, slotProcessor}
+use Rattle.inorder_marks.specs.inner.Tests.{zeroAt, pagesOf, mayBeDirty, dirtyHold, holderWithin, holdersHold, arrivedHold, dirtyOf, queueHolds, roomHolds, marksHoldWith}
 use Rattle.inorder_records.specs.inner.Tests.{noticeHolds, diffHolds, recordHolds, noticesDiffer, unlike, recordsHoldWith}
 use Rattle.inorder.specs.inner.Tests.{ownEntries, countsHold, areasHoldWith, areasHold}
 use Rattle.inorder.proofs.PlaceFacts.{marks-zero-when}
@@ -100,9 +100,17 @@ module _ (c w r m : List ℕ) (o : InOrder mainframe (stateIn mainframe c w r m)
   unfolding roomHolds stateIn recordsIn mainframe
   room-say = le-leb (standingCount m + total (processorCount m) (dirtyOf m (pageCount m))) recordLimit (omega (arith, o .room, dirty-pages-read c w r m (o .processors-fit) (o .pages-fit)))
 
+  queue-say : queueHolds m ≡ true
+  unfolding queueHolds stateIn marksIn mainframe
+  queue-say = and-both (ltb (firstMark m) jobLimit) (leb (jobsMark m) jobLimit) (lt-ltb _ _ (go (o .first-there))) (le-leb _ _ (o .few-jobs))
+    where
+      go : (jobLimit ≡ 0) ⊎ (firstMark m < jobLimit) → firstMark m < jobLimit
+      go (inl z) = absurd (omega (arith, z))
+      go (inr h) = h
+
   marks-say : marksHoldWith (ownEntries c) m (processorCount m) (pageCount m) (lockCount m) (standingCount m) ≡ true
   unfolding marksHoldWith
-  marks-say = rw (dirty-say, holders-say, arrived-say, lines-say c w r m o, room-say)
+  marks-say = rw (dirty-say, holders-say, arrived-say, lines-say c w r m o, queue-say, room-say)
 
   -- ---- records
 

@@ -19,7 +19,7 @@ use Rattle.layout.specs.Areas.{stateIn, standingCount}
 use Rattle.layout.specs.inner.Needed.{Lent}
 use Rattle.layout.specs.inner.Marks.{lockCount, pageCount, processorCount}
 use Rattle.layout.proofs.Encoding.{lent-sized, lent-right}
-use Rattle.inorder_marks.specs.inner.Tests.{dirtyHold, holdersHold, arrivedHold, roomHolds, linesHold, marksHoldWith}
+use Rattle.inorder_marks.specs.inner.Tests.{dirtyHold, holdersHold, arrivedHold, roomHolds, linesHold, queueHolds, marksHoldWith}
 use Rattle.inorder_records.specs.inner.Tests.{recordsHoldWith}
 use Rattle.inorder.specs.Areas.{areasInOrder}
 use Rattle.inorder.specs.inner.Tests.{ownEntries, clocksHoldWith, wordsHold, addsHold, countsHold, areasHoldWith, areasHold}
@@ -28,7 +28,7 @@ use Rattle.inorder.proofs.PlaceFacts.{same-truth}
 use Rattle.inorder.proofs.MarksSay.{areas-say}
 use Rattle.inorder.proofs.ClocksWhen.{held, ClocksPass, clocks-pass}
 use Rattle.inorder.proofs.ClockConditions.{absent-clocks, absent-entries, later-intervals-when, entries-known-when, applied-known-when}
-use Rattle.inorder.proofs.PageConditions.{absent-copies, absent-twins, absent-adds, absent-clean, dirty-have-interval-when, absent-not-held, holders-present-when, holders-away-when, absent-not-arrived, someone-missing-when, room-kept-when}
+use Rattle.inorder.proofs.PageConditions.{absent-copies, absent-twins, absent-adds, absent-clean, dirty-have-interval-when, absent-not-held, holders-present-when, holders-away-when, queue-sound-when, absent-not-arrived, someone-missing-when, room-kept-when}
 use Rattle.inorder.proofs.RecordConditions.{records-sound-when}
 use Rattle.inorder.proofs.LineConditions.{absent-awake, absent-turn, lines-sound-when}
 
@@ -42,6 +42,7 @@ record AreasPass (c w r m : List ℕ) (processors pages locks standing : ℕ) : 
   pub holders : holdersHold m processors locks ≡ true
   pub arrived : arrivedHold m processors ≡ true
   pub lines : linesHold m processors locks ≡ true
+  pub queue : queueHolds m ≡ true
   pub room : roomHolds m processors pages standing ≡ true
   pub records : recordsHoldWith (ownEntries c) r processors pages standing ≡ true
 
@@ -56,28 +57,31 @@ areas-pass c w r m processors pages locks standing e =
     let holders : Bool = holdersHold m processors locks in
     let arrived : Bool = arrivedHold m processors in
     let lines : Bool = linesHold m processors locks in
+    let queue : Bool = queueHolds m in
     let room : Bool = roomHolds m processors pages standing in
     let records : Bool = recordsHoldWith (ownEntries c) r processors pages standing in
-    let marks : Bool = dirty && (holders && (arrived && (lines && room))) in
+    let marks : Bool = dirty && (holders && (arrived && (lines && (queue && room)))) in
     let adds : Bool = addsHold w processors in
     let a = and-right clocks (copies && (twins && (adds && (marks && records)))) e in
     let t = and-right copies (twins && (adds && (marks && records))) a in
     let u = and-right twins (adds && (marks && records)) t in
     let b = and-right adds (marks && records) u in
     let d = and-left marks records b in
-    let f = and-right dirty (holders && (arrived && (lines && room))) d in
-    let g = and-right holders (arrived && (lines && room)) f in
-    let h = and-right arrived (lines && room) g in
+    let f = and-right dirty (holders && (arrived && (lines && (queue && room)))) d in
+    let g = and-right holders (arrived && (lines && (queue && room))) f in
+    let h = and-right arrived (lines && (queue && room)) g in
+    let k = and-right lines (queue && room) h in
     record {
       clocks = clocks-pass c processors pages locks (and-left clocks (copies && (twins && (adds && (marks && records)))) e);
       copies = and-left copies (twins && (adds && (marks && records))) a;
       twins = and-left twins (adds && (marks && records)) t;
       adds = and-left adds (marks && records) u;
-      dirty = and-left dirty (holders && (arrived && (lines && room))) d;
-      holders = and-left holders (arrived && (lines && room)) f;
-      arrived = and-left arrived (lines && room) g;
-      lines = and-left lines room h;
-      room = and-right lines room h;
+      dirty = and-left dirty (holders && (arrived && (lines && (queue && room)))) d;
+      holders = and-left holders (arrived && (lines && (queue && room))) f;
+      arrived = and-left arrived (lines && (queue && room)) g;
+      lines = and-left lines (queue && room) h;
+      queue = and-left queue room k;
+      room = and-right queue room k;
       records = and-right marks records b;
     }
 
@@ -140,6 +144,7 @@ module _ (c w r m : List ℕ) (lent : Lent c w r m) where
           (someone-missing-when c w r m (z .arrived) (fit .processors-fit))
           (lines-sound-when c w r m (z .lines) (fit .processors-fit) (fit .locks-fit))
           (holders-away-when c w r m (z .holders) (fit .processors-fit))
+          (queue-sound-when c w r m (z .queue))
 
   -- in areas of the fixed sizes the tests on places are the rules' test
   pub areas-hold-in-order : areasHold c w r m ≡ areasInOrder c w r m

@@ -1,4 +1,4 @@
--- Lent memory that passes the tests on its words and marks meets the rules' conditions on pages, locks and the barrier. Assumes nothing.
+-- Lent memory that passes the tests on its words and marks meets the rules' conditions on pages, locks, the barrier and the queue. Assumes nothing.
 use Prim.Native.Nat.{ℕ, zero, suc, _+_, _-_, _*_, _≤_, _<_}
 use native.Mathlib.Omega.{arith}
 use native.Mathlib.Decide.{decLt}
@@ -15,14 +15,14 @@ use Rattle.limits.specs.Limits.{intervalLimit, lockLimit, pageLimit, pageWidth,
 use Rattle.limits.specs.Places.{firstArrived}
 use Rattle.limits.specs.inner.Sizes.{copyLimit, firstDirty, firstHolder, firstTally}
 use Rattle.clock.specs.Clocks.{zeros}
-use Rattle.rules.specs.InOrder.{present, everyProcessor, everyPage, presentHolder, allZero, dirtyPages, roomKept, dirtyHaveInterval, holdersPresent, holdersAway, someoneMissing}
+use Rattle.rules.specs.InOrder.{present, everyProcessor, everyPage, presentHolder, allZero, dirtyPages, roomKept, dirtyHaveInterval, holdersPresent, holdersAway, queueSound, someoneMissing}
 use Rattle.rules.specs.State.{mainframe, Lock, Applied, copyOf, twinOf, dirtyAt, addsOf, own, holder, hasArrived}
 use Rattle.rules.proofs.inorder.Everywhere.{every-processor-holds, every-page-holds, all-zero-holds}
 use Rattle.rules.proofs.inorder.Facts.{Sized}
-use Rattle.layout.specs.Areas.{tallyPlace, recordsIn, stateIn, standingCount}
+use Rattle.layout.specs.Areas.{tallyPlace, recordsIn, marksIn, stateIn, standingCount}
 use Rattle.layout.specs.inner.Marks.{lockCount, pageCount, processorCount}
 use Rattle.layout.proofs.TallyLaws.{tally-at, adds-read}
-use Rattle.inorder_marks.specs.inner.Tests.{zeroAt, pagesOf, mayBeDirty, dirtyHold, holderWithin, holdersHold, arrivedHold, dirtyOf, roomHolds}
+use Rattle.inorder_marks.specs.inner.Tests.{zeroAt, pagesOf, mayBeDirty, dirtyHold, holderWithin, holdersHold, arrivedHold, dirtyOf, queueHolds, roomHolds}
 use Rattle.inorder.specs.inner.Tests.{ownEntries, wordsHold, addsHold}
 use Rattle.inorder.proofs.PlaceFacts.{zero-at, words-zero-at, marks-zero-at}
 use Rattle.inorder.proofs.StateReads.{own-read, copy-word-read, twin-word-read, dirty-mark-read, arrived-mark-read, holder-mark-read, dirty-pages-read, present-read, page-present-read, lock-present-read}
@@ -227,3 +227,10 @@ unfolding roomKept roomHolds stateIn recordsIn mainframe
 room-kept-when c w r m a b e =
     let most : standingCount m + total (processorCount m) (dirtyOf m (pageCount m)) ≤ recordLimit = leb-true _ _ e in
     le-leb (standingCount m + dirtyPages (held c w r m)) recordLimit (omega (arith, dirty-pages-read c w r m a b))
+
+-- ---- the queue
+
+-- the oldest job has a place, and there are no more jobs than places
+pub queue-sound-when : (c w r m : List ℕ) → queueHolds m ≡ true → queueSound mainframe (held c w r m) ≡ true
+unfolding queueHolds queueSound stateIn marksIn mainframe
+queue-sound-when c w r m e = e

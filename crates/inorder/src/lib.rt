@@ -30,9 +30,11 @@ use limits::CLOCK_WIDTH;
 use limits::COPY_LIMIT;
 use limits::FIRST_APPLIED_ROW;
 use limits::FIRST_INTERVAL_ROW;
+use limits::FIRST_JOB_ROW;
 use limits::FIRST_LOCK_ROW;
 use limits::FIRST_TALLY;
 use limits::INTERVAL_LIMIT;
+use limits::JOB_LIMIT;
 use limits::LAST_INTERVAL;
 use limits::LOCK_LIMIT;
 use limits::MARK_AREA;
@@ -219,6 +221,9 @@ fn clocks_hold(
         return false;
     }
     if !rows_hold(clocks, own, FIRST_LOCK_ROW, LOCK_LIMIT, locks) {
+        return false;
+    }
+    if !rows_hold(clocks, own, FIRST_JOB_ROW, JOB_LIMIT, JOB_LIMIT) {
         return false;
     }
     if !applied_hold(clocks, processors, pages) {

@@ -12,10 +12,11 @@ use borrow.Author.Needs.{needs}
 use Rattle.lists.specs.Tables.{every, any, total}
 use Rattle.lists.proofs.Tables.{any-holds}
 use Rattle.lists.proofs.Passing.{Passed, passed-none, pass-one, fail-one, passed-more, passed-broken, passed-all, Kept, kept-none, kept-on, kept-off, kept-all, and-fails, and-goes-on}
-use Rattle.limits.specs.Limits.{intervalLimit, lockLimit, pageLimit, processorLimit, recordLimit}
+use Rattle.limits.specs.Limits.{intervalLimit, jobLimit, lockLimit, pageLimit, processorLimit, recordLimit}
 use Rattle.limits.specs.Places.{firstArrived}
 use Rattle.limits.specs.inner.Sizes.{firstDirty, firstHolder, markArea}
-use Rattle.inorder_marks.specs.inner.Tests.{zeroAt, pagesOf, mayBeDirty, dirtyHold, holderWithin, holdersHold, arrivedHold, dirtyCount, dirtyOf, roomHolds, linesHold, marksHoldWith}
+use Rattle.layout.specs.inner.Marks.{firstMark, jobsMark}
+use Rattle.inorder_marks.specs.inner.Tests.{zeroAt, pagesOf, mayBeDirty, dirtyHold, holderWithin, holdersHold, arrivedHold, dirtyCount, dirtyOf, roomHolds, linesHold, queueHolds, marksHoldWith}
 use Rattle.inorder_marks.specs.inner.Needed.{PlacesThere, MarksOne, HolderThere, HoldersThere, MarksThere}
 
 -- ---- places that are 0
@@ -164,6 +165,19 @@ pub arrived-is : (m : List ℕ) (processors : ℕ) (r : Bool)
 unfolding arrivedHold
 arrived-is m processors r e = e
 
+-- ---- the queue
+
+module _ (m : List ℕ) (first : ℕ) (is : (first ≡ firstMark m) × (first < 256)) where
+  -- the oldest job has no place
+  pub queue-misplaced : jobLimit ≤ first → false ≡ queueHolds m
+  unfolding queueHolds
+  queue-misplaced h = rw (← is .0, le-ltb first jobLimit h)
+
+  -- it has one, so that the number of jobs decides
+  pub queue-placed : (jobs : ℕ) → first < jobLimit → (jobs ≡ jobsMark m) × (jobs < 256) → leb jobs jobLimit ≡ queueHolds m
+  unfolding queueHolds
+  queue-placed jobs h e = rw (← is .0, lt-ltb first jobLimit h, ← e .0)
+
 -- ---- dirty pages counted
 
 -- the first g pages have n dirty ones
@@ -225,9 +239,9 @@ room-is m processors pages standing d e = rw e
 
 -- the tests of all marks, one after the other
 pub marks-is : (own m : List ℕ) (processors pages locks standing : ℕ) (r : Bool)
-    → r ≡ (every processorLimit (dirtyHold own m processors pages) && (holdersHold m processors locks && (arrivedHold m processors && (linesHold m processors locks && roomHolds m processors pages standing))))
+    → r ≡ (every processorLimit (dirtyHold own m processors pages) && (holdersHold m processors locks && (arrivedHold m processors && (linesHold m processors locks && (queueHolds m && roomHolds m processors pages standing)))))
     → r ≡ marksHoldWith own m processors pages locks standing
 unfolding marksHoldWith
 marks-is own m processors pages locks standing r e = e
 
-pub ruleset marks-checked = (passed-none, passed-more, passed-broken, passed-all, and-fails, and-goes-on, kept-none, kept-all, zero-kept, zero-lost, dirty-marks-there, pages-absent, dirty-allowed, dirty-refused, dirty-there, dirty-is, marks-one, holder-there, holder-absent, nobody-holds, holder-mark-there, holder-before, holder-mark-decides, holder-next, holder-more, holder-broken, holders-there, absent-holders-there, holders-is, arrived-none, arrived-more, arrived-missing, arrived-all, absent-arrived-there, arrived-is, count-none, count-clean, count-dirty, count-all, sum-none, sum-next, sum-whole, room-is, marks-is, needs)
+pub ruleset marks-checked = (passed-none, passed-more, passed-broken, passed-all, and-fails, and-goes-on, kept-none, kept-all, zero-kept, zero-lost, dirty-marks-there, pages-absent, dirty-allowed, dirty-refused, dirty-there, dirty-is, marks-one, holder-there, holder-absent, nobody-holds, holder-mark-there, holder-before, holder-mark-decides, holder-next, holder-more, holder-broken, holders-there, absent-holders-there, holders-is, arrived-none, arrived-more, arrived-missing, arrived-all, absent-arrived-there, arrived-is, queue-misplaced, queue-placed, count-none, count-clean, count-dirty, count-all, sum-none, sum-next, sum-whole, room-is, marks-is, needs)

@@ -1,4 +1,4 @@
-// The tests of the marks: dirty pages, holders of locks, arrivals, lines of waiters, and room for the records. `zeros_at` and `pages_of` are
+// The tests of the marks: dirty pages, holders of locks, arrivals, lines of waiters, the queue, and room for the records. `zeros_at` and `pages_of` are
 // for the tests of other areas too. Each contract is an equation with a definition of specs/Tests.antt.
 mod waiters;
 
@@ -9,14 +9,17 @@ ghost use Rattle.lists.specs.Tables.{every, any, total};
 ghost use Rattle.limits.specs.Limits.{lockLimit, pageLimit, processorLimit, recordLimit};
 ghost use Rattle.limits.specs.Places.{firstArrived};
 ghost use Rattle.limits.specs.inner.Sizes.{copyLimit, markArea};
-ghost use Rattle.inorder_marks.specs.inner.Tests.{zeroAt, pagesOf, mayBeDirty, dirtyHold, holderWithin, holdersHold, arrivedHold, dirtyOf, roomHolds, marksHoldWith};
+ghost use Rattle.inorder_marks.specs.inner.Tests.{zeroAt, pagesOf, mayBeDirty, dirtyHold, holderWithin, holdersHold, arrivedHold, dirtyOf, queueHolds, roomHolds, marksHoldWith};
 ghost use Rattle.inorder_marks.specs.inner.Needed.{PlacesThere, MarksOne, HolderThere, HoldersThere, MarksThere};
 use crate::waiters::lines_hold;
+use layout::marks::first_job;
+use layout::marks::job_count;
 use layout::wide;
 use limits::CLOCK_WIDTH;
 use limits::FIRST_ARRIVED;
 use limits::FIRST_DIRTY;
 use limits::FIRST_HOLDER;
+use limits::JOB_LIMIT;
 use limits::LAST_INTERVAL;
 use limits::LOCK_LIMIT;
 use limits::PAGE_LIMIT;
@@ -45,6 +48,9 @@ pub fn marks_hold(
         return false;
     }
     if !lines_hold(marks, processors, locks) {
+        return false;
+    }
+    if !queue_holds(marks) {
         return false;
     }
     room_holds(marks, processors, pages, standing)
@@ -185,6 +191,17 @@ fn arrived_hold(marks: &[u8], processors: usize) -> bool
         return false;
     }
     someone_missing(marks, processors)
+}
+
+// Whether the oldest job has a place of the queue, and there are no more jobs than places.
+fn queue_holds(marks: &[u8]) -> bool
+    requires { ⌜ length (now marks) ≡ markArea ⌝ }
+    ensures { λ r. ⌜ r ≡ queueHolds (now (marks .entry)) ⌝ }
+{
+    if JOB_LIMIT <= first_job(marks) {
+        return false;
+    }
+    job_count(marks) <= JOB_LIMIT
 }
 
 // How many pages of one processor are dirty.

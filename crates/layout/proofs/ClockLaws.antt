@@ -9,26 +9,27 @@ use lib.ListN.{length, replicate}
 use lib.Seq.{sets}
 use lib.Dec.{eqb}
 use Rattle.lists.specs.Tables.{put, putCell, tabulate}
-use Rattle.limits.specs.Limits.{intervalLimit, lockLimit, pageLimit, processorLimit}
-use Rattle.limits.specs.inner.Sizes.{clockArea, clockWidth, firstLockRow}
+use Rattle.limits.specs.Limits.{intervalLimit, jobLimit, lockLimit, pageLimit, processorLimit}
+use Rattle.limits.specs.inner.Sizes.{clockArea, clockWidth, firstJobRow, firstLockRow}
 use Rattle.diff.specs.Reading.{applied}
-use Rattle.rules.specs.State.{mainframe, Holder, Processor, Lock, Barrier, Applied, Interval, clockOf, withClock, cleared}
+use Rattle.rules.specs.State.{mainframe, Holder, Processor, Lock, Barrier, Applied, Interval, Job, clockOf, withClock, cleared}
 use Rattle.rules.specs.Steps.{allCleared}
 use Rattle.rules.proofs.inorder.Facts.{Within}
 use Rattle.layout.specs.Layout.{rowOf, perProcessor}
-use Rattle.layout.specs.Areas.{lockRow, appliedRow, intervalRow, clockRow, clocksIn}
+use Rattle.layout.specs.Areas.{lockRow, appliedRow, intervalRow, jobRow, clockRow, clocksIn}
 use Rattle.layout.proofs.Stores.{eqb-iff, eqb-pair}
 use Rattle.lists.proofs.Tabulated.{get-tabulate, tabulate-same, put-tabulate, map-tabulate}
 use Rattle.layout.proofs.RowLaws.{row-of-sets-same, row-of-sets-other, row-of-sets, get-per-processor, per-processor-same, put-per-processor, map-per-processor, get-page, page-table-same, put-page, get-interval, interval-table-same, put-interval, row-map, map-replicate}
 
 -- the row of a holder lies within the area
 pub holder-row-there : (h : Holder) → Within mainframe h → clockWidth * clockRow mainframe h + clockWidth ≤ clockArea
-unfolding Within clockRow lockRow appliedRow intervalRow mainframe
+unfolding Within clockRow lockRow appliedRow intervalRow jobRow mainframe
 holder-row-there (Processor p) b = omega arith
 holder-row-there (Lock l) b = omega arith
 holder-row-there Barrier b = omega arith
 holder-row-there (Applied p g) b = omega arith
 holder-row-there (Interval p i) b = omega arith
+holder-row-there (Job k) b = omega arith
 
 -- a holder's clock is its row
 pub clock-read : (c : List ℕ) (h : Holder) → Within mainframe h → clockOf (clocksIn mainframe c) h ≡ rowOf clockWidth c (clockRow mainframe h)
@@ -38,6 +39,7 @@ clock-read c (Lock l) b = get-tabulate lockLimit (λ k. rowOf clockWidth c (cloc
 clock-read c Barrier b = refl
 clock-read c (Applied p g) b = get-page [] processorLimit pageLimit (λ q k. rowOf clockWidth c (clockRow mainframe (Applied q k))) p g (b .0) (b .1) (b .2)
 clock-read c (Interval p i) b = get-interval processorLimit intervalLimit (λ q j. rowOf clockWidth c (clockRow mainframe (Interval q j))) p i (b .0) (b .1) (b .2) (b .3)
+clock-read c (Job k) b = get-tabulate jobLimit (λ j. rowOf clockWidth c (clockRow mainframe (Job j))) k [] b
 
 -- ---- a row stored anew: the tables that do not have it stay
 
@@ -72,6 +74,12 @@ module _ (c v : List ℕ) (k : ℕ) (e : length v ≡ clockWidth) where
   intervals-kept d =
       interval-table-same processorLimit intervalLimit (λ p i. rowOf clockWidth (sets c (clockWidth * k) v) (clockRow mainframe (Interval p i))) (λ p i. rowOf clockWidth c (clockRow mainframe (Interval p i)))
       (λ p i a b y z. row-of-sets-other clockWidth c v k (clockRow mainframe (Interval p i)) (omega arith) (d p i a b y z))
+
+  jobs-kept : ((j : ℕ) → j < jobLimit → clockRow mainframe (Job j) ≡ k → ⊥) → clocksIn mainframe (sets c (clockWidth * k) v) .jobs ≡ clocksIn mainframe c .jobs
+  unfolding clocksIn mainframe
+  jobs-kept d =
+      tabulate-same jobLimit (λ j. rowOf clockWidth (sets c (clockWidth * k) v) (clockRow mainframe (Job j))) (λ j. rowOf clockWidth c (clockRow mainframe (Job j)))
+      (λ j a. row-of-sets-other clockWidth c v k (clockRow mainframe (Job j)) (omega arith) (d j a))
 
 -- ---- and the table that has it has the new one there
 
@@ -120,10 +128,19 @@ module _ (c v : List ℕ) (there : length c ≡ clockArea) (e : length v ≡ clo
       (eqb-pair (intervalRow mainframe q j) (intervalRow mainframe p i) q p j i (λ s. (omega arith, omega arith)) (λ s r. rw (s, r))))
       ∙ sym (put-interval processorLimit intervalLimit (λ q j. rowOf clockWidth c (intervalRow mainframe q j)) p i v a b y z)
 
+  job-written : (j : ℕ) → j < jobLimit → clocksIn mainframe (sets c (clockWidth * clockRow mainframe (Job j)) v) .jobs ≡ put [] (clocksIn mainframe c .jobs) j v
+  unfolding clocksIn mainframe clockRow jobRow
+  job-written j b =
+      tabulate-same jobLimit (λ k. rowOf clockWidth (sets c (clockWidth * (firstJobRow + j)) v) (firstJobRow + k)) (λ k. cond (eqb k j) v (rowOf clockWidth c (firstJobRow + k)))
+      (λ k x.
+      row-of-sets clockWidth c v (firstJobRow + j) (firstJobRow + k) e (omega arith)
+      ∙ ap (λ (t : Bool). cond t v (rowOf clockWidth c (firstJobRow + k))) (eqb-iff (firstJobRow + k) (firstJobRow + j) k j (λ z. omega (arith, z)) (λ z. omega (arith, z))))
+      ∙ sym (put-tabulate [] jobLimit (λ k. rowOf clockWidth c (firstJobRow + k)) j v b)
+
 -- a holder's row stored anew is its clock replaced
 pub clock-written : (c v : List ℕ) (h : Holder) → length c ≡ clockArea → Within mainframe h → length v ≡ clockWidth
     → clocksIn mainframe (sets c (clockWidth * clockRow mainframe h) v) ≡ withClock (clocksIn mainframe c) h v
-unfolding Within withClock clockRow lockRow appliedRow intervalRow mainframe
+unfolding Within withClock clockRow lockRow appliedRow intervalRow jobRow mainframe
 clock-written c v (Processor p) t w e =
     λ i. record {
       processors = processor-written c v t e p (w .0) (w .1) i;
@@ -131,6 +148,7 @@ clock-written c v (Processor p) t w e =
       barrier = barrier-kept c v p e (λ z. omega arith) i;
       applied = applied-kept c v p e (λ q g x y b z. omega arith) i;
       intervals = intervals-kept c v p e (λ q j x y a b z. omega arith) i;
+      jobs = jobs-kept c v p e (λ j x z. omega arith) i;
     }
 clock-written c v (Lock l) t w e =
     let k : ℕ = lockRow mainframe l in
@@ -140,6 +158,7 @@ clock-written c v (Lock l) t w e =
       barrier = barrier-kept c v k e (λ z. omega arith) i;
       applied = applied-kept c v k e (λ q g x y b z. omega arith) i;
       intervals = intervals-kept c v k e (λ q j x y a b z. omega arith) i;
+      jobs = jobs-kept c v k e (λ j x z. omega arith) i;
     }
 clock-written c v Barrier t w e =
     λ i. record {
@@ -148,6 +167,7 @@ clock-written c v Barrier t w e =
       barrier = barrier-written c v t e i;
       applied = applied-kept c v 0 e (λ q g x y b z. omega arith) i;
       intervals = intervals-kept c v 0 e (λ q j x y a b z. omega arith) i;
+      jobs = jobs-kept c v 0 e (λ j x z. omega arith) i;
     }
 clock-written c v (Applied p g) t w e =
     let k : ℕ = appliedRow mainframe p g in
@@ -157,6 +177,7 @@ clock-written c v (Applied p g) t w e =
       barrier = barrier-kept c v k e (λ z. omega arith) i;
       applied = applied-written c v t e p g (w .0) (w .1) (w .2) i;
       intervals = intervals-kept c v k e (λ q j x y a b z. omega arith) i;
+      jobs = jobs-kept c v k e (λ j x z. omega arith) i;
     }
 clock-written c v (Interval p n) t w e =
     let k : ℕ = intervalRow mainframe p n in
@@ -166,6 +187,17 @@ clock-written c v (Interval p n) t w e =
       barrier = barrier-kept c v k e (λ z. omega arith) i;
       applied = applied-kept c v k e (λ q g x y b z. omega arith) i;
       intervals = interval-written c v t e p n (w .0) (w .1) (w .2) (w .3) i;
+      jobs = jobs-kept c v k e (λ j x z. omega arith) i;
+    }
+clock-written c v (Job n) t w e =
+    let k : ℕ = jobRow mainframe n in
+    λ i. record {
+      processors = processors-kept c v k e (λ q x y z. omega arith) i;
+      locks = locks-kept c v k e (λ l x z. omega arith) i;
+      barrier = barrier-kept c v k e (λ z. omega arith) i;
+      applied = applied-kept c v k e (λ q g x y b z. omega arith) i;
+      intervals = intervals-kept c v k e (λ q j x y a b z. omega arith) i;
+      jobs = job-written c v t e n w i;
     }
 
 -- ---- every clock cleared
@@ -194,6 +226,9 @@ clocks-cleared c =
           per-processor-same intervalLimit (λ n. rowOf clockWidth z (row (Interval p n))) (λ n. cleared (rowOf clockWidth c (row (Interval p n)))) (λ n a b. at (Interval p n))
           ∙ sym (map-per-processor (λ e. 0) intervalLimit (λ n. rowOf clockWidth c (row (Interval p n)))))
           ∙ sym (map-per-processor cleared processorLimit (λ p. perProcessor intervalLimit (λ n. rowOf clockWidth c (row (Interval p n)))))) i;
+      jobs =
+          (tabulate-same jobLimit (λ k. rowOf clockWidth z (row (Job k))) (λ k. cleared (rowOf clockWidth c (row (Job k)))) (λ k x. at (Job k))
+          ∙ sym (map-tabulate cleared jobLimit (λ k. rowOf clockWidth c (row (Job k))))) i;
     }
   where
     z : List ℕ

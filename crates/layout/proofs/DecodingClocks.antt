@@ -6,40 +6,47 @@ use mathlib.Core.List.{List, [], _++_}
 use lib.ListN.{length, getD, take, drop, length-append}
 use lib.Seq.{take-at}
 use Rattle.lists.specs.Tables.{cell, tabulate}
-use Rattle.limits.specs.Limits.{intervalLimit, lockLimit, pageLimit, processorLimit}
-use Rattle.limits.specs.inner.Sizes.{clockArea, clockWidth, copyLimit, firstAppliedRow, firstIntervalRow, firstLockRow}
-use Rattle.rules.specs.State.{mainframe, Processor, Lock, Barrier, Applied, Interval, clockOf, State}
+use Rattle.limits.specs.Limits.{intervalLimit, jobLimit, lockLimit, pageLimit, processorLimit}
+use Rattle.limits.specs.inner.Sizes.{clockArea, clockWidth, copyLimit, firstAppliedRow, firstIntervalRow, firstJobRow, firstLockRow}
+use Rattle.rules.specs.State.{mainframe, Processor, Lock, Barrier, Applied, Interval, Job, clockOf, State}
 use Rattle.rules.proofs.inorder.Facts.{Within, Sized}
 use Rattle.layout.specs.Layout.{rowOf, joinRows}
-use Rattle.layout.specs.Areas.{lockRow, appliedRow, intervalRow, clockRow, clocksIn, clockBytes}
+use Rattle.layout.specs.Areas.{lockRow, appliedRow, intervalRow, jobRow, clockRow, clocksIn, clockBytes}
 use Rattle.lists.proofs.Tabulated.{tabulate-same, tabulate-get}
 use Rattle.layout.proofs.RowLaws.{per-processor-same, page-table-same, interval-table-same}
 use Rattle.layout.proofs.Cuts.{part-before, part-behind, length-joined, joined-row, table-of-rows, table-joined, table-of-elements, length-pages, page-cut, table-of-intervals, length-intervals, interval-cut}
 
--- ---- five parts, one behind the other: where the rows of each lie
+-- ---- six parts, one behind the other: where the rows of each lie
 
-record ClockParts (b p l a i all : List ℕ) : Type 0 where
+record ClockParts (b p l a i q all : List ℕ) : Type 0 where
   long : length all ≡ clockArea
   barrier : take clockWidth all ≡ b
   processors : (j : ℕ) → j + clockWidth ≤ clockWidth * processorLimit → take clockWidth (drop (clockWidth + j) all) ≡ take clockWidth (drop j p)
   locks : (j : ℕ) → j + clockWidth ≤ clockWidth * lockLimit → take clockWidth (drop ((clockWidth * firstLockRow) + j) all) ≡ take clockWidth (drop j l)
   applied : (j : ℕ) → j + clockWidth ≤ (clockWidth * copyLimit) → take clockWidth (drop ((clockWidth * firstAppliedRow) + j) all) ≡ take clockWidth (drop j a)
-  intervals : (j : ℕ) → take clockWidth (drop ((clockWidth * firstIntervalRow) + j) all) ≡ take clockWidth (drop j i)
+  intervals : (j : ℕ) → j + clockWidth ≤ (clockWidth * (processorLimit * intervalLimit)) → take clockWidth (drop ((clockWidth * firstIntervalRow) + j) all) ≡ take clockWidth (drop j i)
+  jobs : (j : ℕ) → take clockWidth (drop ((clockWidth * firstJobRow) + j) all) ≡ take clockWidth (drop j q)
 
-clock-parts : (b p l a i : List ℕ) → length b ≡ clockWidth → length p ≡ clockWidth * processorLimit → length l ≡ clockWidth * lockLimit → length a ≡ (clockWidth * copyLimit) → length i ≡ (clockWidth * (processorLimit * intervalLimit))
-    → ClockParts b p l a i (b ++ p ++ l ++ a ++ i)
-clock-parts b p l a i lb lp ll la li =
+clock-parts : (b p l a i q : List ℕ) → length b ≡ clockWidth → length p ≡ clockWidth * processorLimit → length l ≡ clockWidth * lockLimit → length a ≡ (clockWidth * copyLimit) → length i ≡ (clockWidth * (processorLimit * intervalLimit))
+    → length q ≡ clockWidth * jobLimit → ClockParts b p l a i q (b ++ p ++ l ++ a ++ i ++ q)
+clock-parts b p l a i q lb lp ll la li lq =
     record {
-      long = length-append (b ++ p ++ l ++ a) i ∙ omega (arith, four, li);
+      long = length-append (b ++ p ++ l ++ a ++ i) q ∙ omega (arith, five, lq);
       barrier = front 0 (omega arith) ∙ take-at b p clockWidth lb;
       processors = λ j h. front (clockWidth + j) (omega arith) ∙ part-behind clockWidth clockWidth j b p lb;
       locks =
           λ j h.
-          part-before clockWidth ((clockWidth * firstLockRow) + j) (b ++ p ++ l ++ a) i (omega (arith, four, h))
+          before-jobs ((clockWidth * firstLockRow) + j) (omega (arith, h))
+          ∙ part-before clockWidth ((clockWidth * firstLockRow) + j) (b ++ p ++ l ++ a) i (omega (arith, four, h))
           ∙ part-before clockWidth ((clockWidth * firstLockRow) + j) (b ++ p ++ l) a (omega (arith, three, h))
           ∙ part-behind clockWidth (clockWidth * firstLockRow) j (b ++ p) l two;
-      applied = λ j h. part-before clockWidth ((clockWidth * firstAppliedRow) + j) (b ++ p ++ l ++ a) i (omega (arith, four, h)) ∙ part-behind clockWidth (clockWidth * firstAppliedRow) j (b ++ p ++ l) a three;
-      intervals = λ j. part-behind clockWidth (clockWidth * firstIntervalRow) j (b ++ p ++ l ++ a) i four;
+      applied =
+          λ j h.
+          before-jobs ((clockWidth * firstAppliedRow) + j) (omega (arith, h))
+          ∙ part-before clockWidth ((clockWidth * firstAppliedRow) + j) (b ++ p ++ l ++ a) i (omega (arith, four, h))
+          ∙ part-behind clockWidth (clockWidth * firstAppliedRow) j (b ++ p ++ l) a three;
+      intervals = λ j h. before-jobs ((clockWidth * firstIntervalRow) + j) (omega (arith, h)) ∙ part-behind clockWidth (clockWidth * firstIntervalRow) j (b ++ p ++ l ++ a) i four;
+      jobs = λ j. part-behind clockWidth (clockWidth * firstJobRow) j (b ++ p ++ l ++ a ++ i) q five;
     }
   where
     two : length (b ++ p) ≡ (clockWidth * firstLockRow)
@@ -51,9 +58,16 @@ clock-parts b p l a i lb lp ll la li =
     four : length (b ++ p ++ l ++ a) ≡ (clockWidth * firstIntervalRow)
     four = length-append (b ++ p ++ l) a ∙ omega (arith, three, la)
 
-    front : (j : ℕ) → j + clockWidth ≤ (clockWidth * firstLockRow) → take clockWidth (drop j (b ++ p ++ l ++ a ++ i)) ≡ take clockWidth (drop j (b ++ p))
+    five : length (b ++ p ++ l ++ a ++ i) ≡ (clockWidth * firstJobRow)
+    five = length-append (b ++ p ++ l ++ a) i ∙ omega (arith, four, li)
+
+    before-jobs : (j : ℕ) → j + clockWidth ≤ (clockWidth * firstJobRow) → take clockWidth (drop j (b ++ p ++ l ++ a ++ i ++ q)) ≡ take clockWidth (drop j (b ++ p ++ l ++ a ++ i))
+    before-jobs j h = part-before clockWidth j (b ++ p ++ l ++ a ++ i) q (omega (arith, five, h))
+
+    front : (j : ℕ) → j + clockWidth ≤ (clockWidth * firstLockRow) → take clockWidth (drop j (b ++ p ++ l ++ a ++ i ++ q)) ≡ take clockWidth (drop j (b ++ p))
     front j h =
-        part-before clockWidth j (b ++ p ++ l ++ a) i (omega (arith, four, h))
+        before-jobs j (omega (arith, h))
+        ∙ part-before clockWidth j (b ++ p ++ l ++ a) i (omega (arith, four, h))
         ∙ part-before clockWidth j (b ++ p ++ l) a (omega (arith, three, h))
         ∙ part-before clockWidth j (b ++ p) l (omega (arith, two, h))
 
@@ -84,17 +98,26 @@ module _ (s : State) (h : Sized mainframe s) where
   unfolding mainframe clockOf Within
   interval-wide p i a b c d = h .clocks (Interval p i) (a, b, c, d)
 
+  job-clocks : joinRows (s .clocks .jobs) ≡ joinRows (tabulate jobLimit (λ k. getD (s .clocks .jobs) k []))
+  unfolding mainframe
+  job-clocks = ap (λ (t : List (List ℕ)). joinRows t) (sym (tabulate-get (s .clocks .jobs) jobLimit [] (h .jobs)))
+
+  job-wide : (k : ℕ) → k < jobLimit → length (getD (s .clocks .jobs) k []) ≡ clockWidth
+  unfolding mainframe clockOf Within
+  job-wide k b = h .clocks (Job k) b
+
   parts : ClockParts (s .clocks .barrier) (joinRows (s .clocks .processors)) (joinRows (s .clocks .locks)) (joinRows (joinRows (s .clocks .applied)))
-      (joinRows (joinRows (s .clocks .intervals))) (clockBytes (s .clocks))
+      (joinRows (joinRows (s .clocks .intervals))) (joinRows (s .clocks .jobs)) (clockBytes (s .clocks))
   unfolding clockBytes mainframe clockOf Within
   parts =
       clock-parts (s .clocks .barrier) (joinRows (s .clocks .processors)) (joinRows (s .clocks .locks)) (joinRows (joinRows (s .clocks .applied)))
-      (joinRows (joinRows (s .clocks .intervals)))
+      (joinRows (joinRows (s .clocks .intervals))) (joinRows (s .clocks .jobs))
       (h .clocks Barrier tt)
       (ap length processor-clocks ∙ length-joined processorLimit clockWidth (λ k. getD (s .clocks .processors) (suc k) []) processor-wide)
       (ap length lock-clocks ∙ length-joined lockLimit clockWidth (λ l. getD (s .clocks .locks) l []) lock-wide)
       (length-pages (s .clocks .applied) processorLimit pageLimit clockWidth (h .applied) (h .nobody-applied) (h .applied-row) applied-wide)
       (length-intervals (s .clocks .intervals) processorLimit intervalLimit (h .intervals) (h .nobody-interval) (h .interval-row) (h .no-interval) clockWidth interval-wide)
+      (ap length job-clocks ∙ length-joined jobLimit clockWidth (λ k. getD (s .clocks .jobs) k []) job-wide)
 
   -- the area has its size
   pub clock-size : length (clockBytes (s .clocks)) ≡ clockArea
@@ -156,12 +179,28 @@ module _ (s : State) (h : Sized mainframe s) where
       interval-table-same processorLimit intervalLimit (λ p i. rowOf clockWidth (clockBytes (s .clocks)) (intervalRow mainframe p i)) (λ p i. cell [] (s .clocks .intervals) p i)
       (λ p i a b c d.
       ap (λ (j : ℕ). take clockWidth (drop j (clockBytes (s .clocks)))) (at p i)
-      ∙ parts .intervals ((clockWidth * intervalLimit) * (p - 1) + clockWidth * (i - 1))
+      ∙ parts .intervals ((clockWidth * intervalLimit) * (p - 1) + clockWidth * (i - 1)) (omega arith)
       ∙ interval-cut (s .clocks .intervals) processorLimit intervalLimit (h .intervals) (h .nobody-interval) (h .interval-row) (h .no-interval) clockWidth interval-wide p i a b c d)
       ∙ table-of-intervals (s .clocks .intervals) processorLimit intervalLimit (h .intervals) (h .nobody-interval) (h .interval-row) (h .no-interval)
     where
       at : (p i : ℕ) → clockWidth * intervalRow mainframe p i ≡ (clockWidth * firstIntervalRow) + ((clockWidth * intervalLimit) * (p - 1) + clockWidth * (i - 1))
       at p i = omega arith
+
+  jobs-again : clocksIn mainframe (clockBytes (s .clocks)) .jobs ≡ s .clocks .jobs
+  unfolding clocksIn mainframe clockRow jobRow rowOf
+  jobs-again =
+      tabulate-same jobLimit (λ k. rowOf clockWidth (clockBytes (s .clocks)) (jobRow mainframe k)) (λ k. getD (s .clocks .jobs) k []) each
+      ∙ tabulate-get (s .clocks .jobs) jobLimit [] (h .jobs)
+    where
+      at : (k : ℕ) → clockWidth * jobRow mainframe k ≡ (clockWidth * firstJobRow) + clockWidth * k
+      at k = omega arith
+
+      each : (k : ℕ) → k < jobLimit → take clockWidth (drop (clockWidth * jobRow mainframe k) (clockBytes (s .clocks))) ≡ getD (s .clocks .jobs) k []
+      each k b =
+          ap (λ (j : ℕ). take clockWidth (drop j (clockBytes (s .clocks)))) (at k)
+          ∙ parts .jobs (clockWidth * k)
+          ∙ ap (λ (r : List ℕ). take clockWidth (drop (clockWidth * k) r)) job-clocks
+          ∙ joined-row jobLimit clockWidth (λ k. getD (s .clocks .jobs) k []) k job-wide b
 
   -- and the clocks in it are the state's
   pub clocks-again : clocksIn mainframe (clockBytes (s .clocks)) ≡ s .clocks
@@ -172,4 +211,5 @@ module _ (s : State) (h : Sized mainframe s) where
         barrier = barrier-again i;
         applied = applied-again i;
         intervals = intervals-again i;
+        jobs = jobs-again i;
       }

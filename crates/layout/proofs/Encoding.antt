@@ -1,6 +1,6 @@
 -- The areas hold their state and nothing else: the state that they hold, laid out again, is the areas themselves, where the low byte of the number of
--- records is a byte; and its tables have the sizes of the mainframe's. Assumes nothing.
-use Prim.Native.Nat.{ℕ, suc, _+_, _*_, _/_, _%_, _≤_, _<_}
+-- records is a byte; and its tables have the sizes of the mainframe's. Rests on EncodingClocks. Assumes nothing.
+use Prim.Native.Nat.{ℕ, suc, _+_, _-_, _*_, _/_, _%_, _≤_, _<_}
 use native.Mathlib.Omega.{arith}
 use mathlib.Core.Path.{_≡_, refl, sym, ap, _∙_}
 use mathlib.Core.Bool.{true, _&&_, and-eq-true-iff}
@@ -9,82 +9,26 @@ use lib.ListN.{length, getD, take, drop}
 use lib.Seq.{take-all, take-add}
 use lib.Dec.{eqb}
 use borrow.Author.Tests.{eqb-true, eq-eqb}
-use Rattle.limits.specs.Limits.{intervalLimit, lockLimit, pageLimit, pageWidth, processorLimit, recordLimit, tallyLimit}
+use Rattle.limits.specs.Limits.{intervalLimit, jobLimit, lockLimit, pageLimit, pageWidth, processorLimit, recordLimit, tallyLimit}
 use Rattle.limits.specs.Places.{firstArrived, standingHigh, standingPlace}
-use Rattle.limits.specs.inner.Sizes.{clockArea, clockWidth, copyLimit, firstAppliedRow, firstAwaited, firstDirty, firstHolder, firstIntervalRow, firstLockRow, firstTurn, markArea, recordArea, slotWidth, wordArea, wordLimit, firstTally}
+use Rattle.limits.specs.inner.Sizes.{clockArea, clockWidth, copyLimit, firstAwaited, firstDirty, firstHolder, firstJobValue, firstTally, firstTurn, markArea, queueFirst, recordArea, slotWidth, wordArea, wordLimit}
 use Rattle.diff.specs.Reading.{applied}
 use Rattle.rules.specs.InOrder.{slotSize}
-use Rattle.rules.specs.State.{mainframe, Processor, Lock, Applied, Interval, State, clockOf}
+use Rattle.rules.specs.State.{mainframe, Processor, Lock, Applied, Interval, Job, State, clockOf}
 use Rattle.rules.proofs.inorder.Facts.{Sized, InOrder}
 use Rattle.lists.specs.Tables.{tabulate}
 use Rattle.layout.specs.Layout.{rowOf, perProcessor, joinRows}
-use Rattle.layout.specs.Areas.{lockRow, appliedRow, intervalRow, clockRow, clockRows, copyRow, twinRow, wordRows, tallyPlace, wordPlaces, arrivedPlace, holderPlace, dirtyPlace, awaitedPlace, turnPlace, markPlaces, clocksIn, pagesIn, recordsIn, marksIn, sharedIn, stateIn, clockBytes, areaWords, recordBytes, markBytes, sizesRight, areas, holding, standingCount}
+use Rattle.layout.specs.Areas.{clockRow, clockRows, copyRow, twinRow, wordRows, tallyPlace, valuePlace, wordPlaces, arrivedPlace, holderPlace, dirtyPlace, awaitedPlace, turnPlace, firstPlace, jobsPlace, markPlaces, clocksIn, pagesIn, recordsIn, marksIn, sharedIn, stateIn, clockBytes, areaWords, recordBytes, markBytes, sizesRight, areas, holding, standingCount}
 use Rattle.layout.specs.inner.Needed.{Lent, Holds}
 use Rattle.layout.specs.inner.Marks.{lockCount, pageCount, processorCount, wishMark}
 use Rattle.lists.proofs.Tabulated.{length-tabulate}
 use Rattle.layout.proofs.RowLaws.{length-row, length-per-processor, get-nobody, get-per-processor}
 use Rattle.layout.proofs.ClockLaws.{holder-row-there, clock-read}
 use Rattle.layout.proofs.PageLaws.{copy-row-there, twin-row-there, copy-read, twin-read}
-use Rattle.layout.proofs.TallyLaws.{tally-at}
+use Rattle.layout.proofs.TallyLaws.{tally-at, value-at}
 use Rattle.layout.proofs.SlotLaws.{slot-there, slot-read}
 use Rattle.layout.proofs.Joins.{join-rows, join-per-processor, join-tables, tabulate-part}
-
--- ---- the clocks
-
-module _ (c : List ℕ) where
-  joined-processor-clocks : joinRows (clocksIn mainframe c .processors) ≡ take (clockWidth * processorLimit) (drop clockWidth c)
-  unfolding clocksIn mainframe clockRow rowOf
-  joined-processor-clocks =
-      join-per-processor processorLimit (λ p. rowOf clockWidth c p)
-      ∙ join-rows processorLimit clockWidth clockWidth c (λ k. rowOf clockWidth c (suc k)) (λ k b. ap (λ (j : ℕ). take clockWidth (drop j c)) (at k))
-    where
-      at : (k : ℕ) → clockWidth * suc k ≡ clockWidth + clockWidth * k
-      at k = omega arith
-
-  joined-lock-clocks : joinRows (clocksIn mainframe c .locks) ≡ take (clockWidth * lockLimit) (drop (clockWidth * firstLockRow) c)
-  unfolding clocksIn mainframe clockRow lockRow rowOf
-  joined-lock-clocks = join-rows lockLimit clockWidth (clockWidth * firstLockRow) c (λ k. rowOf clockWidth c (lockRow mainframe k)) (λ k b. ap (λ (j : ℕ). take clockWidth (drop j c)) (at k))
-    where
-      at : (k : ℕ) → clockWidth * lockRow mainframe k ≡ (clockWidth * firstLockRow) + clockWidth * k
-      at k = omega arith
-
-  joined-applied-clocks : joinRows (joinRows (clocksIn mainframe c .applied)) ≡ take (clockWidth * copyLimit) (drop (clockWidth * firstAppliedRow) c)
-  unfolding clocksIn mainframe clockRow appliedRow rowOf
-  joined-applied-clocks =
-      join-tables processorLimit (λ p. tabulate pageLimit (λ g. rowOf clockWidth c (appliedRow mainframe p g)))
-      ∙ join-rows processorLimit (clockWidth * pageLimit) (clockWidth * firstAppliedRow) c (λ k. joinRows (tabulate pageLimit (λ g. rowOf clockWidth c (appliedRow mainframe (suc k) g))))
-      (λ k b.
-      join-rows pageLimit clockWidth ((clockWidth * firstAppliedRow) + clockWidth * pageLimit * k) c (λ g. rowOf clockWidth c (appliedRow mainframe (suc k) g)) (λ g d. ap (λ (j : ℕ). take clockWidth (drop j c)) (at k g)))
-    where
-      at : (k g : ℕ) → clockWidth * appliedRow mainframe (suc k) g ≡ (clockWidth * firstAppliedRow) + clockWidth * pageLimit * k + clockWidth * g
-      at k g = omega arith
-
-  joined-interval-clocks : joinRows (joinRows (clocksIn mainframe c .intervals)) ≡ take (clockWidth * (processorLimit * intervalLimit)) (drop (clockWidth * firstIntervalRow) c)
-  unfolding clocksIn mainframe clockRow intervalRow rowOf
-  joined-interval-clocks =
-      join-tables processorLimit (λ p. perProcessor intervalLimit (λ i. rowOf clockWidth c (intervalRow mainframe p i)))
-      ∙ join-rows processorLimit (clockWidth * intervalLimit) (clockWidth * firstIntervalRow) c (λ k. joinRows (perProcessor intervalLimit (λ i. rowOf clockWidth c (intervalRow mainframe (suc k) i))))
-      (λ k b.
-      join-per-processor intervalLimit (λ i. rowOf clockWidth c (intervalRow mainframe (suc k) i))
-      ∙ join-rows intervalLimit clockWidth ((clockWidth * firstIntervalRow) + (clockWidth * intervalLimit) * k) c (λ i. rowOf clockWidth c (intervalRow mainframe (suc k) (suc i))) (λ i d. ap (λ (j : ℕ). take clockWidth (drop j c)) (at k i)))
-    where
-      at : (k i : ℕ) → clockWidth * intervalRow mainframe (suc k) (suc i) ≡ (clockWidth * firstIntervalRow) + (clockWidth * intervalLimit) * k + clockWidth * i
-      at k i = omega arith
-
-  barrier-clock : clocksIn mainframe c .barrier ≡ take clockWidth c
-  unfolding clocksIn mainframe clockRow rowOf
-  barrier-clock = refl
-
-  -- the clocks laid out again are their area
-  clock-bytes : length c ≡ clockArea → clockBytes (clocksIn mainframe c) ≡ c
-  unfolding clockBytes
-  clock-bytes h =
-      rw (barrier-clock, joined-processor-clocks, joined-lock-clocks, joined-applied-clocks, joined-interval-clocks)
-      (ap (λ (r : List ℕ). r ++ take (clockWidth * lockLimit) (drop (clockWidth * firstLockRow) c) ++ take (clockWidth * copyLimit) (drop (clockWidth * firstAppliedRow) c) ++ take (clockWidth * (processorLimit * intervalLimit)) (drop (clockWidth * firstIntervalRow) c)) (sym (take-add clockWidth (clockWidth * processorLimit) c))
-      ∙ ap (λ (r : List ℕ). r ++ take (clockWidth * copyLimit) (drop (clockWidth * firstAppliedRow) c) ++ take (clockWidth * (processorLimit * intervalLimit)) (drop (clockWidth * firstIntervalRow) c)) (sym (take-add (clockWidth * firstLockRow) (clockWidth * lockLimit) c))
-      ∙ ap (λ (r : List ℕ). r ++ take (clockWidth * (processorLimit * intervalLimit)) (drop (clockWidth * firstIntervalRow) c)) (sym (take-add (clockWidth * firstAppliedRow) (clockWidth * copyLimit) c))
-      ∙ sym (take-add (clockWidth * firstIntervalRow) (clockWidth * (processorLimit * intervalLimit)) c)
-      ∙ take-all clockArea c (omega arith))
+use Rattle.layout.proofs.EncodingClocks.{clock-bytes}
 
 -- ---- the pages
 
@@ -126,14 +70,22 @@ module _ (w m : List ℕ) where
         tabulate-part tallyLimit (firstTally + tallyLimit + tallyLimit * k) w 0 (λ t. getD w (tallyPlace mainframe (suc k) t) 0) (omega arith)
         (λ t d. ap (λ (j : ℕ). getD w j 0) (omega (arith, tally-at (suc k) t))))
 
-    -- the copies, twins and tallies laid out again are their area
+    joined-values : sharedIn mainframe w .values ≡ take jobLimit (drop firstJobValue w)
+    unfolding sharedIn mainframe
+    joined-values = tabulate-part jobLimit firstJobValue w 0 (λ k. getD w (valuePlace mainframe k) 0) (omega arith) (λ k b. ap (λ (j : ℕ). getD w j 0) (value-at k))
+
+    -- the copies, twins, tallies and values laid out again are their area
     words-of : areaWords (pagesIn mainframe w m) (sharedIn mainframe w) ≡ w
     unfolding areaWords
     words-of =
-        rw (joined-copies, joined-twins, joined-posted, joined-adds)
-        (ap (λ (x : List ℕ). x ++ take tallyLimit (drop firstTally w) ++ take (tallyLimit * processorLimit) (drop (firstTally + tallyLimit) w)) (sym (take-add (pageWidth * copyLimit) (pageWidth * copyLimit) w))
-        ∙ ap (λ (x : List ℕ). x ++ take (tallyLimit * processorLimit) (drop (firstTally + tallyLimit) w)) (sym (take-add firstTally tallyLimit w))
-        ∙ sym (take-add (firstTally + tallyLimit) (tallyLimit * processorLimit) w)
+        let posted : List ℕ = take tallyLimit (drop firstTally w) in
+        let adds : List ℕ = take (tallyLimit * processorLimit) (drop (firstTally + tallyLimit) w) in
+        let values : List ℕ = take jobLimit (drop firstJobValue w) in
+        rw (joined-copies, joined-twins, joined-posted, joined-adds, joined-values)
+        (ap (λ (x : List ℕ). x ++ posted ++ adds ++ values) (sym (take-add (pageWidth * copyLimit) (pageWidth * copyLimit) w))
+        ∙ ap (λ (x : List ℕ). x ++ adds ++ values) (sym (take-add firstTally tallyLimit w))
+        ∙ ap (λ (x : List ℕ). x ++ values) (sym (take-add (firstTally + tallyLimit) (tallyLimit * processorLimit) w))
+        ∙ sym (take-add firstJobValue jobLimit w)
         ∙ take-all wordArea w (omega arith))
 
 -- ---- the records
@@ -189,6 +141,10 @@ module _ (m : List ℕ) (h : length m ≡ markArea) where
       at : (k : ℕ) → turnPlace mainframe (suc k) ≡ firstTurn + k
       at k = omega arith
 
+  queue-marks : marksIn mainframe m .first ∷ marksIn mainframe m .jobs ∷ [] ≡ take (markArea - queueFirst) (drop queueFirst m)
+  unfolding marksIn mainframe firstPlace jobsPlace tabulate
+  queue-marks = tabulate-part (markArea - queueFirst) queueFirst m 0 (λ k. getD m (queueFirst + k) 0) (omega arith) (λ k b. refl)
+
   module _ (byte : getD m standingPlace 0 < 256) where
     -- the two bytes of the number of records
     low-byte : standingCount m % 256 ≡ getD m standingPlace 0
@@ -215,13 +171,15 @@ module _ (m : List ℕ) (h : length m ≡ markArea) where
         let dirty = take copyLimit (drop firstDirty m) in
         let awaited = take processorLimit (drop firstAwaited m) in
         let turns = take processorLimit (drop firstTurn m) in
-        rw (dirty-marks w, arrived-marks, holder-marks, awaited-marks, turn-marks)
-        (ap (λ (s : List ℕ). s ++ arrived ++ holders ++ dirty ++ awaited ++ turns) first-marks
-        ∙ ap (λ (s : List ℕ). s ++ holders ++ dirty ++ awaited ++ turns) (sym (take-add firstArrived processorLimit m))
-        ∙ ap (λ (s : List ℕ). s ++ dirty ++ awaited ++ turns) (sym (take-add firstHolder lockLimit m))
-        ∙ ap (λ (s : List ℕ). s ++ awaited ++ turns) (sym (take-add firstDirty copyLimit m))
-        ∙ ap (λ (s : List ℕ). s ++ turns) (sym (take-add firstAwaited processorLimit m))
-        ∙ sym (take-add firstTurn processorLimit m)
+        let queue = take (markArea - queueFirst) (drop queueFirst m) in
+        rw (dirty-marks w, arrived-marks, holder-marks, awaited-marks, turn-marks, queue-marks)
+        (ap (λ (s : List ℕ). s ++ arrived ++ holders ++ dirty ++ awaited ++ turns ++ queue) first-marks
+        ∙ ap (λ (s : List ℕ). s ++ holders ++ dirty ++ awaited ++ turns ++ queue) (sym (take-add firstArrived processorLimit m))
+        ∙ ap (λ (s : List ℕ). s ++ dirty ++ awaited ++ turns ++ queue) (sym (take-add firstHolder lockLimit m))
+        ∙ ap (λ (s : List ℕ). s ++ awaited ++ turns ++ queue) (sym (take-add firstDirty copyLimit m))
+        ∙ ap (λ (s : List ℕ). s ++ turns ++ queue) (sym (take-add firstAwaited processorLimit m))
+        ∙ ap (λ (s : List ℕ). s ++ queue) (sym (take-add firstTurn processorLimit m))
+        ∙ sym (take-add queueFirst (markArea - queueFirst) m)
         ∙ take-all markArea m (omega arith))
 
 -- no more records stand than a byte says
@@ -259,6 +217,7 @@ lent-sized c w r m lent few =
           λ p h k.
           ap (λ (t : List (List ℕ)). length (getD t 0 [])) (get-per-processor processorLimit interval-clocks p [] h k)
           ∙ ap length (get-nobody intervalLimit (λ i. rowOf clockWidth c (clockRow mainframe (Interval p i))) []);
+      jobs = length-tabulate jobLimit (λ k. rowOf clockWidth c (clockRow mainframe (Job k)));
       clocks =
           λ h b. ap length (clock-read c h b) ∙ length-row clockWidth c (clockRow mainframe h) (omega (arith, holder-row-there h b, lent .clocks));
       copies = length-per-processor processorLimit copies;
@@ -284,6 +243,7 @@ lent-sized c w r m lent few =
       awaited = ap suc (length-tabulate processorLimit (λ k. getD m (awaitedPlace mainframe (suc k)) 0));
       turns = ap suc (length-tabulate processorLimit (λ k. getD m (turnPlace mainframe (suc k)) 0));
       posted = length-tabulate tallyLimit (λ t. getD w (tallyPlace mainframe 0 t) 0);
+      values = length-tabulate jobLimit (λ k. getD w (valuePlace mainframe k) 0);
       adds = length-per-processor processorLimit adds;
       nobody-adds = ap length (get-nobody processorLimit adds []);
       adds-row = λ p h k. ap length (get-per-processor processorLimit adds p [] h k) ∙ length-tabulate tallyLimit (λ t. getD w (tallyPlace mainframe p t) 0);
@@ -311,13 +271,13 @@ lent-sized c w r m lent few =
 
 -- areas of the fixed sizes pass the test of sizes
 pub lent-right : (c w r m : List ℕ) → Lent c w r m → sizesRight mainframe c w r m ≡ true
-unfolding sizesRight clockRows wordPlaces wordRows markPlaces slotSize mainframe
+unfolding sizesRight clockRows wordPlaces wordRows markPlaces firstPlace jobsPlace slotSize mainframe
 lent-right c w r m lent =
     rw (eq-eqb (length c) clockArea (lent .clocks), eq-eqb (length w) wordArea (lent .words), eq-eqb (length r) recordArea (lent .records), eq-eqb (length m) markArea (lent .marks))
 
 -- and areas that pass it have them
 pub right-lent : (c w r m : List ℕ) → sizesRight mainframe c w r m ≡ true → Lent c w r m
-unfolding sizesRight clockRows wordPlaces wordRows markPlaces slotSize mainframe
+unfolding sizesRight clockRows wordPlaces wordRows markPlaces firstPlace jobsPlace slotSize mainframe
 right-lent c w r m e =
     let three = and-eq-true-iff (eqb (length c) clockArea && eqb (length w) wordArea && eqb (length r) recordArea) (eqb (length m) markArea) .0 e in
     let two = and-eq-true-iff (eqb (length c) clockArea && eqb (length w) wordArea) (eqb (length r) recordArea) .0 (three .0) in

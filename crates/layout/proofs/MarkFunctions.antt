@@ -8,12 +8,12 @@ use lib.ListN.{length, getD, take, drop, set, replicate, length-replicate, lengt
 use lib.Seq.{length-take-le, sets}
 use lib.Dec.{eqb}
 use borrow.Author.Needs.{needs}
-use Rattle.limits.specs.Limits.{lockLimit, pageLimit, processorLimit, slotHead}
+use Rattle.limits.specs.Limits.{jobLimit, lockLimit, pageLimit, processorLimit, slotHead}
 use Rattle.limits.specs.Places.{firstArrived, standingHigh, standingPlace}
-use Rattle.limits.specs.inner.Sizes.{firstAwaited, firstHolder, firstLockRow, firstTurn, markArea, slotWidth}
+use Rattle.limits.specs.inner.Sizes.{firstAwaited, firstHolder, firstJobRow, firstLockRow, firstTurn, markArea, queueFirst, queueJobs, slotWidth}
 use Rattle.rules.specs.State.{mainframe}
-use Rattle.layout.specs.Areas.{lockRow, arrivedPlace, holderPlace, dirtyPlace, awaitedPlace, turnPlace, standingCount}
-use Rattle.layout.specs.inner.Marks.{withStanding, arrivedMark, holderMark, dirtyMark, awaitedMark, turnMark, slotLength, slotDiff}
+use Rattle.layout.specs.Areas.{lockRow, jobRow, arrivedPlace, holderPlace, dirtyPlace, awaitedPlace, turnPlace, firstPlace, jobsPlace, standingCount}
+use Rattle.layout.specs.inner.Marks.{withStanding, arrivedMark, holderMark, dirtyMark, awaitedMark, turnMark, firstMark, jobsMark, slotLength, slotDiff}
 use Rattle.layout.specs.inner.Needed.{OnPage, MarksOf, PageMark, DiffIn}
 use Rattle.layout.proofs.Rows.{dirty-place-is}
 use Rattle.layout.proofs.Stores.{put-back}
@@ -22,6 +22,11 @@ use Rattle.layout.proofs.Stores.{put-back}
 pub lock-row-is : (l : ℕ) → firstLockRow + l ≡ lockRow mainframe l
 unfolding lockRow mainframe
 lock-row-is l = refl
+
+-- and of a job's
+pub job-row-is : (k : ℕ) → firstJobRow + k ≡ jobRow mainframe k
+unfolding jobRow mainframe
+job-row-is k = refl
 
 -- ---- a part of an area filled with zeros and put back
 
@@ -107,6 +112,29 @@ module _ (m : List ℕ) (p : ℕ) where
   unfolding turnPlace mainframe
   turn-put x h = ap (λ (y : ℕ). set m (firstTurn + (p - 1)) y) (omega arith)
 
+-- ---- the marks of the queue
+
+module _ (m : List ℕ) (x : ℕ) where
+  -- the place of the oldest job is read
+  pub first-is : (x ≡ getD m queueFirst 0) × (x < 256) → x ≡ firstMark m
+  unfolding firstPlace mainframe
+  first-is e = e .0
+
+  -- how many wait
+  pub jobs-is : (x ≡ getD m queueJobs 0) × (x < 256) → x ≡ jobsMark m
+  unfolding firstPlace jobsPlace mainframe
+  jobs-is e = e .0
+
+  -- the place is put
+  pub first-put : x < jobLimit → set m queueFirst (x % 256) ≡ set m (firstPlace mainframe) x
+  unfolding firstPlace mainframe
+  first-put h = ap (λ (y : ℕ). set m queueFirst y) (omega arith)
+
+  -- and how many
+  pub jobs-put : x ≤ jobLimit → set m queueJobs (x % 256) ≡ set m (jobsPlace mainframe) x
+  unfolding firstPlace jobsPlace mainframe
+  jobs-put h = ap (λ (y : ℕ). set m queueJobs y) (omega arith)
+
 -- ---- dirty marks
 
 module _ (m : List ℕ) (p g place : ℕ) where
@@ -145,4 +173,4 @@ module _ (r : List ℕ) (slot len : ℕ) (h : DiffIn r slot) (e : (len ≡ slotL
       let k : slotWidth * slot + slotHead + len - (slotWidth * slot + slotHead) ≡ slotLength r slot = omega (arith, e .0) in
       ap (λ (n : ℕ). take n (drop (slotWidth * slot + slotHead) r)) k
 
-pub ruleset mark-laws = (lock-row-is, standing-is, standing-small, standing-put, arrived-is, arrived-set, arrived-part, holder-is, holder-put, waiting-is, awaited-is, turn-is, awaited-put, turn-put, dirty-place-is, dirty-on-page, dirty-is, dirty-set, first-on-page, last-dirty-there, diff-end-there, diff-part, needs)
+pub ruleset mark-laws = (lock-row-is, job-row-is, standing-is, standing-small, standing-put, arrived-is, arrived-set, arrived-part, holder-is, holder-put, waiting-is, awaited-is, turn-is, awaited-put, turn-put, first-is, jobs-is, first-put, jobs-put, dirty-place-is, dirty-on-page, dirty-is, dirty-set, first-on-page, last-dirty-there, diff-end-there, diff-part, needs)

@@ -1,5 +1,5 @@
 -- The marks of the mainframe in their area: counts, records standing, the wish for collection, who has arrived, who holds a lock, dirty pages, who
--- waits for a lock and at which turn; and the state after one of them is stored anew. Assumes nothing.
+-- waits for a lock and at which turn; and the state after one of them is stored anew. The queue's are in QueueLaws. Assumes nothing.
 use Prim.Native.Nat.{ℕ, zero, suc, _+_, _*_, _/_, _%_, _≤_, _<_}
 use native.Mathlib.Omega.{arith}
 use native.Mathlib.Nat.{div-add-mod'}
@@ -12,14 +12,14 @@ use lib.Dec.{eqb}
 use Rattle.lists.specs.Tables.{put, putCell, tabulate}
 use Rattle.limits.specs.Limits.{lockLimit, pageLimit, processorLimit}
 use Rattle.limits.specs.Places.{firstArrived, standingPlace, standingHigh, wantedPlace}
-use Rattle.limits.specs.inner.Sizes.{clockWidth, firstAwaited, firstDirty, firstHolder, firstTurn, markArea}
+use Rattle.limits.specs.inner.Sizes.{clockWidth, firstAwaited, firstDirty, firstHolder, firstTurn, markArea, queueFirst, queueJobs}
 use Rattle.rules.specs.State.{mainframe, Pages, withArrived, withWanted, withPages, withRecords, withMarks, withHolder, withLines}
 use Rattle.layout.specs.Areas.{arrivedPlace, holderPlace, dirtyPlace, awaitedPlace, turnPlace, standingCount, clocksIn, recordsIn, marksIn, sharedIn, stateIn}
 use Rattle.layout.specs.inner.Marks.{pageCount, processorCount, wishMark, withStanding}
 use Rattle.layout.proofs.Stores.{get-sets-same, get-set, eqb-iff}
 use Rattle.lists.proofs.Tabulated.{get-tabulate, tabulate-same, put-tabulate, map-tabulate}
 use Rattle.layout.proofs.PageLaws.{dirty-written}
-use Rattle.layout.proofs.MarksKept.{counts-kept, wanted-kept, arrived-kept, holders-kept, awaited-kept, turns-kept, marks-kept, pages-kept, marks-alone, pages-alone, agree-below, agree-above, agree-before, agree-behind}
+use Rattle.layout.proofs.MarksKept.{counts-kept, wanted-kept, arrived-kept, holders-kept, awaited-kept, turns-kept, first-kept, jobs-kept, marks-kept, pages-kept, marks-alone, pages-alone, agree-below, agree-above, agree-before, agree-behind}
 
 -- ---- reading
 
@@ -70,7 +70,7 @@ unfolding withStanding
 standing-length m x there = length-set (set m standingPlace (x % 256)) standingHigh (x / 256) ∙ length-set m standingPlace (x % 256) ∙ there
 
 -- marks listed by their places, when one of them is stored anew
-stored-by-place : (n : ℕ) (place : ℕ → ℕ) (m : List ℕ) (p x : ℕ) → ((i j : ℕ) → place i ≡ place j → i ≡ j) → place p < length m → p < n
+pub stored-by-place : (n : ℕ) (place : ℕ → ℕ) (m : List ℕ) (p x : ℕ) → ((i j : ℕ) → place i ≡ place j → i ≡ j) → place p < length m → p < n
     → tabulate n (λ j. getD (set m (place p) x) (place j) 0) ≡ put 0 (tabulate n (λ j. getD m (place j) 0)) p x
 stored-by-place n place m p x apart there b =
     tabulate-same n (λ j. getD (set m (place p) x) (place j) 0) (λ j. cond (eqb j p) x (getD m (place j) 0))
@@ -122,7 +122,9 @@ module _ (c w r m : List ℕ) (x : ℕ) (there : length m ≡ markArea) where
         arrived = arrived-kept (set m wantedPlace x) m (agree-above m wantedPlace x firstArrived firstHolder (omega arith)) i;
         wanted = getD-set-same m wantedPlace x 0 (omega arith) i;
         awaited = awaited-kept (set m wantedPlace x) m (agree-above m wantedPlace x firstAwaited firstTurn (omega arith)) i;
-        turns = turns-kept (set m wantedPlace x) m (agree-above m wantedPlace x firstTurn markArea (omega arith)) i;
+        turns = turns-kept (set m wantedPlace x) m (agree-above m wantedPlace x firstTurn queueFirst (omega arith)) i;
+        first = first-kept (set m wantedPlace x) m (agree-above m wantedPlace x queueFirst queueJobs (omega arith)) i;
+        jobs = jobs-kept (set m wantedPlace x) m (agree-above m wantedPlace x queueJobs markArea (omega arith)) i;
       }))
 
   -- a processor's arrived mark
@@ -140,7 +142,9 @@ module _ (c w r m : List ℕ) (x : ℕ) (there : length m ≡ markArea) where
         arrived = 0 ∷ marks i;
         wanted = wanted-kept (set m at x) m (agree-below m at x wantedPlace firstArrived (omega arith)) i;
         awaited = awaited-kept (set m at x) m (agree-above m at x firstAwaited firstTurn (omega arith)) i;
-        turns = turns-kept (set m at x) m (agree-above m at x firstTurn markArea (omega arith)) i;
+        turns = turns-kept (set m at x) m (agree-above m at x firstTurn queueFirst (omega arith)) i;
+        first = first-kept (set m at x) m (agree-above m at x queueFirst queueJobs (omega arith)) i;
+        jobs = jobs-kept (set m at x) m (agree-above m at x queueJobs markArea (omega arith)) i;
       }))
     where
       marks : tabulate processorLimit (λ j. getD (set m (arrivedPlace mainframe (suc p)) x) (arrivedPlace mainframe (suc j)) 0)
@@ -161,7 +165,9 @@ module _ (c w r m : List ℕ) (x : ℕ) (there : length m ≡ markArea) where
         arrived = arrived-kept (set m at x) m (agree-below m at x firstArrived firstHolder (omega arith)) i;
         wanted = wanted-kept (set m at x) m (agree-below m at x wantedPlace firstArrived (omega arith)) i;
         awaited = awaited-kept (set m at x) m (agree-above m at x firstAwaited firstTurn (omega arith)) i;
-        turns = turns-kept (set m at x) m (agree-above m at x firstTurn markArea (omega arith)) i;
+        turns = turns-kept (set m at x) m (agree-above m at x firstTurn queueFirst (omega arith)) i;
+        first = first-kept (set m at x) m (agree-above m at x queueFirst queueJobs (omega arith)) i;
+        jobs = jobs-kept (set m at x) m (agree-above m at x queueJobs markArea (omega arith)) i;
       }))
     where
       marks : tabulate lockLimit (λ j. getD (set m (holderPlace mainframe l) x) (holderPlace mainframe j) 0)
@@ -183,7 +189,9 @@ module _ (c w r m : List ℕ) (x : ℕ) (there : length m ≡ markArea) where
         arrived = arrived-kept (set m at x) m (agree-below m at x firstArrived firstHolder (omega arith)) i;
         wanted = wanted-kept (set m at x) m (agree-below m at x wantedPlace firstArrived (omega arith)) i;
         awaited = 0 ∷ marks i;
-        turns = turns-kept (set m at x) m (agree-above m at x firstTurn markArea (omega arith)) i;
+        turns = turns-kept (set m at x) m (agree-above m at x firstTurn queueFirst (omega arith)) i;
+        first = first-kept (set m at x) m (agree-above m at x queueFirst queueJobs (omega arith)) i;
+        jobs = jobs-kept (set m at x) m (agree-above m at x queueJobs markArea (omega arith)) i;
       }))
     where
       marks : tabulate processorLimit (λ j. getD (set m (awaitedPlace mainframe (suc p)) x) (awaitedPlace mainframe (suc j)) 0)
@@ -206,6 +214,8 @@ module _ (c w r m : List ℕ) (x : ℕ) (there : length m ≡ markArea) where
         wanted = wanted-kept (set m at x) m (agree-below m at x wantedPlace firstArrived (omega arith)) i;
         awaited = awaited-kept (set m at x) m (agree-below m at x firstAwaited firstTurn (omega arith)) i;
         turns = 0 ∷ marks i;
+        first = first-kept (set m at x) m (agree-above m at x queueFirst queueJobs (omega arith)) i;
+        jobs = jobs-kept (set m at x) m (agree-above m at x queueJobs markArea (omega arith)) i;
       }))
     where
       marks : tabulate processorLimit (λ j. getD (set m (turnPlace mainframe (suc p)) x) (turnPlace mainframe (suc j)) 0)
@@ -237,7 +247,9 @@ module _ (c w r m : List ℕ) (there : length m ≡ markArea) where
         arrived = 0 ∷ marks i;
         wanted = wanted-kept (sets m firstArrived v) m (agree-before m v firstArrived wantedPlace firstArrived (omega arith)) i;
         awaited = awaited-kept (sets m firstArrived v) m (agree-behind m v firstArrived firstAwaited firstTurn (omega arith)) i;
-        turns = turns-kept (sets m firstArrived v) m (agree-behind m v firstArrived firstTurn markArea (omega arith)) i;
+        turns = turns-kept (sets m firstArrived v) m (agree-behind m v firstArrived firstTurn queueFirst (omega arith)) i;
+        first = first-kept (sets m firstArrived v) m (agree-behind m v firstArrived queueFirst queueJobs (omega arith)) i;
+        jobs = jobs-kept (sets m firstArrived v) m (agree-behind m v firstArrived queueJobs markArea (omega arith)) i;
       }))
     where
       at : (j : ℕ) → j < processorLimit → getD (sets m firstArrived v) (arrivedPlace mainframe (suc j)) 0 ≡ 0

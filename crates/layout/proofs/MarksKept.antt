@@ -7,9 +7,9 @@ use lib.ListN.{length, getD, set}
 use lib.Seq.{getD-set-other, sets}
 use Rattle.limits.specs.Limits.{lockLimit, pageLimit, processorLimit}
 use Rattle.limits.specs.Places.{firstArrived, locksPlace, pagesPlace, processorsPlace, standingPlace, standingHigh, wantedPlace}
-use Rattle.limits.specs.inner.Sizes.{firstAwaited, firstDirty, firstHolder, firstTurn, markArea}
+use Rattle.limits.specs.inner.Sizes.{firstAwaited, firstDirty, firstHolder, firstTurn, markArea, queueFirst, queueJobs}
 use Rattle.rules.specs.State.{mainframe, withPages, withMarks}
-use Rattle.layout.specs.Areas.{arrivedPlace, holderPlace, dirtyPlace, awaitedPlace, turnPlace, standingCount, clocksIn, pagesIn, recordsIn, marksIn, sharedIn, stateIn}
+use Rattle.layout.specs.Areas.{arrivedPlace, holderPlace, dirtyPlace, awaitedPlace, turnPlace, firstPlace, jobsPlace, standingCount, clocksIn, pagesIn, recordsIn, marksIn, sharedIn, stateIn}
 use Rattle.layout.proofs.Stores.{get-sets-before, get-sets-behind}
 use Rattle.lists.proofs.Tabulated.{tabulate-same}
 use Rattle.layout.proofs.RowLaws.{page-table-same}
@@ -59,12 +59,22 @@ module _ (n m : List ℕ) where
       (λ k b. e (awaitedPlace mainframe (suc k)) (omega arith) (omega arith)))
 
   -- the turns
-  pub turns-kept : Agree n m firstTurn markArea → marksIn mainframe n .turns ≡ marksIn mainframe m .turns
+  pub turns-kept : Agree n m firstTurn queueFirst → marksIn mainframe n .turns ≡ marksIn mainframe m .turns
   unfolding marksIn turnPlace mainframe
   turns-kept e =
       ap (λ (a : List ℕ). 0 ∷ a)
       (tabulate-same processorLimit (λ k. getD n (turnPlace mainframe (suc k)) 0) (λ k. getD m (turnPlace mainframe (suc k)) 0)
       (λ k b. e (turnPlace mainframe (suc k)) (omega arith) (omega arith)))
+
+  -- the place of the oldest job
+  pub first-kept : Agree n m queueFirst queueJobs → marksIn mainframe n .first ≡ marksIn mainframe m .first
+  unfolding marksIn firstPlace mainframe
+  first-kept e = e queueFirst (omega arith) (omega arith)
+
+  -- how many jobs wait
+  pub jobs-kept : Agree n m queueJobs markArea → marksIn mainframe n .jobs ≡ marksIn mainframe m .jobs
+  unfolding marksIn firstPlace jobsPlace mainframe
+  jobs-kept e = e queueJobs (omega arith) (omega arith)
 
   -- all of them together
   pub marks-kept : Agree n m wantedPlace firstDirty → Agree n m firstAwaited markArea → marksIn mainframe n ≡ marksIn mainframe m
@@ -74,7 +84,9 @@ module _ (n m : List ℕ) where
         arrived = arrived-kept (λ j a b. e j (omega arith) (omega arith)) i;
         wanted = wanted-kept (λ j a b. e j a (omega arith)) i;
         awaited = awaited-kept (λ j a b. f j a (omega arith)) i;
-        turns = turns-kept (λ j a b. f j (omega arith) b) i;
+        turns = turns-kept (λ j a b. f j (omega arith) (omega arith)) i;
+        first = first-kept (λ j a b. f j (omega arith) (omega arith)) i;
+        jobs = jobs-kept (λ j a b. f j (omega arith) b) i;
       }
 
   -- the pages: their dirty marks

@@ -1,21 +1,20 @@
 -- The tallies of the mainframe in the area of words: where they stand, that pages and tallies leave each other alone, and what a stored add, and a round's
 -- posting, come to. Assumes nothing.
-use Prim.Native.Nat.{ℕ, zero, suc, _+_, _-_, _*_, _%_, _≤_, _<_}
+use Prim.Native.Nat.{ℕ, _+_, _-_, _*_, _≤_, _<_}
 use native.Mathlib.Omega.{arith}
 use mathlib.Core.Path.{_≡_, sym, ap, _∙_, fun-ext}
 use mathlib.Core.Bool.{Bool, cond, _&&_}
-use mathlib.Core.List.{List, [], map}
-use lib.ListN.{length, getD, set, length-set}
+use mathlib.Core.List.{List}
+use lib.ListN.{length, getD, set}
 use lib.Seq.{ext-getD, sets, getD-set-other}
 use lib.Dec.{eqb}
-use Rattle.lists.specs.Tables.{putCell, tabulate, total}
-use Rattle.lists.proofs.Tables.{total-same}
+use Rattle.lists.specs.Tables.{putCell, tabulate}
 use Rattle.lists.proofs.Tabulated.{length-tabulate, get-tabulate, tabulate-same, map-tabulate}
-use Rattle.limits.specs.Limits.{processorLimit, pageLimit, pageWidth, tallyLimit}
-use Rattle.limits.specs.inner.Sizes.{firstTally, wordArea}
-use Rattle.rules.specs.State.{mainframe, Pages, Shared, postedOf, addsOf, State, withPages, withShared}
+use Rattle.limits.specs.Limits.{processorLimit, pageLimit, pageWidth, tallyLimit, jobLimit}
+use Rattle.limits.specs.inner.Sizes.{firstTally, firstJobValue, wordArea}
+use Rattle.rules.specs.State.{mainframe, Shared, postedOf, addsOf, withShared}
 use Rattle.rules.specs.Tallies.{totalAfter, posting}
-use Rattle.layout.specs.Areas.{copyRow, twinRow, wordRows, tallyPlace, pagesIn, sharedIn, stateIn}
+use Rattle.layout.specs.Areas.{copyRow, twinRow, wordRows, tallyPlace, valuePlace, pagesIn, sharedIn, stateIn}
 use Rattle.layout.specs.Layout.{rowOf, perProcessor}
 use Rattle.layout.proofs.Stores.{get-set, get-sets-behind, eqb-pair}
 use Rattle.layout.proofs.RowLaws.{length-row, get-row, get-page, page-table-same, put-page, map-per-processor}
@@ -30,6 +29,15 @@ tally-at k t = omega arith
 -- it lies within the area
 pub tally-there : (k t : ℕ) → k ≤ processorLimit → t < tallyLimit → tallyPlace mainframe k t < wordArea
 tally-there k t h l = omega (arith, tally-at k t)
+
+-- the place of a job's value, by numbers
+pub value-at : (k : ℕ) → valuePlace mainframe k ≡ firstJobValue + k
+unfolding valuePlace wordRows mainframe
+value-at k = omega arith
+
+-- it lies behind the tallies
+pub value-behind : (p t k : ℕ) → p ≤ processorLimit → t < tallyLimit → tallyPlace mainframe p t < valuePlace mainframe k
+value-behind p t k h l = omega (arith, tally-at p t, value-at k)
 
 -- ---- reading
 
@@ -50,7 +58,7 @@ module _ (w : List ℕ) where
 abbrev pub WordsAgree : List ℕ → List ℕ → ℕ → ℕ → Type 0
 WordsAgree v w a b = (i : ℕ) → a ≤ i → i < b → getD v i 0 ≡ getD w i 0
 
--- words that agree behind the pages hold the same tallies
+-- words that agree behind the pages hold the same tallies and values of jobs
 pub shared-same : (v w : List ℕ) → WordsAgree v w firstTally wordArea → sharedIn mainframe v ≡ sharedIn mainframe w
 unfolding sharedIn mainframe
 shared-same v w e =
@@ -59,6 +67,9 @@ shared-same v w e =
       adds =
           page-table-same processorLimit tallyLimit (λ p t. getD v (tallyPlace mainframe p t) 0) (λ p t. getD w (tallyPlace mainframe p t) 0)
           (λ p t h k l. e (tallyPlace mainframe p t) (omega (arith, tally-at p t)) (tally-there p t k l)) i;
+      values =
+          tabulate-same jobLimit (λ k. getD v (valuePlace mainframe k) 0) (λ k. getD w (valuePlace mainframe k) 0)
+          (λ k h. e (valuePlace mainframe k) (omega (arith, value-at k)) (omega (arith, value-at k))) i;
     }
 
 -- a run of words before the tallies leaves them
@@ -97,7 +108,7 @@ pages-same v w m lv lw e =
 
 -- ---- the state after a tally was stored
 
--- words that agree before the tallies change the shared values alone
+-- words that agree before the tallies change what the processors share alone
 pub shared-written : (c w w′ r m : List ℕ) (after : Shared) → length w ≡ wordArea → length w′ ≡ wordArea → WordsAgree w′ w 0 firstTally → sharedIn mainframe w′ ≡ after
     → stateIn mainframe c w′ r m ≡ withShared (stateIn mainframe c w r m) after
 unfolding stateIn
@@ -113,7 +124,8 @@ shared-written c w w′ r m after lw lw′ e s =
 
 -- an add stored anew
 pub add-written : (w : List ℕ) (p t x : ℕ) → length w ≡ wordArea → 1 ≤ p → p ≤ processorLimit → t < tallyLimit
-    → sharedIn mainframe (set w (tallyPlace mainframe p t) x) ≡ record { posted = sharedIn mainframe w .posted; adds = putCell 0 (sharedIn mainframe w .adds) p t x }
+    → sharedIn mainframe (set w (tallyPlace mainframe p t) x)
+    ≡ record { posted = sharedIn mainframe w .posted; adds = putCell 0 (sharedIn mainframe w .adds) p t x; values = sharedIn mainframe w .values }
 unfolding sharedIn mainframe
 add-written w p t x there h k l =
     λ i. record {
@@ -129,14 +141,18 @@ add-written w p t x there h k l =
           (eqb-pair (tallyPlace mainframe q u) (tallyPlace mainframe p t) q p u t
           (λ s. (omega (arith, s, tally-at q u, tally-at p t, d, l), omega (arith, s, tally-at q u, tally-at p t, d, l))) (λ s r. rw (s, r))))
           ∙ sym (put-page 0 processorLimit tallyLimit (λ q u. getD w (tallyPlace mainframe q u) 0) p t x h k l)) i;
+      values =
+          tabulate-same jobLimit (λ j. getD (set w (tallyPlace mainframe p t) x) (valuePlace mainframe j) 0) (λ j. getD w (valuePlace mainframe j) 0)
+          (λ j b. getD-set-other w (tallyPlace mainframe p t) (valuePlace mainframe j) x 0 (λ e. omega (arith, e, value-behind p t j k l))) i;
     }
 
 -- ---- a round posted
 
--- from the words w to w′ every tally was posted for n processors
+-- from the words w to w′ every tally was posted for n processors, and the values of jobs stayed
 pub record AllPosted (w w′ : List ℕ) (n : ℕ) : Type 0 where
   pub posted : (t : ℕ) → t < tallyLimit → getD w′ (tallyPlace mainframe 0 t) 0 ≡ totalAfter (sharedIn mainframe w) n t
   pub adds : (p t : ℕ) → 1 ≤ p → p ≤ processorLimit → t < tallyLimit → getD w′ (tallyPlace mainframe p t) 0 ≡ 0
+  pub values : (k : ℕ) → k < jobLimit → getD w′ (valuePlace mainframe k) 0 ≡ getD w (valuePlace mainframe k) 0
 
 pub posting-done : (w w′ : List ℕ) (n : ℕ) → AllPosted w w′ n → sharedIn mainframe w′ ≡ posting (sharedIn mainframe w) n
 unfolding posting sharedIn mainframe
@@ -149,4 +165,5 @@ posting-done w w′ n a =
           (page-table-same processorLimit tallyLimit (λ p t. getD w′ (tallyPlace mainframe p t) 0) (λ p t. 0) (a .adds)
           ∙ sym (map-per-processor (λ (add : ℕ). 0) processorLimit (λ p. tabulate tallyLimit (λ t. getD w (tallyPlace mainframe p t) 0))
           ∙ ap (perProcessor processorLimit) (fun-ext (λ p. map-tabulate (λ (add : ℕ). 0) tallyLimit (λ t. getD w (tallyPlace mainframe p t) 0))))) i;
+      values = tabulate-same jobLimit (λ k. getD w′ (valuePlace mainframe k) 0) (λ k. getD w (valuePlace mainframe k) 0) (a .values) i;
     }

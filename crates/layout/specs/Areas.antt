@@ -1,16 +1,16 @@
 -- The four areas as a state, and a state as the four areas. Assumes nothing.
 use Prim.Native.Nat.{ℕ, suc, _+_, _-_, _*_, _/_, _%_}
 use mathlib.Core.Bool.{Bool, _&&_}
-use mathlib.Core.List.{List, _∷_, _++_}
+use mathlib.Core.List.{List, [], _∷_, _++_}
 use lib.ListN.{length, getD, drop}
 use lib.Dec.{eqb}
 use Rattle.limits.specs.Places.{processorsPlace, pagesPlace, locksPlace, standingPlace, standingHigh, wantedPlace, firstArrived}
 use Rattle.rules.specs.InOrder.{slotSize}
-use Rattle.rules.specs.State.{Limits, mainframe, Holder, Processor, Lock, Barrier, Applied, Interval, Clocks, Pages, Records, Marks, Shared, State, standing}
+use Rattle.rules.specs.State.{Limits, mainframe, Holder, Processor, Lock, Barrier, Applied, Interval, Job, Clocks, Pages, Records, Marks, Shared, State, standing}
 use Rattle.lists.specs.Tables.{tabulate}
 use Rattle.layout.specs.Layout.{rowOf, perProcessor, joinRows}
 
--- ---- which row a clock has: the barrier's first, then the processors', the locks', the applied clocks and the intervals'
+-- ---- which row a clock has: the barrier's first, then the processors', the locks', the applied clocks, the intervals' and the jobs'
 
 -- behind the processors
 unfoldable pub lockRow : Limits → ℕ → ℕ
@@ -24,6 +24,10 @@ appliedRow lim p g = lim .processors + 1 + lim .locks + (p - 1) * lim .pages + g
 unfoldable pub intervalRow : Limits → ℕ → ℕ → ℕ
 intervalRow lim p i = lim .processors + 1 + lim .locks + lim .processors * lim .pages + (p - 1) * lim .intervals + (i - 1)
 
+-- behind the intervals, a row for each place of the queue
+unfoldable pub jobRow : Limits → ℕ → ℕ
+jobRow lim k = lim .processors + 1 + lim .locks + lim .processors * lim .pages + lim .processors * lim .intervals + k
+
 -- the row of any holder's clock
 unfoldable pub clockRow : Limits → Holder → ℕ
 clockRow lim Barrier = 0
@@ -31,10 +35,11 @@ clockRow lim (Processor p) = p
 clockRow lim (Lock l) = lockRow lim l
 clockRow lim (Applied p g) = appliedRow lim p g
 clockRow lim (Interval p i) = intervalRow lim p i
+clockRow lim (Job k) = jobRow lim k
 
 -- all rows of clocks
 unfoldable pub clockRows : Limits → ℕ
-clockRows lim = lim .processors + 1 + lim .locks + lim .processors * lim .pages + lim .processors * lim .intervals
+clockRows lim = lim .processors + 1 + lim .locks + lim .processors * lim .pages + lim .processors * lim .intervals + lim .jobs
 
 -- ---- which row of words a page has: the copies, then the twins
 
@@ -56,11 +61,18 @@ wordRows lim = lim .processors * lim .pages + lim .processors * lim .pages
 unfoldable pub tallyPlace : Limits → ℕ → ℕ → ℕ
 tallyPlace lim k t = lim .words * wordRows lim + k * lim .tallies + t
 
+-- ---- where the values of jobs stand, behind the tallies
+
+-- the value of the job at place k of the queue
+unfoldable pub valuePlace : Limits → ℕ → ℕ
+valuePlace lim k = lim .words * wordRows lim + (lim .processors + 1) * lim .tallies + k
+
 -- all words
 unfoldable pub wordPlaces : Limits → ℕ
-wordPlaces lim = lim .words * wordRows lim + (lim .processors + 1) * lim .tallies
+wordPlaces lim = lim .words * wordRows lim + (lim .processors + 1) * lim .tallies + lim .jobs
 
--- ---- where a mark stands: processors, pages, locks, records standing, collection wanted, arrived, holders, dirty, locks waited for, turns
+-- ---- where a mark stands: processors, pages, locks, records standing, collection wanted, arrived, holders, dirty, locks waited for, turns, and the
+-- queue's two
 
 -- the arrived mark of processor p
 unfoldable pub arrivedPlace : Limits → ℕ → ℕ
@@ -82,9 +94,17 @@ awaitedPlace lim p = firstArrived + lim .processors + lim .locks + lim .processo
 unfoldable pub turnPlace : Limits → ℕ → ℕ
 turnPlace lim p = firstArrived + lim .processors + lim .locks + lim .processors * lim .pages + lim .processors + (p - 1)
 
+-- the place of the oldest job of the queue
+unfoldable pub firstPlace : Limits → ℕ
+firstPlace lim = firstArrived + lim .processors + lim .locks + lim .processors * lim .pages + lim .processors + lim .processors
+
+-- how many jobs wait
+unfoldable pub jobsPlace : Limits → ℕ
+jobsPlace lim = firstPlace lim + 1
+
 -- all marks
 unfoldable pub markPlaces : Limits → ℕ
-markPlaces lim = firstArrived + lim .processors + lim .locks + lim .processors * lim .pages + lim .processors + lim .processors
+markPlaces lim = jobsPlace lim + 1
 
 -- how many records stand: two bytes, the low one first
 unfoldable pub standingCount : List ℕ → ℕ
@@ -101,6 +121,7 @@ clocksIn lim c =
       barrier = rowOf (lim .processors) c (clockRow lim Barrier);
       applied = perProcessor (lim .processors) (λ p. tabulate (lim .pages) (λ g. rowOf (lim .processors) c (clockRow lim (Applied p g))));
       intervals = perProcessor (lim .processors) (λ p. perProcessor (lim .intervals) (λ i. rowOf (lim .processors) c (clockRow lim (Interval p i))));
+      jobs = tabulate (lim .jobs) (λ k. rowOf (lim .processors) c (clockRow lim (Job k)));
     }
 
 -- copies and twins from the words, dirty marks from the marks
@@ -116,7 +137,7 @@ pagesIn lim w m =
 unfoldable pub recordsIn : Limits → List ℕ → List ℕ → Records
 recordsIn lim r m = record { standing = standingCount m; slots = tabulate (lim .records) (λ i. rowOf (slotSize lim) r i) }
 
--- holders, arrived marks, the wish, and who waits for which lock at which turn
+-- holders, arrived marks, the wish, who waits for which lock at which turn, and the queue's oldest job and how many wait
 unfoldable pub marksIn : Limits → List ℕ → Marks
 marksIn lim m =
     record {
@@ -125,14 +146,17 @@ marksIn lim m =
       wanted = getD m wantedPlace 0;
       awaited = 0 ∷ tabulate (lim .processors) (λ k. getD m (awaitedPlace lim (suc k)) 0);
       turns = 0 ∷ tabulate (lim .processors) (λ k. getD m (turnPlace lim (suc k)) 0);
+      first = getD m (firstPlace lim) 0;
+      jobs = getD m (jobsPlace lim) 0;
     }
 
--- the tallies from the words
+-- the tallies and the values of the jobs from the words
 unfoldable pub sharedIn : Limits → List ℕ → Shared
 sharedIn lim w =
     record {
       posted = tabulate (lim .tallies) (λ t. getD w (tallyPlace lim 0 t) 0);
       adds = perProcessor (lim .processors) (λ p. tabulate (lim .tallies) (λ t. getD w (tallyPlace lim p t) 0));
+      values = tabulate (lim .jobs) (λ k. getD w (valuePlace lim k) 0);
     }
 
 -- the whole state
@@ -151,11 +175,12 @@ stateIn lim c w r m =
 
 -- the clocks, row by row
 unfoldable pub clockBytes : Clocks → List ℕ
-clockBytes c = c .barrier ++ joinRows (c .processors) ++ joinRows (c .locks) ++ joinRows (joinRows (c .applied)) ++ joinRows (joinRows (c .intervals))
+clockBytes c =
+    c .barrier ++ joinRows (c .processors) ++ joinRows (c .locks) ++ joinRows (joinRows (c .applied)) ++ joinRows (joinRows (c .intervals)) ++ joinRows (c .jobs)
 
--- the copies, then the twins, then the tallies
+-- the copies, then the twins, then the tallies, then the values of the jobs
 unfoldable pub areaWords : Pages → Shared → List ℕ
-areaWords m h = joinRows (joinRows (m .copies)) ++ joinRows (joinRows (m .twins)) ++ h .posted ++ joinRows (h .adds)
+areaWords m h = joinRows (joinRows (m .copies)) ++ joinRows (joinRows (m .twins)) ++ h .posted ++ joinRows (h .adds) ++ h .values
 
 -- the slots, one after the other
 unfoldable pub recordBytes : Records → List ℕ
@@ -166,6 +191,7 @@ unfoldable pub markBytes : State → List ℕ
 markBytes s =
     s .counts .processors ∷ s .counts .pages ∷ s .counts .locks ∷ s .records .standing % 256 ∷ s .records .standing / 256 ∷ s .marks .wanted
     ∷ drop 1 (s .marks .arrived) ++ s .marks .holders ++ joinRows (s .pages .dirty) ++ drop 1 (s .marks .awaited) ++ drop 1 (s .marks .turns)
+    ++ (s .marks .first ∷ s .marks .jobs ∷ [])
 
 -- ---- "its size is the fixed one"
 

@@ -9,13 +9,13 @@ ghost use mathlib.Core.List.{[]};
 ghost use Prim.Native.Nat.{_*_, _<_, _≤_};
 ghost use lib.ListN.{length, getD, replicate};
 ghost use lib.Seq.{sets};
-ghost use Rattle.limits.specs.Limits.{lockLimit, pageLimit, pageWidth};
+ghost use Rattle.limits.specs.Limits.{jobLimit, lockLimit, pageLimit, pageWidth};
 ghost use Rattle.limits.specs.inner.Sizes.{clockRowLimit, clockWidth, wordRowLimit};
 ghost use Rattle.clock.specs.Clocks.{joined};
 ghost use Rattle.rules.specs.State.{mainframe};
 ghost use Rattle.lists.specs.Tables.{tabulate};
 ghost use Rattle.layout.specs.Layout.{rowOf};
-ghost use Rattle.layout.specs.Areas.{lockRow, appliedRow, intervalRow, copyRow, twinRow};
+ghost use Rattle.layout.specs.Areas.{lockRow, appliedRow, intervalRow, jobRow, copyRow, twinRow};
 ghost use Rattle.layout.specs.inner.Needed.{RowThere, OnPage, MadeInterval, TwoRows, ClocksOf, OwnEntry};
 use clock::Clock;
 use clock::IntervalId;
@@ -25,6 +25,7 @@ use limits::CLOCK_WIDTH;
 use limits::COPY_LIMIT;
 use limits::FIRST_APPLIED_ROW;
 use limits::FIRST_INTERVAL_ROW;
+use limits::FIRST_JOB_ROW;
 use limits::FIRST_LOCK_ROW;
 use limits::INTERVAL_LIMIT;
 use limits::OWN_STEP;
@@ -151,6 +152,14 @@ pub fn interval_row(p: ProcessorId, i: IntervalId) -> usize
     ensures { λ r. ⌜ r < clockRowLimit ⌝ }
 {
     FIRST_INTERVAL_ROW + INTERVAL_LIMIT * (p.0 - 1) + (i.0 - 1)
+}
+
+// The row of the clock at a place of the queue.
+pub fn job_row(place: usize) -> usize
+    requires { ⌜ place < jobLimit ⌝ }
+    ensures { λ r. ⌜ (r ≡ jobRow mainframe place) × (r < clockRowLimit) ⌝ }
+{
+    FIRST_JOB_ROW + place
 }
 
 // The row of a processor's copy of a page.

@@ -1,5 +1,5 @@
 // The marks by name: counts, the records that stand, the wish, who has arrived, who holds a lock, which pages are dirty, who waits for which lock
-// at which turn.
+// at which turn, the oldest job and how many wait.
 // Every contract is an equation over the list of the marks, with a definition of specs/Areas.antt.
 ghost use mathlib.Core.Path.{_≡_};
 ghost use mathlib.Core.Bool.{not};
@@ -7,12 +7,12 @@ ghost use Prim.Native.Nat.{_<_, _≤_};
 ghost use lib.ListN.{length, set, replicate};
 ghost use lib.Seq.{sets};
 ghost use lib.Dec.{eqb};
-ghost use Rattle.limits.specs.Limits.{lockLimit, processorLimit, recordLimit};
+ghost use Rattle.limits.specs.Limits.{jobLimit, lockLimit, processorLimit, recordLimit};
 ghost use Rattle.limits.specs.Places.{firstArrived, wantedPlace};
 ghost use Rattle.limits.specs.inner.Sizes.{markArea};
 ghost use Rattle.rules.specs.State.{mainframe};
-ghost use Rattle.layout.specs.Areas.{standingCount, arrivedPlace, holderPlace, dirtyPlace, awaitedPlace, turnPlace};
-ghost use Rattle.layout.specs.inner.Marks.{processorCount, pageCount, lockCount, withStanding, wishMark, arrivedMark, holderMark, dirtyMark, awaitedMark, turnMark};
+ghost use Rattle.layout.specs.Areas.{standingCount, arrivedPlace, holderPlace, dirtyPlace, awaitedPlace, turnPlace, firstPlace, jobsPlace};
+ghost use Rattle.layout.specs.inner.Marks.{processorCount, pageCount, lockCount, withStanding, wishMark, arrivedMark, holderMark, dirtyMark, awaitedMark, turnMark, firstMark, jobsMark};
 ghost use Rattle.layout.specs.inner.Needed.{OnPage, MarksOf, LockMark, PageMark};
 use crate::clear;
 use crate::wide;
@@ -27,6 +27,8 @@ use limits::LOCKS_PLACE;
 use limits::PAGE_LIMIT;
 use limits::PAGES_PLACE;
 use limits::PROCESSORS_PLACE;
+use limits::QUEUE_FIRST;
+use limits::QUEUE_JOBS;
 use limits::STANDING_HIGH;
 use limits::STANDING_PLACE;
 use limits::WANTED_PLACE;
@@ -166,6 +168,38 @@ pub fn put_turn(marks: &mut [u8], p: ProcessorId, turn: usize)
     ensures { λ _. ⌜ now (marks .exit) ≡ set (now (marks .entry)) (turnPlace mainframe (p .0)) turn ⌝ }
 {
     marks[FIRST_TURN + (p.0 - 1)] = (turn % 256) as u8;
+}
+
+// The place of the oldest job of the queue.
+pub fn first_job(marks: &[u8]) -> usize
+    requires { ⌜ length (now marks) ≡ markArea ⌝ }
+    ensures { λ r. ⌜ (r ≡ firstMark (now (marks .entry))) × (r < 256) ⌝ }
+{
+    wide(marks[QUEUE_FIRST])
+}
+
+// How many jobs wait.
+pub fn job_count(marks: &[u8]) -> usize
+    requires { ⌜ length (now marks) ≡ markArea ⌝ }
+    ensures { λ r. ⌜ (r ≡ jobsMark (now (marks .entry))) × (r < 256) ⌝ }
+{
+    wide(marks[QUEUE_JOBS])
+}
+
+// The oldest job is at another place.
+pub fn put_first_job(marks: &mut [u8], place: usize)
+    requires { ⌜ (length (now marks) ≡ markArea) × (place < jobLimit) ⌝ }
+    ensures { λ _. ⌜ now (marks .exit) ≡ set (now (marks .entry)) (firstPlace mainframe) place ⌝ }
+{
+    marks[QUEUE_FIRST] = (place % 256) as u8;
+}
+
+// So many jobs wait.
+pub fn put_job_count(marks: &mut [u8], n: usize)
+    requires { ⌜ (length (now marks) ≡ markArea) × (n ≤ jobLimit) ⌝ }
+    ensures { λ _. ⌜ now (marks .exit) ≡ set (now (marks .entry)) (jobsPlace mainframe) n ⌝ }
+{
+    marks[QUEUE_JOBS] = (n % 256) as u8;
 }
 
 // Whether a processor's copy of a page is dirty.

@@ -34,10 +34,10 @@ intervalLimit = 63
 abbrev pub tallyLimit : ℕ
 tallyLimit = 16
 
--- a slot has four numbers before its diff: processor, interval, page and the diff's length
-abbrev pub slotHead : ℕ
-slotHead = 4
-
 -- L9: "One queue holds up to 32 jobs"
 abbrev pub jobLimit : ℕ
 jobLimit = 32
+
+-- a slot has four numbers before its diff: processor, interval, page and the diff's length
+abbrev pub slotHead : ℕ
+slotHead = 4

@@ -25,6 +25,6 @@ standingHigh = 4
 abbrev pub wantedPlace : ℕ
 wantedPlace = 5
 
--- the arrived marks, one a processor; behind them the holders of the locks, the dirty marks, and the two marks of waiting of each processor
+-- the arrived marks, one a processor; behind them the holders of the locks, the dirty marks, the two marks of waiting of each processor, and the two of the queue
 abbrev pub firstArrived : ℕ
 firstArrived = 6

@@ -45,20 +45,22 @@ pub const SLOT_HEAD: usize = 4;
 
 pub const SLOT_WIDTH: usize = SLOT_HEAD + DIFF_LIMIT;
 
-// Rows of clocks: the barrier's, the processors', the locks', the applied clocks and the intervals'.
+// Rows of clocks: the barrier's, the processors', the locks', the applied clocks, the intervals' and the jobs'.
 pub const FIRST_LOCK_ROW: usize = 1 + PROCESSOR_LIMIT;
 
 pub const FIRST_APPLIED_ROW: usize = FIRST_LOCK_ROW + LOCK_LIMIT;
 
 pub const FIRST_INTERVAL_ROW: usize = FIRST_APPLIED_ROW + COPY_LIMIT;
 
-pub const CLOCK_ROW_LIMIT: usize = FIRST_INTERVAL_ROW + PROCESSOR_LIMIT * INTERVAL_LIMIT;
+pub const FIRST_JOB_ROW: usize = FIRST_INTERVAL_ROW + PROCESSOR_LIMIT * INTERVAL_LIMIT;
+
+pub const CLOCK_ROW_LIMIT: usize = FIRST_JOB_ROW + JOB_LIMIT;
 
 // Rows of words: the copies, then the twins.
 pub const WORD_ROW_LIMIT: usize = COPY_LIMIT + COPY_LIMIT;
 
 // Marks: the counts of processors, pages and locks, the records that stand in two bytes, the wish, then arrived, holders and dirty, and for each
-// processor the lock that it waits for and its turn.
+// processor the lock that it waits for and its turn, then the place of the oldest job and how many wait.
 pub const PROCESSORS_PLACE: usize = 0;
 
 pub const PAGES_PLACE: usize = 1;
@@ -81,17 +83,23 @@ pub const FIRST_AWAITED: usize = FIRST_DIRTY + COPY_LIMIT;
 
 pub const FIRST_TURN: usize = FIRST_AWAITED + PROCESSOR_LIMIT;
 
+pub const QUEUE_FIRST: usize = FIRST_TURN + PROCESSOR_LIMIT;
+
+pub const QUEUE_JOBS: usize = QUEUE_FIRST + 1;
+
 // The four areas.
 pub const CLOCK_AREA: usize = CLOCK_WIDTH * CLOCK_ROW_LIMIT;
 
-// The words of the pages, and behind them the tallies: of each the posted total, then the adds of each processor.
+// The words of the pages, and behind them the tallies: of each the posted total, then the adds of each processor; then the values of the jobs.
 pub const FIRST_TALLY: usize = PAGE_WIDTH * WORD_ROW_LIMIT;
 
-pub const WORD_AREA: usize = FIRST_TALLY + (PROCESSOR_LIMIT + 1) * TALLY_LIMIT;
+pub const FIRST_JOB_VALUE: usize = FIRST_TALLY + (PROCESSOR_LIMIT + 1) * TALLY_LIMIT;
+
+pub const WORD_AREA: usize = FIRST_JOB_VALUE + JOB_LIMIT;
 
 pub const RECORD_AREA: usize = SLOT_WIDTH * RECORD_LIMIT;
 
-pub const MARK_AREA: usize = FIRST_TURN + PROCESSOR_LIMIT;
+pub const MARK_AREA: usize = QUEUE_JOBS + 1;
 
 // A sort key: sum, processor, interval and slot as one number, each below its base.
 pub const SLOT_BASE: u32 = RECORD_LIMIT as u32;
@@ -124,7 +132,7 @@ pub const FIRST_MASK: usize = FIRST_WATERMARK + COPY_LIMIT;
 
 pub const FIRST_BOUND: usize = FIRST_MASK + RECORD_LIMIT;
 
-pub const KIND_LIMIT: usize = 10;
+pub const KIND_LIMIT: usize = 12;
 
 pub const KIND_BOUNDS: usize = KIND_LIMIT + 1;
 

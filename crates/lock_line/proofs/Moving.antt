@@ -14,7 +14,7 @@ use borrow.Author.Tests.{ne-eqb}
 use mir.Syntax.{w64}
 use mir.Val.{Fits}
 use Rattle.limits.specs.Limits.{processorLimit}
-use Rattle.limits.specs.inner.Sizes.{firstTurn, markArea}
+use Rattle.limits.specs.inner.Sizes.{firstTurn, markArea, queueFirst}
 use Rattle.lists.specs.Tables.{put, tabulate}
 use Rattle.lists.proofs.Tabulated.{length-tabulate, get-tabulate}
 use Rattle.rules.specs.State.{mainframe, State, Marks, withLines, withMarks}
@@ -23,7 +23,7 @@ use Rattle.rules.proofs.state.Waiters.{moved-up-at, length-moved-up}
 use Rattle.layout.specs.Areas.{marksIn, awaitedPlace, turnPlace, stateIn}
 use Rattle.layout.specs.inner.Marks.{awaitedMark, turnMark}
 use Rattle.layout.specs.inner.Needed.{MarksOf}
-use Rattle.layout.proofs.MarksKept.{Agree, holders-kept, arrived-kept, wanted-kept, awaited-kept, marks-alone}
+use Rattle.layout.proofs.MarksKept.{Agree, holders-kept, arrived-kept, wanted-kept, awaited-kept, first-kept, jobs-kept, marks-alone}
 use Rattle.layout.proofs.MarkLaws.{awaited-written}
 use Rattle.lock_line.specs.inner.Needed.{LineThere, InLine}
 use Rattle.lock_line.specs.inner.Effects.{MarksBecome, turnAfter, lineMovedUp}
@@ -65,13 +65,14 @@ pub record Moving (m₀ m : List ℕ) (l k : ℕ) : Type 0 where
   pub long : length m ≡ markArea
   pub upto : k ≤ processorLimit
   pub rest : Agree m m₀ 0 firstTurn
+  pub queue : Agree m m₀ queueFirst markArea
   pub done : (j : ℕ) → j < k → turnMark m (suc j) ≡ turnAfter m₀ l (suc j)
   pub still : (j : ℕ) → k ≤ j → j < processorLimit → turnMark m (suc j) ≡ turnMark m₀ (suc j)
 
 -- none has moved up yet
 pub moving-begins : (m : List ℕ) (l : ℕ) → LineThere m l → Moving m m l 0
 moving-begins m l h =
-    record { there = h; long = h .marks; upto = omega arith; rest = λ j a b. refl; done = λ j b. absurd (omega (arith, b)); still = λ j a b. refl }
+    record { there = h; long = h .marks; upto = omega arith; rest = λ j a b. refl; queue = λ j a b. refl; done = λ j b. absurd (omega (arith, b)); still = λ j a b. refl }
 
 module _ (m₀ m : List ℕ) (l k : ℕ) (h : Moving m₀ m l k) where
   -- the next one has marks
@@ -96,6 +97,7 @@ module _ (m₀ m : List ℕ) (l k : ℕ) (h : Moving m₀ m l k) where
         long = length-set m at t ∙ h .long;
         upto = omega arith;
         rest = λ j a c. getD-set-other m at j t 0 (λ z. omega (arith, z, c)) ∙ h .rest j a c;
+        queue = λ j a c. getD-set-other m at j t 0 (λ z. omega (arith, z, a, b)) ∙ h .queue j a c;
         done = λ j c. now j c (ℕ-discrete j k);
         still = λ j a c. getD-set-other m at (turnPlace mainframe (suc j)) t 0 (λ z. omega (arith, z, a)) ∙ h .still j (omega (arith, a)) c;
       })
@@ -128,6 +130,8 @@ module _ (m₀ m : List ℕ) (l k : ℕ) (h : Moving m₀ m l k) where
               wanted = wanted-kept m m₀ (λ j x y. h .rest j (omega arith) (omega (arith, y))) i;
               awaited = awaited-kept m m₀ (λ j x y. h .rest j (omega arith) (omega (arith, y))) i;
               turns = turns i;
+              first = first-kept m m₀ (λ j x y. h .queue j x (omega (arith, y))) i;
+              jobs = jobs-kept m m₀ (λ j x y. h .queue j (omega (arith, x)) y) i;
             }));
       }
     where

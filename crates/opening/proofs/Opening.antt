@@ -111,18 +111,18 @@ pub record WordsLaid (w₀ w : List ℕ) (i : ℕ) : Type 0 where
   pub as-long : length w ≡ length w₀
   pub upto : i ≤ wordArea
 
--- the tallies are not laid yet
-pub tallies-begin : (w : List ℕ) → WordsZeroTo w firstTally → WordsLaid w w firstTally
-tallies-begin w h = record { zeros = h; as-long = refl; upto = omega arith }
+-- the words behind the twins are not laid yet
+pub shared-begin : (w : List ℕ) → WordsZeroTo w firstTally → WordsLaid w w firstTally
+shared-begin w h = record { zeros = h; as-long = refl; upto = omega arith }
 
 module _ (w₀ w : List ℕ) (i : ℕ) (h : WordsLaid w₀ w i) where
   -- the next word is there
-  pub tally-word-there : i < wordArea → i < length w
-  tally-word-there l = omega (arith, h .zeros .long)
+  pub shared-word-there : i < wordArea → i < length w
+  shared-word-there l = omega (arith, h .zeros .long)
 
   -- one more is laid
-  pub tallies-more : i < wordArea → WordsLaid w₀ (set w i 0) (i + 1)
-  tallies-more l =
+  pub shared-more : i < wordArea → WordsLaid w₀ (set w i 0) (i + 1)
+  shared-more l =
       record {
         zeros = record { long = length-set w i 0 ∙ h .zeros .long; first = zeros-behind i 1 w (0 ∷ []) (omega (arith, h .zeros .long, l)) refl (h .zeros .first) };
         as-long = length-set w i 0 ∙ h .as-long;
@@ -130,9 +130,9 @@ module _ (w₀ w : List ℕ) (i : ℕ) (h : WordsLaid w₀ w i) where
       }
 
   -- all are
-  pub tallies-all : wordArea ≤ i → w ≡ freshWords
+  pub shared-all : wordArea ≤ i → w ≡ freshWords
   unfolding freshWords
-  tallies-all l =
+  shared-all l =
       let e : i ≡ wordArea = omega (arith, l, h .upto) in
       sym (take-all i w (omega (arith, h .zeros .long, e))) ∙ h .zeros .first ∙ ap (λ (j : ℕ). replicate j 0) e
 
@@ -273,6 +273,6 @@ pub fresh-copy-is : replicate {A = ℕ} wordLimit 0 ≡ freshCopy
 unfolding freshCopy
 fresh-copy-is = refl
 
-pub ruleset laying-laws = (fresh-copy-is, copies-begin, copy-there, copies-more, copies-all, tallies-begin, tally-word-there, tallies-more, tallies-all, first-count-there, second-count-there, third-count-there, marks-laid, marks-cleared, words-openable, marks-openable, state-laid, needs)
+pub ruleset laying-laws = (fresh-copy-is, copies-begin, copy-there, copies-more, copies-all, shared-begin, shared-word-there, shared-more, shared-all, first-count-there, second-count-there, third-count-there, marks-laid, marks-cleared, words-openable, marks-openable, state-laid, needs)
 
 pub ruleset opening-laws = (clocks-of-other-size, words-of-other-size, records-of-other-size, marks-of-other-size, fixed-sizes, sizes-refused, sizes-untouched, opening-refused, opening-untouched, openable, opening-accepted, opening-done, needs)

@@ -149,7 +149,7 @@ fn lay_opened(
 {
     clear(clocks);
     lay_copies(words);
-    lay_tallies(words);
+    lay_shared(words);
     clear(records);
     lay_marks(opening, marks);
 }
@@ -167,8 +167,8 @@ fn lay_copies(words: &mut [u32])
     }
 }
 
-// Nothing is posted to a tally or added: every word behind the copies and twins is 0.
-fn lay_tallies(words: &mut [u32])
+// Nothing is posted to a tally or added, and no job has a value: every word behind the copies and twins is 0.
+fn lay_shared(words: &mut [u32])
     requires { ⌜ WordsZeroTo (now words) firstTally ⌝ }
     ensures { λ _. ⌜ now (words .exit) ≡ freshWords ⌝ }
 {

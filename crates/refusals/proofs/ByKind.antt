@@ -1,4 +1,4 @@
--- What a known kind asks of its fields, and the rows 7 to 10, each for its kind. Assumes nothing.
+-- What a known kind asks of its fields, and the rows 7 to 10 and 18, each for its kind; 19 and 20 are in QueueRows. Assumes nothing.
 use Prim.Native.Nat.{ℕ, _+_, _*_, _/_, _≤_, _<_}
 use native.Mathlib.Numerals.{add-one}
 use native.Mathlib.Omega.{arith}
@@ -36,15 +36,15 @@ pub first-known : (k : ℕ) → (k ≡ 0 → ⊥) → k ≤ 6 → true ≡ known
 unfolding knownKind
 first-known k h l = rw (le-leb 1 k (omega arith), le-leb k 6 l)
 
--- then 8
-pub eight-known : (k : ℕ) → k ≡ 8 → true ≡ knownKind k
+-- there is no kind 7
+pub seven-unknown : (k : ℕ) → k ≡ 7 → false ≡ knownKind k
 unfolding knownKind
-eight-known k e = rw e
+seven-unknown k e = rw e
 
--- and 9
-pub last-decides : (k : ℕ) → 6 < k → (k ≡ 8 → ⊥) → eqb k 9 ≡ knownKind k
+-- then they are known up to 11
+pub last-decides : (k : ℕ) → 6 < k → (k ≡ 7 → ⊥) → leb k 11 ≡ knownKind k
 unfolding knownKind
-last-decides k h e = rw (le-leb 1 k (omega arith), lt-leb k 6 h, ne-eqb k 8 e)
+last-decides k h e = rw (le-leb 1 k (omega arith), lt-leb k 6 h, le-leb 8 k (omega (arith, h, e)))
 
 -- ---- row 5
 
@@ -68,19 +68,23 @@ pub no-bound : (m : List ℕ) (k : ℕ) → 4 < k → k ≤ 6 → 1 ≡ boundOf 
 unfolding boundOf
 no-bound m k h l = rw (lt-leb k 2 (omega arith), lt-leb k 4 h, le-leb k 6 l)
 
--- those behind them a tally
-pub tally-bound : (m : List ℕ) (k : ℕ) → 6 < k → tallyLimit ≡ boundOf (seen m) k
+-- those up to 9 a tally
+pub tally-bound : (m : List ℕ) (k : ℕ) → 6 < k → k ≤ 9 → tallyLimit ≡ boundOf (seen m) k
 unfolding boundOf mainframe
-tally-bound m k h = rw (lt-leb k 2 (omega arith), lt-leb k 4 (omega arith), lt-leb k 6 h)
+tally-bound m k h l = rw (lt-leb k 2 (omega arith), lt-leb k 4 (omega arith), lt-leb k 6 h, le-leb k 9 l)
 
--- a write uses its value, and an add, no other kind does
+-- a write uses its value, and an add and an enqueue, no other kind does
 pub write-uses : (k : ℕ) → k ≡ 2 → true ≡ usesValue k
 unfolding usesValue
 write-uses k e = rw e
 
-pub value-used : (k : ℕ) → (k ≡ 2 → ⊥) → eqb k 8 ≡ usesValue k
+pub add-uses : (k : ℕ) → k ≡ 8 → true ≡ usesValue k
 unfolding usesValue
-value-used k e = rw (ne-eqb k 2 e)
+add-uses k e = rw e
+
+pub value-used : (k : ℕ) → (k ≡ 2 → ⊥) → (k ≡ 8 → ⊥) → eqb k 10 ≡ usesValue k
+unfolding usesValue
+value-used k e f = rw (ne-eqb k 2 e, ne-eqb k 8 f)
 
 module _ (m : List ℕ) (k o v b : ℕ) (bound : b ≡ boundOf (seen m) k) where
   -- an object that is not there
@@ -218,9 +222,9 @@ module _ (m : List ℕ) (n k p o : ℕ) where
   arrival-decides r e i = rw e i
 
   -- no row from 7 on is for the other kinds
-  pub other-kinds-pass : (k ≡ 2 → ⊥) → (k ≡ 3 → ⊥) → (k ≡ 4 → ⊥) → (k ≡ 5 → ⊥) → 0 ≡ refusalOfKind (seen m) n k p o
+  pub other-kinds-pass : (k ≡ 2 → ⊥) → (k ≡ 3 → ⊥) → (k ≡ 4 → ⊥) → (k ≡ 5 → ⊥) → (k ≡ 10 → ⊥) → (k ≡ 11 → ⊥) → 0 ≡ refusalOfKind (seen m) n k p o
   unfolding refusalOfKind
-  other-kinds-pass x y z w = rw (ne-eqb k 2 x, ne-eqb k 3 y, ne-eqb k 4 z, ne-eqb k 5 w)
+  other-kinds-pass x y z w u v = rw (ne-eqb k 2 x, ne-eqb k 3 y, ne-eqb k 4 z, ne-eqb k 5 w, ne-eqb k 10 u, ne-eqb k 11 v)
 
 -- ---- row 18
 

@@ -71,7 +71,7 @@ place-known k = go (decLe k kindLimit)
   where
     go : Dec (k ≤ kindLimit) → knownKind (min k kindLimit) ≡ knownKind k
     go (yes l) = let same : min k kindLimit ≡ k = omega arith in rw same
-    go (no l) = let last : min k kindLimit ≡ kindLimit = omega arith in rw last (unfold knownKind in sym (rw (lt-leb k 6 (omega arith), ne-eqb k 8 (λ e. omega (arith, e)), ne-eqb k 9 (λ e. omega (arith, e)), and-false (leb 1 k))))
+    go (no l) = let last : min k kindLimit ≡ kindLimit = omega arith in rw last (unfold knownKind in sym (rw (lt-leb k 6 (omega arith), lt-leb k 11 (omega arith), and-false (leb 1 k), and-false (leb 8 k))))
 
 -- a value is not above its bound where it is used or 0
 value-in-bound : (k v : ℕ) → v ≤ valueLimit → leb v (valueBoundOf k) ≡ (usesValue k || eqb v 0)
@@ -99,10 +99,9 @@ in-bounds m bounds k o v h l =
         → (ltb o (cond b (boundOf (seen m) (min k kindLimit)) 0) && (usesValue (min k kindLimit) || eqb v 0)) ≡ (b && (ltb o (boundOf (seen m) k) && (usesValue k || eqb v 0)))
     go true e = rw (place (known-says k e))
       where
-        place : ((1 ≤ k) × (k ≤ 6)) ⊎ ((k ≡ 8) ⊎ (k ≡ 9)) → min k kindLimit ≡ k
+        place : ((1 ≤ k) × (k ≤ 6)) ⊎ ((8 ≤ k) × (k ≤ 11)) → min k kindLimit ≡ k
         place (inl x) = omega (arith, x .1)
-        place (inr (inl x)) = omega (arith, x)
-        place (inr (inr x)) = omega (arith, x)
+        place (inr x) = omega (arith, x .1)
     go false e = rw (le-ltb o 0 (omega arith))
 
 -- ---- the processor
@@ -202,19 +201,21 @@ pub bounds-long : (m bounds : List ℕ) → BoundsOf m bounds → length bounds 
 bounds-long m bounds h = h .long
 
 -- a claim of every place of a kind
-by-place : (claim : ℕ → Type 0) → claim 0 → claim 1 → claim 2 → claim 3 → claim 4 → claim 5 → claim 6 → claim 7 → claim 8 → claim 9 → claim 10 → (k : ℕ) → k ≤ kindLimit → claim k
-by-place claim a₀ a₁ a₂ a₃ a₄ a₅ a₆ a₇ a₈ a₉ a₁₀ zero l = a₀
-by-place claim a₀ a₁ a₂ a₃ a₄ a₅ a₆ a₇ a₈ a₉ a₁₀ (suc zero) l = a₁
-by-place claim a₀ a₁ a₂ a₃ a₄ a₅ a₆ a₇ a₈ a₉ a₁₀ (suc (suc zero)) l = a₂
-by-place claim a₀ a₁ a₂ a₃ a₄ a₅ a₆ a₇ a₈ a₉ a₁₀ (suc (suc (suc zero))) l = a₃
-by-place claim a₀ a₁ a₂ a₃ a₄ a₅ a₆ a₇ a₈ a₉ a₁₀ (suc (suc (suc (suc zero)))) l = a₄
-by-place claim a₀ a₁ a₂ a₃ a₄ a₅ a₆ a₇ a₈ a₉ a₁₀ (suc (suc (suc (suc (suc zero))))) l = a₅
-by-place claim a₀ a₁ a₂ a₃ a₄ a₅ a₆ a₇ a₈ a₉ a₁₀ (suc (suc (suc (suc (suc (suc zero)))))) l = a₆
-by-place claim a₀ a₁ a₂ a₃ a₄ a₅ a₆ a₇ a₈ a₉ a₁₀ (suc (suc (suc (suc (suc (suc (suc zero))))))) l = a₇
-by-place claim a₀ a₁ a₂ a₃ a₄ a₅ a₆ a₇ a₈ a₉ a₁₀ (suc (suc (suc (suc (suc (suc (suc (suc zero)))))))) l = a₈
-by-place claim a₀ a₁ a₂ a₃ a₄ a₅ a₆ a₇ a₈ a₉ a₁₀ (suc (suc (suc (suc (suc (suc (suc (suc (suc zero))))))))) l = a₉
-by-place claim a₀ a₁ a₂ a₃ a₄ a₅ a₆ a₇ a₈ a₉ a₁₀ (suc (suc (suc (suc (suc (suc (suc (suc (suc (suc zero)))))))))) l = a₁₀
-by-place claim a₀ a₁ a₂ a₃ a₄ a₅ a₆ a₇ a₈ a₉ a₁₀ (suc (suc (suc (suc (suc (suc (suc (suc (suc (suc (suc k))))))))))) l = absurd (omega arith)
+by-place : (claim : ℕ → Type 0) → claim 0 → claim 1 → claim 2 → claim 3 → claim 4 → claim 5 → claim 6 → claim 7 → claim 8 → claim 9 → claim 10 → claim 11 → claim 12 → (k : ℕ) → k ≤ kindLimit → claim k
+by-place claim a₀ a₁ a₂ a₃ a₄ a₅ a₆ a₇ a₈ a₉ a₁₀ a₁₁ a₁₂ zero l = a₀
+by-place claim a₀ a₁ a₂ a₃ a₄ a₅ a₆ a₇ a₈ a₉ a₁₀ a₁₁ a₁₂ (suc zero) l = a₁
+by-place claim a₀ a₁ a₂ a₃ a₄ a₅ a₆ a₇ a₈ a₉ a₁₀ a₁₁ a₁₂ (suc (suc zero)) l = a₂
+by-place claim a₀ a₁ a₂ a₃ a₄ a₅ a₆ a₇ a₈ a₉ a₁₀ a₁₁ a₁₂ (suc (suc (suc zero))) l = a₃
+by-place claim a₀ a₁ a₂ a₃ a₄ a₅ a₆ a₇ a₈ a₉ a₁₀ a₁₁ a₁₂ (suc (suc (suc (suc zero)))) l = a₄
+by-place claim a₀ a₁ a₂ a₃ a₄ a₅ a₆ a₇ a₈ a₉ a₁₀ a₁₁ a₁₂ (suc (suc (suc (suc (suc zero))))) l = a₅
+by-place claim a₀ a₁ a₂ a₃ a₄ a₅ a₆ a₇ a₈ a₉ a₁₀ a₁₁ a₁₂ (suc (suc (suc (suc (suc (suc zero)))))) l = a₆
+by-place claim a₀ a₁ a₂ a₃ a₄ a₅ a₆ a₇ a₈ a₉ a₁₀ a₁₁ a₁₂ (suc (suc (suc (suc (suc (suc (suc zero))))))) l = a₇
+by-place claim a₀ a₁ a₂ a₃ a₄ a₅ a₆ a₇ a₈ a₉ a₁₀ a₁₁ a₁₂ (suc (suc (suc (suc (suc (suc (suc (suc zero)))))))) l = a₈
+by-place claim a₀ a₁ a₂ a₃ a₄ a₅ a₆ a₇ a₈ a₉ a₁₀ a₁₁ a₁₂ (suc (suc (suc (suc (suc (suc (suc (suc (suc zero))))))))) l = a₉
+by-place claim a₀ a₁ a₂ a₃ a₄ a₅ a₆ a₇ a₈ a₉ a₁₀ a₁₁ a₁₂ (suc (suc (suc (suc (suc (suc (suc (suc (suc (suc zero)))))))))) l = a₁₀
+by-place claim a₀ a₁ a₂ a₃ a₄ a₅ a₆ a₇ a₈ a₉ a₁₀ a₁₁ a₁₂ (suc (suc (suc (suc (suc (suc (suc (suc (suc (suc (suc zero))))))))))) l = a₁₁
+by-place claim a₀ a₁ a₂ a₃ a₄ a₅ a₆ a₇ a₈ a₉ a₁₀ a₁₁ a₁₂ (suc (suc (suc (suc (suc (suc (suc (suc (suc (suc (suc (suc zero)))))))))))) l = a₁₂
+by-place claim a₀ a₁ a₂ a₃ a₄ a₅ a₆ a₇ a₈ a₉ a₁₀ a₁₁ a₁₂ (suc (suc (suc (suc (suc (suc (suc (suc (suc (suc (suc (suc (suc k))))))))))))) l = absurd (omega arith)
 
 -- the bounds of the marks are such
 pub bounds-are : (m : List ℕ) → BoundsOf m (boundsOf m)
@@ -222,6 +223,6 @@ unfolding boundsOf objectBoundOf valueBoundOf boundOf knownKind usesValue seen s
 bounds-are m =
     record {
       long = refl;
-      object = by-place (λ k. getD (boundsOf m) k 0 ≡ objectBoundOf (seen m) k) refl refl refl refl refl refl refl refl refl refl refl;
-      value = by-place (λ k. getD (boundsOf m) (kindBounds + k) 0 ≡ valueBoundOf k) refl refl refl refl refl refl refl refl refl refl refl;
+      object = by-place (λ k. getD (boundsOf m) k 0 ≡ objectBoundOf (seen m) k) refl refl refl refl refl refl refl refl refl refl refl refl refl;
+      value = by-place (λ k. getD (boundsOf m) (kindBounds + k) 0 ≡ valueBoundOf k) refl refl refl refl refl refl refl refl refl refl refl refl refl;
     }

@@ -1,5 +1,5 @@
 -- The rows 3 to 6 and 17 in the table's order, the whole table, and `refusal-laws`, by which every function's proof searches. Assumes nothing.
-use Prim.Native.Nat.{ℕ, _≤_}
+use Prim.Native.Nat.{ℕ}
 use native.Mathlib.Omega.{arith}
 use mathlib.Core.Path.{_≡_, refl, sym, ap, _∙_}
 use mathlib.Core.Bool.{Bool, true, false, cond, not, _&&_, _||_, and-eq-true-iff}
@@ -9,7 +9,7 @@ use borrow.Author.Tests.{not-true, not-false}
 use borrow.Author.Needs.{needs}
 use Rattle.rules.specs.InOrder.{present, presentHolder, dirtyPages}
 use Rattle.rules.specs.Lines.{waits}
-use Rattle.rules.specs.Refusals.{Step, stepOf, Action, Read, Write, Acquire, Release, Arrive, Want, TallyAdd, TallyRead, Unknown, actionOf, knownKind, objectBound, usesValue, fits, holdsAny, lateRefusal, refusalBy, refusalInOrder}
+use Rattle.rules.specs.Refusals.{Step, stepOf, Action, Read, Write, Acquire, Release, Arrive, Want, TallyAdd, TallyRead, Enqueue, Dequeue, Unknown, actionOf, knownKind, objectBound, usesValue, fits, holdsAny, lateRefusal, refusalBy, refusalInOrder}
 use Rattle.rules.specs.State.{mainframe, dirtyAt, State, own, holder, hasArrived}
 use Rattle.rules.proofs.inorder.Accepted.{present-says}
 use Rattle.rules.proofs.inorder.KindsOfSteps.{by-kind}
@@ -20,7 +20,8 @@ use Rattle.refusals.specs.inner.Parts.{seen, boundOf, fieldsFit, isFree,
 use Rattle.refusals.specs.inner.Needed.{MarksCountable, KnownKind, KnownStep, FittingStep}
 use Rattle.refusals.proofs.Marked.{nobody-absent, count-decides, arrived-seen, waiting-seen}
 use Rattle.refusals.proofs.Counting.{counting-begins, counting-next, counting-more, counting-ends, few-counted, records-to-come-are, product-fits, room-sum-fits, marks-decide-room}
-use Rattle.refusals.proofs.ByKind.{zero-unknown, first-known, eight-known, last-decides, words-fit, words-bound, locks-bound, no-bound, tally-bound, write-uses, value-used, object-absent, any-value, no-value, word-there, lock-there, page-of-word, counted-of-write, dirty-takes-stores, no-interval-left, no-room-left, write-has-space, write-has-ample-space, holder-asks, other-asks, holder-releases, not-the-holder, write-of-kind, lock-of-acquire, lock-of-release, write-decides, acquire-decides, release-decides, by-of-arrival, arrival-decides, other-kinds-pass, holder-arrives, other-arrives, own-fits, held-begins, held-there, held-more, held-fits, held-ends}
+use Rattle.refusals.proofs.ByKind.{zero-unknown, first-known, seven-unknown, last-decides, words-fit, words-bound, locks-bound, no-bound, tally-bound, write-uses, add-uses, value-used, object-absent, any-value, no-value, word-there, lock-there, page-of-word, counted-of-write, dirty-takes-stores, no-interval-left, no-room-left, write-has-space, write-has-ample-space, holder-asks, other-asks, holder-releases, not-the-holder, write-of-kind, lock-of-acquire, lock-of-release, write-decides, acquire-decides, release-decides, by-of-arrival, arrival-decides, other-kinds-pass, holder-arrives, other-arrives, own-fits, held-begins, held-there, held-more, held-fits, held-ends}
+use Rattle.refusals.proofs.QueueRows.{queue-bound, queue-full, queue-has-place, queue-empty, queue-has-job, marks-of-queue, enqueue-decides, dequeue-decides}
 use Rattle.refusals.proofs.Fitting.{flags-fit, object-bound-there, value-bound-there, fields-flagged, processor-place, arrived-place-there, awaited-place-there, marks-flagged, processor-flagged, fits-by-flags, bounds-long}
 
 -- ---- the rows 5, 6 and 17
@@ -110,11 +111,11 @@ module _ (s : State) (k p o v : ℕ) where
     fits-in-parts : fits mainframe s (stepOf k p o v) ≡ fieldsFit s k o v
     unfolding fits objectBound actionOf stepOf fieldsFit boundOf
     fits-in-parts =
-        by-kind (λ j. (ltb o (objectBound mainframe s (actionOf (stepOf j p o v))) && (usesValue j || eqb v 0)) ≡ fieldsFit s j o v) refl refl refl refl refl refl refl refl k known
+        by-kind (λ j. (ltb o (objectBound mainframe s (actionOf (stepOf j p o v))) && (usesValue j || eqb v 0)) ≡ fieldsFit s j o v) refl refl refl refl refl refl refl refl refl refl k known
 
     late-in-parts : (n : ℕ) → lateRefusal mainframe s n p (actionOf (stepOf k p o v)) ≡ refusalOfKind s n k p o
     unfolding lateRefusal actionOf stepOf refusalOfKind
-    late-in-parts n = by-kind (λ j. lateRefusal mainframe s n p (actionOf (stepOf j p o v)) ≡ refusalOfKind s n j p o) refl refl refl refl refl refl refl refl k known
+    late-in-parts n = by-kind (λ j. lateRefusal mainframe s n p (actionOf (stepOf j p o v)) ≡ refusalOfKind s n j p o) refl refl refl refl refl refl refl refl refl refl k known
 
     known-in-parts : (n : ℕ) → refusalBy mainframe s n (stepOf k p o v)
         ≡ cond (not (knownKind k)) 3 (cond (not (present s p)) 4 (cond (not (fieldsFit s k o v)) 5 (cond (hasArrived s p) 6 (cond (waits (s .marks) p) 17 (refusalOfKind s n k p o)))))
@@ -228,9 +229,11 @@ module _ (c w r m : List ℕ) where
   bound-by-marks Want = refl
   bound-by-marks (TallyAdd t v) = refl
   bound-by-marks (TallyRead t) = refl
+  bound-by-marks (Enqueue v) = refl
+  bound-by-marks Dequeue = refl
   bound-by-marks Unknown = refl
 
-  -- the rows 7 to 10 and 18 too
+  -- the rows 7 to 10 and 18 to 20 too
   late-by-marks : (n p : ℕ) (a : Action) → lateRefusal mainframe (stateIn mainframe c w r m) n p a ≡ lateRefusal mainframe (seen m) n p a
   unfolding lateRefusal holdsAny seen stateIn pagesIn recordsIn dirtyAt dirtyPages holder
   late-by-marks n p (Read x) = refl
@@ -241,6 +244,8 @@ module _ (c w r m : List ℕ) where
   late-by-marks n p Want = refl
   late-by-marks n p (TallyAdd t v) = refl
   late-by-marks n p (TallyRead t) = refl
+  late-by-marks n p (Enqueue v) = refl
+  late-by-marks n p Dequeue = refl
   late-by-marks n p Unknown = refl
 
   -- the rows 3, 4, 6 and 17 too
@@ -265,4 +270,4 @@ module _ (c w r m : List ℕ) where
   unfolding refusalInOrder
   table-decides t n x e i = e ∙ sym (table-by-marks t n) ∙ ap (λ (j : ℕ). refusalBy mainframe (stateIn mainframe c w r m) j t) i
 
-pub ruleset refusal-laws = (nobody-absent, count-decides, counting-begins, counting-next, counting-more, counting-ends, few-counted, records-to-come-are, product-fits, room-sum-fits, marks-decide-room, zero-unknown, first-known, eight-known, last-decides, words-fit, words-bound, locks-bound, no-bound, tally-bound, write-uses, value-used, object-absent, any-value, no-value, page-of-word, counted-of-write, dirty-takes-stores, no-interval-left, no-room-left, write-has-space, write-has-ample-space, holder-asks, other-asks, holder-releases, not-the-holder, write-of-kind, lock-of-acquire, lock-of-release, write-decides, acquire-decides, release-decides, by-of-arrival, arrival-decides, holder-arrives, other-arrives, own-fits, held-begins, held-there, held-more, held-fits, held-ends, other-kinds-pass, kind-of-step, marks-of-step, fields-refused, arrived-refused, waiter-refused, fields-pass, processor-refused, fields-decide, counted-of-kind, step-known, kind-refused, known-decides, kind-known, early-decides, step-fits, kind-decides, flags-fit, object-bound-there, value-bound-there, fields-flagged, processor-place, arrived-place-there, awaited-place-there, marks-flagged, processor-flagged, fits-by-flags, bounds-long, needs)
+pub ruleset refusal-laws = (nobody-absent, count-decides, counting-begins, counting-next, counting-more, counting-ends, few-counted, records-to-come-are, product-fits, room-sum-fits, marks-decide-room, zero-unknown, first-known, seven-unknown, last-decides, words-fit, words-bound, locks-bound, no-bound, tally-bound, queue-bound, write-uses, add-uses, value-used, queue-full, queue-has-place, queue-empty, queue-has-job, marks-of-queue, enqueue-decides, dequeue-decides, object-absent, any-value, no-value, page-of-word, counted-of-write, dirty-takes-stores, no-interval-left, no-room-left, write-has-space, write-has-ample-space, holder-asks, other-asks, holder-releases, not-the-holder, write-of-kind, lock-of-acquire, lock-of-release, write-decides, acquire-decides, release-decides, by-of-arrival, arrival-decides, holder-arrives, other-arrives, own-fits, held-begins, held-there, held-more, held-fits, held-ends, other-kinds-pass, kind-of-step, marks-of-step, fields-refused, arrived-refused, waiter-refused, fields-pass, processor-refused, fields-decide, counted-of-kind, step-known, kind-refused, known-decides, kind-known, early-decides, step-fits, kind-decides, flags-fit, object-bound-there, value-bound-there, fields-flagged, processor-place, arrived-place-there, awaited-place-there, marks-flagged, processor-flagged, fits-by-flags, bounds-long, needs)

@@ -1,4 +1,4 @@
-// The refusals 3 to 10, 17 and 18 of a step, in the order of document 01's table: from the marks of a state in order and the own entry of the step's
+// The refusals 3 to 10 and 17 to 20 of a step, in the order of document 01's table: from the marks of a state in order and the own entry of the step's
 // processor, and from nothing else. Every contract is an equation over the state that the marks alone show, with a definition of the rules
 // or of specs/Parts.antt and specs/Bounds.antt.
 ghost use mathlib.Core.Path.{_≡_};
@@ -9,7 +9,7 @@ ghost use Rattle.limits.specs.Limits.{processorLimit};
 ghost use Rattle.limits.specs.inner.Sizes.{boundArea, copyLimit, markArea};
 ghost use Rattle.rules.specs.State.{mainframe};
 ghost use Rattle.rules.specs.InOrder.{present, dirtyPages};
-ghost use Rattle.rules.specs.Refusals.{Write, Acquire, Release, Arrive, knownKind, usesValue, holdsAny, lateRefusal};
+ghost use Rattle.rules.specs.Refusals.{Write, Acquire, Release, Arrive, Enqueue, Dequeue, knownKind, usesValue, holdsAny, lateRefusal};
 ghost use Rattle.layout.specs.inner.Needed.{LockMark};
 ghost use Rattle.refusals.specs.inner.Parts.{seen, boundOf, fieldsFit, mayAct, stepFits, earlyRefusal, earlyOfKnown, earlyOfFields, refusalOfKind, recordsToCome, roomIfAllDirty};
 ghost use Rattle.refusals.specs.inner.Bounds.{inBounds, marksFree};
@@ -21,6 +21,7 @@ use layout::marks::has_arrived;
 use layout::marks::holder_of;
 use layout::marks::is_dirty;
 use layout::marks::is_waiting;
+use layout::marks::job_count;
 use layout::marks::lock_count;
 use layout::marks::page_count;
 use layout::marks::processor_count;
@@ -31,6 +32,7 @@ use limits::FIRST_ARRIVED;
 use limits::FIRST_AWAITED;
 use limits::FIRST_DIRTY;
 use limits::FIRST_HOLDER;
+use limits::JOB_LIMIT;
 use limits::KIND_BOUNDS;
 use limits::KIND_LIMIT;
 use limits::LAST_INTERVAL;
@@ -123,10 +125,10 @@ fn is_known(kind: u32) -> bool
     if kind <= 6 {
         return true;
     }
-    if kind == 8 {
-        return true;
+    if kind == 7 {
+        return false;
     }
-    kind == 9
+    kind <= 11
 }
 
 // Rows 4 to 6 and 17, for a known kind.
@@ -196,7 +198,10 @@ fn object_bound(kind: u32, marks: &[u8]) -> usize
     if kind <= 6 {
         return 1;
     }
-    TALLY_LIMIT
+    if kind <= 9 {
+        return TALLY_LIMIT;
+    }
+    1
 }
 
 // Of row 5: whether a kind uses its value.
@@ -206,7 +211,10 @@ fn uses_value(kind: u32) -> bool
     if kind == 2 {
         return true;
     }
-    kind == 8
+    if kind == 8 {
+        return true;
+    }
+    kind == 10
 }
 
 // The number of the row behind 17 that refuses a step that fits, or 0: each row for its kind.
@@ -225,6 +233,12 @@ pub fn late_refusal(kind: u32, processor: ProcessorId, object: usize, own: u8, m
     }
     if kind == 5 {
         return refusal_of_arrival(processor, marks);
+    }
+    if kind == 10 {
+        return refusal_of_enqueue(marks);
+    }
+    if kind == 11 {
+        return refusal_of_dequeue(marks);
     }
     0
 }
@@ -278,6 +292,28 @@ fn holds_any(processor: ProcessorId, marks: &[u8]) -> bool
         l = l + 1;
     }
     held != 0
+}
+
+// Row 19: as many jobs wait as the queue has places.
+fn refusal_of_enqueue(marks: &[u8]) -> u8
+    requires { ⌜ length (now marks) ≡ markArea ⌝ }
+    ensures { λ r. ⌜ r ≡ lateRefusal mainframe (seen (now (marks .entry))) 0 0 (Enqueue 0) ⌝ }
+{
+    if job_count(marks) == JOB_LIMIT {
+        return 19;
+    }
+    0
+}
+
+// Row 20: no job waits.
+fn refusal_of_dequeue(marks: &[u8]) -> u8
+    requires { ⌜ length (now marks) ≡ markArea ⌝ }
+    ensures { λ r. ⌜ r ≡ lateRefusal mainframe (seen (now (marks .entry))) 0 0 Dequeue ⌝ }
+{
+    if job_count(marks) == 0 {
+        return 20;
+    }
+    0
 }
 
 // Rows 9 and 10, for a clean page: no interval is left, or no room for one record more.

@@ -1,10 +1,10 @@
 -- Document 02, L6: how many words a step can move, from any state in order: at most a page for each record that stands, on each page of each processor.
 -- So a number of 32 bits says them, and one of 64 bits those of a whole file. Rests on WordsMoved and the laws of order. Assumes nothing.
-use Prim.Native.Nat.{ℕ, zero, suc, _+_, _*_, _≤_, _<_}
+use Prim.Native.Nat.{ℕ, zero, suc, _*_, _≤_, _<_}
 use native.Mathlib.Omega.{arith}
-use mathlib.Core.Path.{_≡_, refl, sym, ap, _∙_}
+use mathlib.Core.Path.{_≡_, refl, ap, _∙_}
 use mathlib.Core.Bool.{Bool, true, false, cond}
-use mathlib.Core.List.{List, [], _∷_, map}
+use mathlib.Core.List.{List, [], map}
 use lib.ListN.{length, getD, take, length-map, List·getD-map}
 use lib.Seq.{length-take-le, getD-take}
 use lib.Dec.{eqb}
@@ -13,11 +13,10 @@ use Rattle.lists.specs.Tables.{select, sortBy}
 use Rattle.lists.proofs.Selected.{Each, each-when, each-select, each-sort, select-few, length-sort}
 use Rattle.limits.specs.Limits.{pageLimit, pageWidth, processorLimit, recordLimit, wordValues}
 use Rattle.diff.specs.Reading.{readRefusal}
-use Rattle.rules.specs.State.{Limits, mainframe, Record, recordIn, recordsOf, State, standing}
+use Rattle.rules.specs.State.{mainframe, Record, recordIn, recordsOf, State, standing}
 use Rattle.rules.specs.Fetch.{isPending, earlier, due, unreplaced, applying, fetched, fetchWords}
 use Rattle.rules.specs.InOrder.{inOrder, present, recordAt}
-use Rattle.rules.specs.Lines.{waits}
-use Rattle.rules.specs.Steps.{pageOfWord, read, write, atBarrier, allArrived, roundDone, noneFetched, pagesFetched, allFetched, emptied, collected, wantsCollection, arrive, dequeue}
+use Rattle.rules.specs.Steps.{pageOfWord, read, write, atBarrier, allArrived, roundDone, noneFetched, pagesFetched, allFetched, collected, wantsCollection, arrive, dequeue}
 use Rattle.rules.specs.Refusals.{Step, Action, Read, Write, Acquire, Release, Arrive, Want, TallyAdd, TallyRead, Enqueue, Dequeue, Unknown, actionOf, effect, refusalInOrder, refusedAs, acceptedAs, answerInOrder, answer}
 use Rattle.rules.proofs.inorder.Facts.{InOrder, slots-enough}
 use Rattle.rules.proofs.inorder.InOrderSays.{in-order-says}

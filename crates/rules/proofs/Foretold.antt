@@ -1,5 +1,5 @@
 -- Document 02, L8: a forecast is what the run itself has: of every state in order it gives each step the refusal that the rules give it, and after
--- the step it has the rules' own entries, dirty pages, records and marks. Rests on KeptLocks, KeptRounds, Accepted. Assumes nothing.
+-- the step it has the rules' own entries, dirty pages, records and marks. Rests on OwnEntries and Accepted. Assumes nothing.
 use Prim.Native.Nat.{ℕ, zero, suc, _+_, _≤_, _<_, _-_}
 use native.Mathlib.Omega.{arith}
 use native.Mathlib.Decide.{ℕ-discrete}
@@ -11,24 +11,20 @@ use lib.Dec.{eqb}
 use borrow.Author.Tests.{eqb-true, eq-eqb, ne-eqb}
 use Rattle.lists.specs.Tables.{put, total}
 use Rattle.lists.proofs.Tables.{get-put, get-map}
-use Rattle.rules.specs.State.{Limits, Counts, Processor, Lock, Barrier, clockOf, withClock, dirtyAt, Marks, withArrived, appended, State, clock, own, holder, hasArrived, Job, withQueue}
+use Rattle.rules.specs.State.{Limits, Counts, Processor, clockOf, withClock, dirtyAt, Marks, withArrived, appended, State, clock, own, holder, hasArrived}
 use Rattle.rules.specs.InOrder.{present, dirtyPages}
 use Rattle.rules.specs.Lines.{lockAsked, lockHanded}
 use Rattle.rules.specs.Close.{anyDirty, ticked, newRecord, recorded, cleaned, closed}
 use Rattle.rules.specs.Fetch.{withCopy, fetched}
-use Rattle.rules.specs.Steps.{pageOfWord, read, newTwin, twinTaken, stored, write, learned, acquire, release, atBarrier, allArrived, roundDone, allFetched, noneFetched, emptied, collected, wantsCollection, arrive, want, placeBehind, freePlace, enqueue, dequeue}
+use Rattle.rules.specs.Steps.{pageOfWord, read, newTwin, twinTaken, stored, write, acquire, release, atBarrier, allArrived, roundDone, allFetched, noneFetched, emptied, collected, wantsCollection, arrive, want, withNewJob, withoutOldest, enqueue, dequeue}
 use Rattle.rules.specs.Refusals.{Step, Action, Read, Write, Acquire, Release, Arrive, Want, TallyAdd, TallyRead, Unknown, actionOf, objectBound, fits, holdsAny, lateRefusal, refusalBy, refusalInOrder, effect, answerInOrder, nextInOrder, answer, next, Enqueue, Dequeue}
 use Rattle.rules.specs.Opening.{opened, Opening, openingRefusal}
 use Rattle.rules.specs.Forecast.{Forecast, bare, ownFor, forecastRefusal, dirtyFor, closedFor, marksFor, writtenFor, roundFor, collectedFor, completedFor, barrierFor, forecastAfter, forecastNext, openedFor, Figures, runFigures, forecastFigures}
 use Rattle.rules.proofs.state.Fetches.{all-fetched-keep, all-fetched-counts, all-fetched-marks}
-use Rattle.rules.proofs.state.Holders.{Knows, barrier-carries, job-carries}
-use Rattle.rules.proofs.inorder.Facts.{InOrder, Within}
-use Rattle.rules.proofs.inorder.KeptQueue.{free-within, first-in}
+use Rattle.rules.proofs.inorder.Facts.{InOrder}
 use Rattle.rules.proofs.inorder.KeptParts.{presentAmong, among-says, ownIn, Parts, parts-of}
-use Rattle.rules.proofs.inorder.KeptMoves.{OwnKept, lock-within}
-use Rattle.rules.proofs.inorder.KeptRounds.{processor-learned, carrier-learned, round-clocks, own-ticked-same, own-ticked-other, entry-all-cleared, carrier-handed}
-use Rattle.rules.proofs.inorder.KeptClose.{closed-parts}
-use Rattle.rules.proofs.inorder.KeptLocks.{release-moves}
+use Rattle.rules.proofs.inorder.KeptRounds.{own-ticked-same, own-ticked-other, entry-all-cleared}
+use Rattle.rules.proofs.inorder.OwnEntries.{acquired-own, released-own, enqueued-own, dequeued-own, round-own, arrived-own}
 use Rattle.rules.proofs.inorder.OpenedInOrder.{opened-own, opened-in-order, opening-counts}
 use Rattle.rules.proofs.inorder.InOrderWhen.{in-order-when}
 use Rattle.rules.proofs.inorder.Kept.{next-keeps-order}
@@ -155,27 +151,17 @@ written-foretold lim s e p w v owns = go (dirtyAt (s .pages) p (pageOfWord lim w
 -- ---- locks
 
 module _ (lim : Limits) (s : State) (p l : ℕ) (f : Parts lim s) (a : presentAmong (s .counts) p ≡ true) (there : l < s .counts .locks) where
-  pub acquired-own : (q : ℕ) → ownIn (acquire s p l .clocks) q ≡ ownIn (closed s p .clocks) q
-  unfolding acquire
-  acquired-own q = go (eqb (holder (closed s p) l) 0)
-    where
-      go : (b : Bool) → ownIn (cond b (learned (closed s p .clocks) (Processor p) (Lock l)) (closed s p .clocks)) q ≡ ownIn (closed s p .clocks) q
-      go true =
-          processor-learned lim (s .counts) (closed s p .clocks) p (Lock l) (f .counts) (unfold closed in closed-parts lim s p f a .clocks) a
-          (lock-within lim (s .counts) (f .counts) l there) .own-kept q
-      go false = refl
-
   acquire-foretold : (e : List ℕ) → ((q : ℕ) → ownIn (s .clocks) q ≡ getD e q 0) → Foretells (acquire s p l) (forecastAfter lim (seenIn s e) p (Acquire l))
   unfolding forecastAfter acquire
   acquire-foretold e owns =
       goes-on (closed s p) (acquire s p l) (closedFor (seenIn s e) p) (λ g. marksFor g (lockAsked (g .counts .processors) (g .marks) l p)) (closed-foretold s e p owns (among-says (s .counts) p a .0))
-      (λ e₁ owns₁. unfold seenIn marksFor in moved-foretold (closed s p) (acquire s p l) e₁ (lockAsked (closed s p .counts .processors) (closed s p .marks) l p) (λ q. acquired-own q ∙ owns₁ q) refl)
+      (λ e₁ owns₁. unfold seenIn marksFor in moved-foretold (closed s p) (acquire s p l) e₁ (lockAsked (closed s p .counts .processors) (closed s p .marks) l p) (λ q. acquired-own lim s p l f a there q ∙ owns₁ q) refl)
 
   release-foretold : (e : List ℕ) → ((q : ℕ) → ownIn (s .clocks) q ≡ getD e q 0) → Foretells (release s p l) (forecastAfter lim (seenIn s e) p (Release l))
   unfolding forecastAfter release
   release-foretold e owns =
       goes-on (closed s p) (release s p l) (closedFor (seenIn s e) p) (λ g. marksFor g (lockHanded (g .counts .processors) (g .marks) l)) (closed-foretold s e p owns (among-says (s .counts) p a .0))
-      (λ e₁ owns₁. unfold seenIn marksFor in moved-foretold (closed s p) (release s p l) e₁ (lockHanded (closed s p .counts .processors) (closed s p .marks) l) (λ q. release-moves lim s p l f a there .own-kept q ∙ owns₁ q) refl)
+      (λ e₁ owns₁. unfold seenIn marksFor in moved-foretold (closed s p) (release s p l) e₁ (lockHanded (closed s p .counts .processors) (closed s p .marks) l) (λ q. released-own lim s p l f a there q ∙ owns₁ q) refl)
 
 -- ---- the queue
 
@@ -183,57 +169,23 @@ module _ (lim : Limits) (s : State) (p : ℕ) (f : Parts lim s) (a : presentAmon
   enqueue-foretold : (v : ℕ) (e : List ℕ) → s .marks .jobs < lim .jobs → ((q : ℕ) → ownIn (s .clocks) q ≡ getD e q 0) → Foretells (enqueue lim s p v) (forecastAfter lim (seenIn s e) p (Enqueue v))
   unfolding forecastAfter enqueue
   enqueue-foretold v e room owns =
-      goes-on (closed s p) (enqueue lim s p v) (closedFor (seenIn s e) p) (λ g. marksFor g (withQueue (g .marks) (g .marks .first) (g .marks .jobs + 1))) (closed-foretold s e p owns (among-says (s .counts) p a .0))
-      (λ e₁ owns₁. unfold seenIn marksFor in moved-foretold (closed s p) (enqueue lim s p v) e₁ (withQueue (closed s p .marks) (closed s p .marks .first) (closed s p .marks .jobs + 1)) (λ q. kept q ∙ owns₁ q) refl)
-    where
-      k : ℕ
-      k = freePlace lim (closed s p)
-
-      there : k < lim .jobs
-      there = free-within lim (closed s p) (unfold closed in first-in lim (s .counts) (s .marks) (f .marks) (omega (arith, room))) (unfold closed in room)
-
-      kept : (q : ℕ) → ownIn (withClock (closed s p .clocks) (Job k) (clockOf (closed s p .clocks) (Processor p))) q ≡ ownIn (closed s p .clocks) q
-      kept q = carrier-handed lim (s .counts) (closed s p .clocks) (Job k) p (f .counts) (unfold closed in closed-parts lim s p f a .clocks) (job-carries (s .counts) k) (unfold Within in there) a .own-kept q
+      goes-on (closed s p) (enqueue lim s p v) (closedFor (seenIn s e) p) (λ g. marksFor g (withNewJob (g .marks))) (closed-foretold s e p owns (among-says (s .counts) p a .0))
+      (λ e₁ owns₁. unfold seenIn marksFor in moved-foretold (closed s p) (enqueue lim s p v) e₁ (withNewJob (closed s p .marks)) (λ q. enqueued-own lim s p f a v room q ∙ owns₁ q) refl)
 
   dequeue-foretold : (e : List ℕ) → 0 < lim .jobs → ((q : ℕ) → ownIn (s .clocks) q ≡ getD e q 0) → Foretells (dequeue lim s p .after) (forecastAfter lim (seenIn s e) p Dequeue)
   unfolding forecastAfter dequeue
   dequeue-foretold e some owns =
-      goes-on (closed s p) (dequeue lim s p .after) (closedFor (seenIn s e) p) (λ g. marksFor g (withQueue (g .marks) (placeBehind lim (g .marks .first)) (g .marks .jobs - 1))) (closed-foretold s e p owns (among-says (s .counts) p a .0))
-      (λ e₁ owns₁. unfold seenIn marksFor in moved-foretold (closed s p) (dequeue lim s p .after) e₁ (withQueue (closed s p .marks) (placeBehind lim (closed s p .marks .first)) (closed s p .marks .jobs - 1)) (λ q. kept q ∙ owns₁ q) refl)
-    where
-      kept : (q : ℕ) → ownIn (learned (closed s p .clocks) (Processor p) (Job (closed s p .marks .first))) q ≡ ownIn (closed s p .clocks) q
-      kept q = processor-learned lim (s .counts) (closed s p .clocks) p (Job (closed s p .marks .first)) (f .counts) (unfold closed in closed-parts lim s p f a .clocks) a (unfold Within closed in first-in lim (s .counts) (s .marks) (f .marks) some) .own-kept q
-
-  -- the own entries then
-  pub enqueued-own : (v : ℕ) → s .marks .jobs < lim .jobs → (q : ℕ) → ownIn (enqueue lim s p v .clocks) q ≡ ownIn (closed s p .clocks) q
-  unfolding enqueue
-  enqueued-own v room q = carrier-handed lim (s .counts) (closed s p .clocks) (Job (freePlace lim (closed s p))) p (f .counts) (unfold closed in closed-parts lim s p f a .clocks) (job-carries (s .counts) (freePlace lim (closed s p))) (unfold Within in there) a .own-kept q
-    where
-      there : freePlace lim (closed s p) < lim .jobs
-      there = free-within lim (closed s p) (unfold closed in first-in lim (s .counts) (s .marks) (f .marks) (omega (arith, room))) (unfold closed in room)
-
-  pub dequeued-own : 0 < lim .jobs → (q : ℕ) → ownIn (dequeue lim s p .after .clocks) q ≡ ownIn (closed s p .clocks) q
-  unfolding dequeue
-  dequeued-own some q = processor-learned lim (s .counts) (closed s p .clocks) p (Job (closed s p .marks .first)) (f .counts) (unfold closed in closed-parts lim s p f a .clocks) a (unfold Within closed in first-in lim (s .counts) (s .marks) (f .marks) some) .own-kept q
+      goes-on (closed s p) (dequeue lim s p .after) (closedFor (seenIn s e) p) (λ g. marksFor g (withoutOldest lim (g .marks))) (closed-foretold s e p owns (among-says (s .counts) p a .0))
+      (λ e₁ owns₁. unfold seenIn marksFor in moved-foretold (closed s p) (dequeue lim s p .after) e₁ (withoutOldest lim (closed s p .marks)) (λ q. dequeued-own lim s p f a some q ∙ owns₁ q) refl)
 
 -- ---- the barrier
 
 module _ (lim : Limits) (s : State) (p : ℕ) (f : Parts lim s) (a : presentAmong (s .counts) p ≡ true) where
-  -- the barrier has learned the clock of a processor that has closed
-  pub told : OwnKept lim (s .counts) (closed s p .clocks) (learned (closed s p .clocks) Barrier (Processor p))
-  unfolding closed
-  told = carrier-learned lim (s .counts) (closed s p .clocks) Barrier p (f .counts) (closed-parts lim s p f a .clocks) (barrier-carries (s .counts)) (unfold Within in tt) a
-
-  -- and every processor the barrier's
-  pub round-own : (q : ℕ) → ownIn (roundDone (atBarrier s p) .clocks) q ≡ ownIn (atBarrier s p .clocks) q
-  unfolding roundDone atBarrier closed
-  round-own q = round-clocks lim (s .counts) (learned (closed s p .clocks) Barrier (Processor p)) (f .counts) (told .in-order) .own-kept q
-
   barrier-foretold : (e : List ℕ) → ((q : ℕ) → ownIn (s .clocks) q ≡ getD e q 0) → Foretells (atBarrier s p) (barrierFor (closedFor (seenIn s e) p) p)
   unfolding atBarrier
   barrier-foretold e owns =
       goes-on (closed s p) (atBarrier s p) (closedFor (seenIn s e) p) (λ g. barrierFor g p) (closed-foretold s e p owns (among-says (s .counts) p a .0))
-      (λ e₁ owns₁. unfold seenIn marksFor barrierFor in moved-foretold (closed s p) (atBarrier s p) e₁ (withArrived (closed s p .marks) (put 0 (closed s p .marks .arrived) p 1)) (λ q. told .own-kept q ∙ owns₁ q) refl)
+      (λ e₁ owns₁. unfold seenIn marksFor barrierFor in moved-foretold (closed s p) (atBarrier s p) e₁ (withArrived (closed s p .marks) (put 0 (closed s p .marks .arrived) p 1)) (λ q. arrived-own lim s p f a q ∙ owns₁ q) refl)
 
 -- a completed round leaves the own entries as they were
 round-foretold : (s : State) (e : List ℕ) → ((q : ℕ) → ownIn (s .clocks) q ≡ getD e q 0) → ((q : ℕ) → ownIn (roundDone s .clocks) q ≡ ownIn (s .clocks) q)

@@ -7,20 +7,18 @@
 --   * each step of a processor that has asked for a lock and is not served yet is refused, with 17 where neither 3 nor 5 applies;
 --   * 17 is given to nobody else.
 -- Rests on Served, Grants and ListRuns. Assumes nothing.
-use Prim.Native.Nat.{ℕ, zero, suc, _+_, _≤_, _<_}
+use Prim.Native.Nat.{ℕ, zero, suc, _≤_, _<_}
 use native.Mathlib.Omega.{arith}
 use mathlib.Core.Path.{_≡_, refl, sym, ap, _∙_}
 use mathlib.Core.Bool.{Bool, true, false, cond, not, false≢true}
 use mathlib.Core.Logic.{_⊎_, inl, inr, _↔_}
 use mathlib.Core.List.{List}
 use lib.ListN.{take}
-use lib.Dec.{eqb}
-use Rattle.rules.specs.State.{Limits, Counts, dirtyAt, State, own, holder, hasArrived}
+use Rattle.rules.specs.State.{Limits, Counts, State, own, holder, hasArrived}
 use Rattle.rules.specs.Lines.{waits}
-use Rattle.rules.specs.InOrder.{present, dirtyPages}
+use Rattle.rules.specs.InOrder.{present}
 use Rattle.rules.specs.Opening.{Opening, openingRefusal, opened}
-use Rattle.rules.specs.Steps.{pageOfWord}
-use Rattle.rules.specs.Refusals.{Step, Action, Read, Write, Acquire, Release, Arrive, Want, TallyAdd, TallyRead, Enqueue, Dequeue, Unknown, actionOf, knownKind, fits, holdsAny, lateRefusal, refusalBy, refusalInOrder}
+use Rattle.rules.specs.Refusals.{Step, Acquire, Release, actionOf, knownKind, fits, lateRefusal, refusalBy, refusalInOrder}
 use Rattle.rules.specs.Runs.{answers, stateAfter}
 use Rattle.rules.specs.Order.{Event, eventAt, Took}
 use Rattle.rules.specs.Waiting.{eventsIn, HandsTo, StillWaits, SomeLockAwaited, ServedInTurn}
@@ -28,6 +26,7 @@ use Rattle.rules.proofs.state.Waiters.{awaits, awake-when}
 use Rattle.rules.proofs.inorder.Accepted.{present-says, present-when}
 use Rattle.rules.proofs.inorder.OpenedInOrder.{opened-in-order, opening-counts}
 use Rattle.rules.proofs.InOrderRuns.{answers-in-order, state-in-order}
+use Rattle.rules.proofs.RowsExactly.{late-by-kind}
 use Rattle.rules.proofs.order.Timeline.{Timeline, counts-stay}
 use Rattle.rules.proofs.order.Allowed.{Allowed, took-allowed}
 use Rattle.rules.proofs.order.Grants.{served-holds}
@@ -35,29 +34,6 @@ use Rattle.rules.proofs.order.Served.{waiter-still-waits, holder-has-lo
 use Rattle.rules.proofs.demand.ListRuns.{eventsOf, timeline, state-at, refusal-answer}
 
 -- ---- the table's row 17
-
--- a choice between two numbers of which none is 17 is not 17
-neither : (b : Bool) (x y : ℕ) → (x ≡ 17 → ⊥) → (y ≡ 17 → ⊥) → cond b x y ≡ 17 → ⊥
-neither true x y h k = h
-neither false x y h k = k
-
--- the rows below it give other numbers
-late-not-seventeen : (lim : Limits) (s : State) (e p : ℕ) (a : Action) → lateRefusal lim s e p a ≡ 17 → ⊥
-unfolding lateRefusal
-late-not-seventeen lim s e p (Read w) = λ z. omega (arith, z)
-late-not-seventeen lim s e p (Write w v) =
-    neither (dirtyAt (s .pages) p (pageOfWord lim w)) 0 _ (λ z. omega (arith, z))
-    (neither (eqb e (lim .intervals)) 9 _ (λ z. omega (arith, z))
-    (neither (eqb (s .records .standing + dirtyPages s) (lim .records)) 10 0 (λ z. omega (arith, z)) (λ z. omega (arith, z))))
-late-not-seventeen lim s e p (Acquire l) = neither (eqb (holder s l) p) 7 0 (λ z. omega (arith, z)) (λ z. omega (arith, z))
-late-not-seventeen lim s e p (Release l) = neither (eqb (holder s l) p) 0 8 (λ z. omega (arith, z)) (λ z. omega (arith, z))
-late-not-seventeen lim s e p Arrive = neither (holdsAny lim s p) 18 0 (λ z. omega (arith, z)) (λ z. omega (arith, z))
-late-not-seventeen lim s e p Want = λ z. omega (arith, z)
-late-not-seventeen lim s e p (TallyAdd j v) = λ z. omega (arith, z)
-late-not-seventeen lim s e p (TallyRead j) = λ z. omega (arith, z)
-late-not-seventeen lim s e p (Enqueue v) = neither (eqb (s .marks .jobs) (lim .jobs)) 19 0 (λ z. omega (arith, z)) (λ z. omega (arith, z))
-late-not-seventeen lim s e p Dequeue = neither (eqb (s .marks .jobs) 0) 20 0 (λ z. omega (arith, z)) (λ z. omega (arith, z))
-late-not-seventeen lim s e p Unknown = λ z. omega (arith, z)
 
 module _ (lim : Limits) (s : State) (t : Step) where
   -- a step by a present processor that waits and has not arrived is refused by 3, 5 or 17
@@ -89,7 +65,7 @@ module _ (lim : Limits) (s : State) (t : Step) where
       go true true false d w p q e = absurd (omega (arith, e))
       go true true true true w p q e = absurd (omega (arith, e))
       go true true true false true p q e = (p, q)
-      go true true true false false p q e = absurd (late-not-seventeen lim s (own s (t .processor)) (t .processor) (actionOf t) e)
+      go true true true false false p q e = absurd (late-by-kind lim s t (own s (t .processor)) (t .processor) (actionOf t) .not-17 e)
 
 -- ---- a run
 

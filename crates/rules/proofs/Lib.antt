@@ -12,7 +12,9 @@ pub mod StoresNoted
 pub mod TallyReads
 pub mod TallyCases
 pub mod FirstOut
+pub mod JobsTold
 pub mod QueueSpace
+pub mod QueueSteps
 pub mod QueueCases
 pub mod SkippingCases
 pub mod WordsMoved

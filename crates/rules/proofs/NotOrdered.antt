@@ -2,20 +2,20 @@
 -- store of 5 and 2's read, the read answers 0. Rests on Edges and JudgedRuns. Assumes nothing.
 use Prim.Native.Nat.{ℕ}
 use mathlib.Core.Path.{_≡_, refl, _∙_, subst}
-use mathlib.Core.Bool.{true}
+use mathlib.Core.Bool.{Bool, true, not, _&&_}
 use mathlib.Core.List.{List, [], _∷_}
+use lib.Dec.{eqb, leb}
 use Rattle.rules.specs.State.{mainframe, Counts}
 use Rattle.rules.specs.InOrder.{inRange, countsInRange}
 use Rattle.rules.specs.Opening.{openingRefusal, opened}
 use Rattle.rules.specs.Refusals.{Step, Answer}
-use Rattle.rules.specs.Steps.{placeBehind, freePlace, enqueue, dequeue}
 use Rattle.rules.specs.Runs.{answers, answersInOrder}
 use Rattle.rules.specs.Order.{events, Before}
+use Rattle.rules.specs.Bench.{noOtherJob, noOtherJobAnswers}
 use Rattle.rules.proofs.InOrderRuns.{answers-in-order}
 use Rattle.rules.proofs.inorder.OpenedInOrder.{opened-in-order}
-use Rattle.rules.proofs.order.Edges.{apart, apart-not-before, alone, alone-not-before}
-use Rattle.rules.proofs.runs.Listing.{reads, writes, acquires, releases, arrives, start, answering}
-use Rattle.rules.proofs.QueueCases.{enqueues, dequeues}
+use Rattle.rules.proofs.order.Edges.{apart, apart-not-before, alone, alone-not-before, cut, cut-not-before}
+use Rattle.rules.proofs.runs.Listing.{reads, writes, acquires, releases, arrives, enqueues, dequeues, start, answering}
 use Rattle.rules.proofs.runs.StoredCases.{accepted}
 use Rattle.rules.proofs.runs.JudgedRuns.{counting, openingWith, in-range-accepted, eventsFrom, allAccepted}
 
@@ -46,6 +46,11 @@ shown {c} {ts} {answered} {i} {j} in-range computed test = by-answers in-range c
 shown-alone : {c : Counts} {ts : List Step} {answered : List Answer} {i j : ℕ} → countsInRange mainframe c ≡ true
     → answersInOrder mainframe (opened mainframe c) ts ≡ answered → alone (c .processors) (events ts answered) i j ≡ true → NotBefore c ts answered i j
 shown-alone {c} {ts} {answered} {i} {j} in-range computed test = by-answers in-range computed (alone-not-before (c .processors) (events ts answered) i j test)
+
+-- or that no edge leads out of some places, of which i is one and j is none
+shown-inside : {c : Counts} {ts : List Step} {answered : List Answer} {i j : ℕ} (inside : ℕ → Bool) → countsInRange mainframe c ≡ true
+    → answersInOrder mainframe (opened mainframe c) ts ≡ answered → cut (c .processors) (events ts answered) i j inside ≡ true → NotBefore c ts answered i j
+shown-inside {c} {ts} {answered} {i} {j} inside in-range computed test = by-answers in-range computed (cut-not-before (c .processors) (events ts answered) i j inside test)
 
 -- a refused step
 abbrev refused : ℕ → Answer
@@ -87,6 +92,8 @@ pub record NothingMore : Type 0 where
   -- 3 has dequeued the job, and 2 reads
   pub other-dequeue : NotBefore (counting 3 1) (writes 1 0 5 ∷ enqueues 1 41 ∷ dequeues 3 ∷ reads 2 0 ∷ [])
       (accepted ∷ accepted ∷ answering 0 41 0 ∷ accepted ∷ []) 0 3
+  -- 3 dequeues 1's job, and 2 the one that 3 enqueued before: a dequeue hears nothing of the jobs removed before it
+  pub no-other-job : NotBefore (counting 3 1) noOtherJob noOtherJobAnswers 0 5
   -- of the waiters the one that it serves: 1 frees lock 0 for 2, and 3 waits behind it. In this one and the next three, no run has these steps
   -- accepted in this order; it is said of the lists alone
   pub other-waiter : Before 3 (allAccepted (acquires 1 0 ∷ writes 1 0 5 ∷ acquires 2 0 ∷ acquires 3 0 ∷ releases 1 0 ∷ reads 3 0 ∷ [])) 1 5 → ⊥
@@ -96,7 +103,7 @@ pub record NothingMore : Type 0 where
   pub release-release : Before 2 (allAccepted (writes 1 0 5 ∷ releases 1 0 ∷ releases 2 0 ∷ reads 2 0 ∷ [])) 0 3 → ⊥
 
 pub nothing-more : NothingMore
-unfolding start events apart alone allAccepted countsInRange inRange placeBehind freePlace enqueue dequeue
+unfolding start events apart alone cut allAccepted countsInRange inRange noOtherJob noOtherJobAnswers
 nothing-more =
     record {
       other-lock = shown refl refl refl;
@@ -110,6 +117,7 @@ nothing-more =
       other-lock-granted = shown-alone refl refl refl;
       other-job = shown refl refl refl;
       other-dequeue = shown refl refl refl;
+      no-other-job = shown-inside (λ k. leb k 3 && not (eqb k 2)) refl refl refl;
       other-waiter = apart-not-before 3 (allAccepted (acquires 1 0 ∷ writes 1 0 5 ∷ acquires 2 0 ∷ acquires 3 0 ∷ releases 1 0 ∷ reads 3 0 ∷ [])) 1 5 refl;
       acquire-acquire = apart-not-before 2 (allAccepted (writes 1 0 5 ∷ acquires 1 0 ∷ acquires 2 0 ∷ reads 2 0 ∷ [])) 0 3 refl;
       acquire-release = apart-not-before 2 (allAccepted (writes 1 0 5 ∷ acquires 1 0 ∷ releases 2 0 ∷ reads 2 0 ∷ [])) 0 3 refl;

@@ -1,126 +1,18 @@
 -- Happens-before-1 pinned from below: for each of its edges a real run in which demand 3 judges a read, and in which every derivation that a
--- write is before the read has that edge in it. An order without the edge, or with one that never holds, has no such run. Rests on Edges,
--- JudgedRuns and PremisesMet. Assumes nothing.
-use Prim.Native.Nat.{ℕ}
+-- write is before the read has that edge in it. An order without the edge, or with one that never holds, has no such run. Rests on PinnedRuns
+-- and PremisesMet. Assumes nothing.
 use native.Mathlib.Omega.{arith}
-use mathlib.Core.Path.{_≡_, refl, sym, _∙_, subst}
-use mathlib.Core.Bool.{Bool, true, not, _||_}
+use mathlib.Core.Path.{refl}
 use mathlib.Core.List.{List, [], _∷_}
-use lib.Dec.{eqb}
-use borrow.Author.Tests.{eq-eqb, not-true}
-use Rattle.lists.specs.Tables.{every}
-use Rattle.lists.proofs.Tables.{every-at}
-use Rattle.lists.proofs.Conditions.{conjoined, conjoined-at}
-use Rattle.rules.specs.State.{mainframe, Counts}
 use Rattle.rules.specs.InOrder.{inRange, countsInRange}
-use Rattle.rules.specs.Opening.{openingRefusal, opened}
 use Rattle.rules.specs.Refusals.{Step, Read, Write, Acquire, Release, Arrive, Enqueue, Dequeue}
-use Rattle.rules.specs.Steps.{placeBehind, freePlace, enqueue, dequeue}
-use Rattle.rules.specs.Runs.{answers, answersInOrder}
-use Rattle.rules.specs.Order.{Event, events, eventAt, Took, Before, program, lock, round, granted, job, chain}
-use Rattle.rules.specs.Demand.{isWriteTo, lastWritten, EarlierWrite, Synchronized, Judged, valueAt}
-use Rattle.rules.proofs.order.ActionKinds.{writesTo, took-write}
-use Rattle.rules.proofs.order.Edges.{Edge, ByProgram, ByLock, ByRound, ByGrant, ByJob, ByChain, just, has, joins, closedUnder, only-by, only-chained}
-use Rattle.rules.proofs.runs.Listing.{reads, writes, acquires, releases, arrives, start}
-use Rattle.rules.proofs.QueueCases.{enqueues, dequeues}
+use Rattle.rules.specs.Order.{events, program, lock, round, granted, job, chain}
+use Rattle.rules.proofs.order.Edges.{ByProgram, ByLock, ByRound, ByGrant, ByJob, ByChain}
+use Rattle.rules.proofs.runs.Listing.{reads, writes, acquires, releases, arrives, enqueues, dequeues, start}
 use Rattle.rules.proofs.runs.BenchFaults.{stepsC}
-use Rattle.rules.proofs.runs.JudgedRuns.{synchronized, openingWith, in-range-accepted, eventsFrom, events-computed, read-judged, allAccepted, taken, counting}
+use Rattle.rules.proofs.runs.JudgedRuns.{synchronized, allAccepted, taken, counting}
 use Rattle.rules.proofs.PremisesMet.{read-taken, read-is-synchronized, computed-events}
-
--- ---- what a run shows of an edge
-
--- every derivation that an earlier write to w is before place j has the edge e in it
-pub record OnlyBy (e : Edge) (n : ℕ) (es : List Event) (w j : ℕ) : Type 0 where
-  pub derived : (i p u : ℕ) → EarlierWrite es w j i p u → (x : Before n es i j) → has (just e) x ≡ true
-
--- what is shown of the steps of a run: processor p's read of w at place j, and the value field v of the last write to w before it
-pub record Shown (e : Edge) (n : ℕ) (es : List Event) (w j p v : ℕ) : Type 0 where
-  -- the read is accepted
-  pub read : Took es j p (Read w)
-  -- the premise of demand 3 is met
-  pub premise : Synchronized n es w j
-  -- and it is so by this edge alone
-  pub only : OnlyBy e n es w j
-  pub last : lastWritten es w j ≡ v
-
--- a run from an accepted opening in which the premise holds by the edge e alone, and demand 3 gives the value: it is not 0
-pub record Pinned (e : Edge) (c : Counts) (ts : List Step) (w j p v : ℕ) : Type 0 where
-  pub opening : openingRefusal mainframe (openingWith c) ≡ 0
-  pub shown : Shown e (c .processors) (eventsFrom c ts) w j p v
-  pub value : valueAt (answers mainframe (opened mainframe c) ts) j ≡ v
-  pub not-zero : v ≡ 0 → ⊥
-  -- demand 3 leaves no other value
-  pub no-other : (x : ℕ) → Judged (c .processors) (eventsFrom c ts) w j x → x ≡ v
-
--- what the steps show, demand 3 judges
-pinned : {e : Edge} {c : Counts} {ts : List Step} {w j p v : ℕ} (es : List Event) → countsInRange mainframe c ≡ true
-    → events ts (answersInOrder mainframe (opened mainframe c) ts) ≡ es → Shown e (c .processors) es w j p v → (v ≡ 0 → ⊥) → Pinned e c ts w j p v
-pinned {e} {c} {ts} {w} {j} {p} {v} es in-range computed shown not-zero =
-    let here : Shown e (c .processors) (eventsFrom c ts) w j p v =
-    subst (λ (l : List Event). Shown e (c .processors) l w j p v) (sym (events-computed c in-range ts es computed)) shown in
-    record {
-      opening = in-range-accepted c in-range;
-      shown = here;
-      value = read-judged c in-range ts j p w (here .read) (here .premise) ∙ here .last;
-      not-zero = not-zero;
-      no-other = λ x judged. judged .last (here .premise) ∙ here .last;
-    }
-
--- ---- by this edge alone, computed
-
--- a test that every write to w before place j passes
-unfoldable pub everyWrite : List Event → ℕ → ℕ → (ℕ → Bool) → Bool
-unfolding every
-everyWrite es w j test = every j (λ i. not (isWriteTo (eventAt es i) w) || test i)
-
-write-passes : (es : List Event) (w j : ℕ) (test : ℕ → Bool) → everyWrite es w j test ≡ true → (i p u : ℕ) → EarlierWrite es w j i p u → test i ≡ true
-unfolding everyWrite writesTo
-write-passes es w j test all i p u h =
-    let is-write : isWriteTo (eventAt es i) w ≡ true = took-write es i w p (Write w u) (h .wrote) ∙ eq-eqb w w refl in
-    let here : (not (isWriteTo (eventAt es i) w) || test i) ≡ true = every-at j (λ i. not (isWriteTo (eventAt es i) w) || test i) i all (h .earlier) in
-    rw is-write at here
-
-module _ (n : ℕ) (es : List Event) (w j : ℕ) where
-  cutOffTests : Edge → (ℕ → ℕ → Bool) → ℕ → List Bool
-  cutOffTests e inside i = closedUnder (just e) n es (inside i) ∷ inside i i ∷ not (inside i j) ∷ []
-
-  -- without the edge e a write leads to no place outside a set that it is in, and the read is outside
-  unfoldable pub cutOff : Edge → (ℕ → ℕ → Bool) → ℕ → Bool
-  unfolding cutOffTests closedUnder just conjoined
-  cutOff e inside i = conjoined (cutOffTests e inside i)
-
-  only-cut-off : (e : Edge) (inside : ℕ → ℕ → Bool) → everyWrite es w j (cutOff e inside) ≡ true → OnlyBy e n es w j
-  unfolding cutOff
-  only-cut-off e inside all = record { derived = λ i p u h. go i (write-passes es w j (cutOff e inside) all i p u h) }
-    where
-      go : (i : ℕ) → conjoined (cutOffTests e inside i) ≡ true → (x : Before n es i j) → has (just e) x ≡ true
-      go i h =
-          let tests = cutOffTests e inside i in
-          only-by n es i j e (inside i) (conjoined-at tests 0 h) (conjoined-at tests 1 h) (not-true (inside i j) (conjoined-at tests 2 h))
-
-  unjoinedTests : ℕ → List Bool
-  unjoinedTests i = not (joins ByProgram n es i j) ∷ not (joins ByLock n es i j) ∷ not (joins ByRound n es i j) ∷ not (joins ByGrant n es i j) ∷ not (joins ByJob n es i j) ∷ []
-
-  -- no edge by itself joins a write to the read
-  unfoldable pub unjoined : ℕ → Bool
-  unfolding unjoinedTests joins conjoined
-  unjoined i = conjoined (unjoinedTests i)
-
-  only-by-chaining : everyWrite es w j unjoined ≡ true → OnlyBy ByChain n es w j
-  unfolding unjoined
-  only-by-chaining all = record { derived = λ i p u h. go i (write-passes es w j unjoined all i p u h) }
-    where
-      go : (i : ℕ) → conjoined (unjoinedTests i) ≡ true → (x : Before n es i j) → has (just ByChain) x ≡ true
-      go i h =
-          let at = conjoined-at (unjoinedTests i) in
-          only-chained n es i j (not-true (joins ByProgram n es i j) (at 0 h)) (not-true (joins ByLock n es i j) (at 1 h)) (not-true (joins ByRound n es i j) (at 2 h)) (not-true (joins ByGrant n es i j) (at 3 h)) (not-true (joins ByJob n es i j) (at 4 h))
-
--- a place by itself, and the places of its processor: where a write can lead without the edge of a run
-abbrev itself : ℕ → ℕ → Bool
-itself i k = eqb i k
-
-abbrev ownSteps : List Event → ℕ → ℕ → Bool
-ownSteps es i k = eqb (eventAt es i .step .processor) (eventAt es k .step .processor)
+use Rattle.rules.proofs.runs.PinnedRuns.{Shown, Pinned, pinned, everyWrite, cutOff, only-cut-off, unjoined, only-by-chaining, itself, ownSteps}
 
 -- In each run below the edges are named one by one, with their processors, actions and locks. What an edge asks of its two places is left to
 -- arithmetic: an edge that asks for more than document 01 does fails in the run where it is missing.
@@ -248,37 +140,37 @@ grant-pinned : Pinned ByGrant (counting 3 1) stepsGrant 0 8 3 6
 unfolding start stepsGrant events allAccepted countsInRange inRange
 grant-pinned = pinned (allAccepted stepsGrant) refl refl grant-shown (λ e. omega (arith, e))
 
--- ---- L9: an accepted enqueue "precedes the dequeue that returns its job"
+-- ---- L9: an enqueue "precedes in happens-before-1 the dequeue that returns its job"
 
--- 1 stores 5 in word 0 and enqueues a job; 2 dequeues it, stores 6 and enqueues another, which 3 dequeues and then reads. There is no lock and nobody
--- arrives, so without jobs a store leads to its processor's own steps alone
+-- 1 stores 5 in word 0 and enqueues two jobs; 2 dequeues the first, stores 6 and enqueues a third; 1 dequeues the second, and 3 the third, and reads. There is no
+-- lock and nobody arrives, so without jobs a store leads to its processor's own steps alone
 unfoldable pub stepsJob : List Step
-stepsJob = writes 1 0 5 ∷ enqueues 1 41 ∷ dequeues 2 ∷ writes 2 0 6 ∷ enqueues 2 42 ∷ dequeues 3 ∷ reads 3 0 ∷ []
+stepsJob = writes 1 0 5 ∷ enqueues 1 41 ∷ enqueues 1 42 ∷ dequeues 2 ∷ writes 2 0 6 ∷ enqueues 2 43 ∷ dequeues 1 ∷ dequeues 3 ∷ reads 3 0 ∷ []
 
-job-shown : Shown ByJob 3 (allAccepted stepsJob) 0 6 3 6
+job-shown : Shown ByJob 3 (allAccepted stepsJob) 0 8 3 6
 unfolding stepsJob allAccepted everyWrite cutOff
 job-shown =
     let es = allAccepted stepsJob in
     record {
       read = taken refl refl refl;
       premise =
-          synchronized 3 es 0 6 (3 ∷ 0 ∷ []) refl (
-            chain 4 (program 2 (Write 0 6) (Enqueue 42) (taken refl refl refl) (taken refl refl refl) (omega arith))
-                (chain 5 (job 2 42 3 (record { enqueue = taken refl refl refl; dequeue = taken refl refl refl; waited = omega arith; same = refl }))
+          synchronized 3 es 0 8 (4 ∷ 0 ∷ []) refl (
+            chain 5 (program 2 (Write 0 6) (Enqueue 43) (taken refl refl refl) (taken refl refl refl) (omega arith))
+                (chain 7 (job 2 43 3 (record { enqueue = taken refl refl refl; dequeue = taken refl refl refl; waited = omega arith; same = refl }))
                 (program 3 Dequeue (Read 0) (taken refl refl refl) (taken refl refl refl) (omega arith))),
             (
               chain 1 (program 1 (Write 0 5) (Enqueue 41) (taken refl refl refl) (taken refl refl refl) (omega arith))
-                  (chain 2 (job 1 41 2 (record { enqueue = taken refl refl refl; dequeue = taken refl refl refl; waited = omega arith; same = refl }))
+                  (chain 3 (job 1 41 2 (record { enqueue = taken refl refl refl; dequeue = taken refl refl refl; waited = omega arith; same = refl }))
                   (program 2 Dequeue (Write 0 6) (taken refl refl refl) (taken refl refl refl) (omega arith))),
               tt,
             ),
           );
-      only = only-cut-off 3 es 0 6 ByJob (ownSteps es) refl;
+      only = only-cut-off 3 es 0 8 ByJob (ownSteps es) refl;
       last = refl;
     }
 
-job-pinned : Pinned ByJob (counting 3 1) stepsJob 0 6 3 6
-unfolding start stepsJob events allAccepted countsInRange inRange placeBehind freePlace enqueue dequeue
+job-pinned : Pinned ByJob (counting 3 1) stepsJob 0 8 3 6
+unfolding start stepsJob events allAccepted countsInRange inRange
 job-pinned = pinned (allAccepted stepsJob) refl refl job-shown (λ e. omega (arith, e))
 
 -- ---- "and what follows by chaining"
@@ -312,8 +204,8 @@ pub record OrderPinned : Type 0 where
   pub by-round : Pinned ByRound (counting 3 1) stepsRound 0 8 3 6
   -- "the release precedes the waiter's next step": 1 stores while 2 and 3 wait for its lock, 2 stores when it has it, and 3, served last, reads 2's store
   pub by-grant : Pinned ByGrant (counting 3 1) stepsGrant 0 8 3 6
-  -- "precedes the dequeue that returns its job": 1 stores and enqueues, 2 dequeues, stores and enqueues, 3 dequeues and reads 2's store
-  pub by-job : Pinned ByJob (counting 3 1) stepsJob 0 6 3 6
+  -- "precedes the dequeue that returns its job": 1 stores and enqueues two jobs, 2 has the first, stores and enqueues, and 3, which has that job, reads 2's store
+  pub by-job : Pinned ByJob (counting 3 1) stepsJob 0 8 3 6
   -- "and what follows by chaining": 1's store goes through lock 0 to 2 and through lock 1 to 3, which reads it
   pub by-chain : Pinned ByChain (counting 3 2) stepsC 0 8 3 5
 

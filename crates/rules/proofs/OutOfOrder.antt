@@ -8,7 +8,7 @@ use lib.ListN.{replicate, set}
 use Rattle.lists.specs.Tables.{putCell}
 use Rattle.clock.specs.Clocks.{covered}
 use Rattle.diff.specs.Reading.{mostRuns, pairHolds, orderly, pairsRefusal, readRefusal}
-use Rattle.rules.specs.State.{Limits, Holder, Processor, Applied, Interval, Job, withClock, slotBytes, laidOver, State, withClocks, withPages, withRecords, withMarks, withLines, withShared}
+use Rattle.rules.specs.State.{Limits, Holder, Processor, Applied, Interval, Job, withClock, slotBytes, laidOver, State, withClocks, withPages, withRecords, withMarks, withLines, withQueue, withShared}
 use Rattle.rules.specs.InOrder.{everyProcessor, everyPage, everyHolder, slotSize, rowsSized, sized, inRange, countsInRange, presentHolder, allZero, absentZero, laterIntervalsZero, entriesKnown, appliedKnown, recordAt, diffLegal, recordSound, sameNotice, recordsSound, roomKept, dirtyHaveInterval, holdersPresent, holdersAway, queueSound, someoneMissing, standBefore, waiterSound, apartInLine, linesSound, inOrder}
 use Rattle.rules.specs.Opening.{opened}
 use Rattle.rules.specs.Refusals.{stepOf, refusedAs, answer}
@@ -57,12 +57,12 @@ abbrev marked : State → List ℕ → List ℕ → State
 marked s holders arrived = withMarks s (record { holders = holders; arrived = arrived; wanted = 0; awaited = s .marks .awaited; turns = s .marks .turns; first = 0; jobs = 0 })
 
 -- waiters and their turns
-abbrev queued : State → List ℕ → List ℕ → State
-queued s awaited turns = withMarks s (withLines (s .marks) awaited turns)
+abbrev lined : State → List ℕ → List ℕ → State
+lined s awaited turns = withMarks s (withLines (s .marks) awaited turns)
 
 -- the oldest job's place, and how many jobs wait
 abbrev waitingJobs : State → ℕ → ℕ → State
-waitingJobs s first jobs = withMarks s (record { holders = s .marks .holders; arrived = s .marks .arrived; wanted = 0; awaited = s .marks .awaited; turns = s .marks .turns; first = first; jobs = jobs })
+waitingJobs s first jobs = withMarks s (withQueue (s .marks) first jobs)
 
 -- ---- the table
 
@@ -124,24 +124,24 @@ pub record OutOfOrder : Type 0 where
   -- "not all cards have arrived"
   pub all-arrived : BreaksOnly 10 (marked plain (0 ∷ 0 ∷ []) (0 ∷ 1 ∷ 1 ∷ []))
   -- L1, "only present cards in lines": of limits of three, processor 3 is absent and waits, or has a turn
-  pub absent-waits : Breaks threeOfEach 2 (queued (marked twoOpened (1 ∷ 0 ∷ []) (0 ∷ 0 ∷ 0 ∷ 0 ∷ [])) (0 ∷ 0 ∷ 0 ∷ 1 ∷ []) (0 ∷ 0 ∷ 0 ∷ 0 ∷ []))
-  pub absent-turn : Breaks threeOfEach 2 (queued twoOpened (0 ∷ 0 ∷ 0 ∷ 0 ∷ []) (0 ∷ 0 ∷ 0 ∷ 1 ∷ []))
+  pub absent-waits : Breaks threeOfEach 2 (lined (marked twoOpened (1 ∷ 0 ∷ []) (0 ∷ 0 ∷ 0 ∷ 0 ∷ [])) (0 ∷ 0 ∷ 0 ∷ 1 ∷ []) (0 ∷ 0 ∷ 0 ∷ 0 ∷ []))
+  pub absent-turn : Breaks threeOfEach 2 (lined twoOpened (0 ∷ 0 ∷ 0 ∷ 0 ∷ []) (0 ∷ 0 ∷ 0 ∷ 1 ∷ []))
   -- L4: processor 3 is absent and has added to a tally
   pub absent-adds : Breaks threeOfEach 2 (withShared twoOpened (record { posted = 0 ∷ []; adds = [] ∷ (0 ∷ []) ∷ (0 ∷ []) ∷ (7 ∷ []) ∷ []; values = 0 ∷ 0 ∷ 0 ∷ 0 ∷ [] }))
   -- a line at a present lock, which is held, in which 2 and 3 stand one behind the other, is in order
-  pub line-in-order : inOrder threeOfEach (queued (marked threeOpened (1 ∷ 0 ∷ []) (0 ∷ 0 ∷ 0 ∷ 0 ∷ [])) (0 ∷ 0 ∷ 1 ∷ 1 ∷ []) (0 ∷ 7 ∷ 1 ∷ 0 ∷ [])) ≡ true
+  pub line-in-order : inOrder threeOfEach (lined (marked threeOpened (1 ∷ 0 ∷ []) (0 ∷ 0 ∷ 0 ∷ 0 ∷ [])) (0 ∷ 0 ∷ 1 ∷ 1 ∷ []) (0 ∷ 7 ∷ 1 ∷ 0 ∷ [])) ≡ true
   -- 2 waits for an absent lock
-  pub absent-lock : BreaksLine 0 (queued (marked threeOpened (1 ∷ 0 ∷ []) (0 ∷ 0 ∷ 0 ∷ 0 ∷ [])) (0 ∷ 0 ∷ 2 ∷ 0 ∷ []) (0 ∷ 0 ∷ 0 ∷ 0 ∷ []))
+  pub absent-lock : BreaksLine 0 (lined (marked threeOpened (1 ∷ 0 ∷ []) (0 ∷ 0 ∷ 0 ∷ 0 ∷ [])) (0 ∷ 0 ∷ 2 ∷ 0 ∷ []) (0 ∷ 0 ∷ 0 ∷ 0 ∷ []))
   -- "no line at a free lock"
-  pub free-lock : BreaksWaiter 0 (queued threeOpened (0 ∷ 0 ∷ 1 ∷ 0 ∷ []) (0 ∷ 0 ∷ 0 ∷ 0 ∷ []))
+  pub free-lock : BreaksWaiter 0 (lined threeOpened (0 ∷ 0 ∷ 1 ∷ 0 ∷ []) (0 ∷ 0 ∷ 0 ∷ 0 ∷ []))
   -- "no waiter that ... holds the lock it waits for"
-  pub own-lock : BreaksWaiter 1 (queued (marked threeOpened (2 ∷ 0 ∷ []) (0 ∷ 0 ∷ 0 ∷ 0 ∷ [])) (0 ∷ 0 ∷ 1 ∷ 0 ∷ []) (0 ∷ 0 ∷ 0 ∷ 0 ∷ []))
+  pub own-lock : BreaksWaiter 1 (lined (marked threeOpened (2 ∷ 0 ∷ []) (0 ∷ 0 ∷ 0 ∷ 0 ∷ [])) (0 ∷ 0 ∷ 1 ∷ 0 ∷ []) (0 ∷ 0 ∷ 0 ∷ 0 ∷ []))
   -- "no waiter that has arrived"
-  pub arrived-waits : BreaksWaiter 2 (queued (marked threeOpened (1 ∷ 0 ∷ []) (0 ∷ 0 ∷ 1 ∷ 0 ∷ [])) (0 ∷ 0 ∷ 1 ∷ 0 ∷ []) (0 ∷ 0 ∷ 0 ∷ 0 ∷ []))
+  pub arrived-waits : BreaksWaiter 2 (lined (marked threeOpened (1 ∷ 0 ∷ []) (0 ∷ 0 ∷ 1 ∷ 0 ∷ [])) (0 ∷ 0 ∷ 1 ∷ 0 ∷ []) (0 ∷ 0 ∷ 0 ∷ 0 ∷ []))
   -- a turn that nobody before it accounts for
-  pub gap : BreaksWaiter 3 (queued (marked threeOpened (1 ∷ 0 ∷ []) (0 ∷ 0 ∷ 0 ∷ 0 ∷ [])) (0 ∷ 0 ∷ 1 ∷ 0 ∷ []) (0 ∷ 0 ∷ 1 ∷ 0 ∷ []))
+  pub gap : BreaksWaiter 3 (lined (marked threeOpened (1 ∷ 0 ∷ []) (0 ∷ 0 ∷ 0 ∷ 0 ∷ [])) (0 ∷ 0 ∷ 1 ∷ 0 ∷ []) (0 ∷ 0 ∷ 1 ∷ 0 ∷ []))
   -- two at one place
-  pub same-place : BreaksLine 2 (queued (marked threeOpened (1 ∷ 0 ∷ []) (0 ∷ 0 ∷ 0 ∷ 0 ∷ [])) (0 ∷ 0 ∷ 1 ∷ 1 ∷ []) (0 ∷ 0 ∷ 0 ∷ 0 ∷ []))
+  pub same-place : BreaksLine 2 (lined (marked threeOpened (1 ∷ 0 ∷ []) (0 ∷ 0 ∷ 0 ∷ 0 ∷ [])) (0 ∷ 0 ∷ 1 ∷ 1 ∷ []) (0 ∷ 0 ∷ 0 ∷ 0 ∷ []))
   -- L7: "a state that has an arrived card holding a lock"
   pub arrived-holds : BreaksOnly 12 (marked plain (1 ∷ 0 ∷ []) (0 ∷ 1 ∷ 0 ∷ []))
   -- L9, "at most 32 jobs", here 4: all places full are in order, one job more is not, nor is a place behind the ring
@@ -150,6 +150,8 @@ pub record OutOfOrder : Type 0 where
   pub no-such-place : BreaksOnly 13 (waitingJobs plain 4 1)
   -- "and their clocks keep the bound": a job knows an interval that 2 has not made
   pub job-entry : BreaksOnly 4 (known (waitingJobs plain 0 1) (Job 0) (0 ∷ 1 ∷ []))
+  -- a place that holds no job keeps it too
+  pub free-place-entry : BreaksOnly 4 (known plain (Job 3) (0 ∷ 1 ∷ []))
   -- row 1 of the table of refusals stands above the others: kind 7, processor 9, object 99
   pub row-1 : answer twoOfEach (marked plain (0 ∷ 0 ∷ []) (0 ∷ 1 ∷ 1 ∷ [])) (stepOf 7 9 99 0) ≡ refusedAs 1
 
@@ -190,5 +192,6 @@ each-condition-counts =
       too-many-jobs = record { out = refl; alone = refl };
       no-such-place = record { out = refl; alone = refl };
       job-entry = record { out = refl; alone = refl };
+      free-place-entry = record { out = refl; alone = refl };
       row-1 = refl;
     }

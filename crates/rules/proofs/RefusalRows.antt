@@ -9,7 +9,7 @@ use Rattle.rules.specs.Refusals.{Step, stepOf}
 use Rattle.rules.specs.Runs.{answers, answersInOrder}
 use Rattle.rules.proofs.inorder.OpenedInOrder.{opened-in-order}
 use Rattle.rules.proofs.InOrderRuns.{answers-in-order}
-use Rattle.rules.proofs.runs.Listing.{reads, writes, acquires, releases, arrives, wants, start, answering}
+use Rattle.rules.proofs.runs.Listing.{reads, writes, acquires, releases, arrives, wants, enqueues, dequeues, start, answering}
 use Rattle.rules.proofs.runs.FromStart.{answers-from-start}
 use Rattle.rules.proofs.runs.StoredCases.{accepted}
 
@@ -92,3 +92,30 @@ unfolding countsInRange inRange tight
 nine-before-ten =
     answers-in-order tight (opened tight (record { processors = 2; pages = 2; locks = 1 })) noSpace (opened-in-order tight (record { processors = 2; pages = 2; locks = 1 }) refl)
     ∙ computed-space
+
+-- limits with room for one job
+unfoldable pub roomForOneJob : Limits
+roomForOneJob = record { processors = 2; pages = 1; words = 1; locks = 1; records = 1; intervals = 1; tallies = 1; jobs = 1 }
+
+-- The queue is empty: 3 dequeues (rows 4, 20), 1 with a value and with an object (5, 20), 1 rightly (20); 1 takes lock 0, 2 waits for it and dequeues (17, 20).
+-- 1 adds a job, and the queue is full: 2 enqueues (17, 19), 1 (19), 3 (4, 19), 1 with an object (5, 19), 1 with kind 12 (3). 1 frees the lock, arrives and
+-- enqueues (6, 19); 2 has the job, 1 dequeues (6, 20), 2 dequeues (20)
+unfoldable pub queueRows : List Step
+queueRows =
+    dequeues 3 ∷ stepOf 11 1 0 3 ∷ stepOf 11 1 1 0 ∷ dequeues 1 ∷ acquires 1 0 ∷ acquires 2 0 ∷ dequeues 2 ∷ enqueues 1 7 ∷ enqueues 2 8 ∷ enqueues 1 8 ∷ enqueues 3 8 ∷ stepOf 10 1 1 8
+    ∷ stepOf 12 1 0 0 ∷ releases 1 0 ∷ arrives 1 ∷ enqueues 1 8 ∷ dequeues 2 ∷ dequeues 1 ∷ dequeues 2 ∷ []
+
+computed-queue : answersInOrder roomForOneJob (opened roomForOneJob (record { processors = 2; pages = 1; locks = 1 })) queueRows
+    ≡ answering 4 0 0 ∷ answering 5 0 0 ∷ answering 5 0 0 ∷ answering 20 0 0 ∷ accepted ∷ accepted ∷ answering 17 0 0 ∷ accepted ∷ answering 17 0 0 ∷ answering 19 0 0 ∷ answering 4 0 0
+    ∷ answering 5 0 0 ∷ answering 3 0 0 ∷ accepted ∷ accepted ∷ answering 6 0 0 ∷ answering 0 7 0 ∷ answering 6 0 0 ∷ answering 20 0 0 ∷ []
+unfolding start roomForOneJob queueRows stepOf
+computed-queue = refl
+
+-- L9: "19, enqueue with 32 jobs waiting; 20, dequeue with none; both after 18": below every row for steps of their kinds; 18 is for arrivals alone
+pub queue-refused : answers roomForOneJob (opened roomForOneJob (record { processors = 2; pages = 1; locks = 1 })) queueRows
+    ≡ answering 4 0 0 ∷ answering 5 0 0 ∷ answering 5 0 0 ∷ answering 20 0 0 ∷ accepted ∷ accepted ∷ answering 17 0 0 ∷ accepted ∷ answering 17 0 0 ∷ answering 19 0 0 ∷ answering 4 0 0
+    ∷ answering 5 0 0 ∷ answering 3 0 0 ∷ accepted ∷ accepted ∷ answering 6 0 0 ∷ answering 0 7 0 ∷ answering 6 0 0 ∷ answering 20 0 0 ∷ []
+unfolding countsInRange inRange roomForOneJob
+queue-refused =
+    answers-in-order roomForOneJob (opened roomForOneJob (record { processors = 2; pages = 1; locks = 1 })) queueRows (opened-in-order roomForOneJob (record { processors = 2; pages = 1; locks = 1 }) refl)
+    ∙ computed-queue

@@ -1,5 +1,5 @@
 -- Document 01, "the first that applies is given, and only then": a step is accepted exactly when no row of the table of refusals applies to it, and
--- when 3, 7, 17 and 18 are given, and 5 for a tally. For 9 and 10 see Space. Rests on Accepted and Outside. Assumes nothing.
+-- when 3, 7, 17 and 18 are given, and 5 for a tally. For 9 and 10 see Space, for 19 and 20 QueueSpace. Rests on Accepted and Outside. Assumes nothing.
 use Prim.Native.Nat.{ℕ, _+_, _≤_}
 use native.Mathlib.Omega.{arith}
 use mathlib.Core.Path.{_≡_, refl, sym, ap, _∙_}
@@ -28,15 +28,15 @@ module _ (lim : Limits) (s : State) (t : Step) where
   addressed-refusal h = rw (h .known-kind, h .processor-present, h .fields-fit, h .not-arrived)
 
   -- the rows by kind
-  coming-refusal : Comes lim s t → refusalInOrder lim s t ≡ lateRefusal lim s (own s (t .processor)) (t .processor) (actionOf t)
+  pub coming-refusal : Comes lim s t → refusalInOrder lim s t ≡ lateRefusal lim s (own s (t .processor)) (t .processor) (actionOf t)
   coming-refusal h = addressed-refusal (h .addressed) ∙ rw (h .not-waiting)
 
   -- the rows by kind give neither 17 nor a row above 7
-  record ByKind (n : ℕ) : Type 0 where
-    not-17 : n ≡ 17 → ⊥
-    from-7 : 1 ≤ n → 7 ≤ n
+  pub record ByKind (n : ℕ) : Type 0 where
+    pub not-17 : n ≡ 17 → ⊥
+    pub from-7 : 1 ≤ n → 7 ≤ n
 
-  late-by-kind : (e p : ℕ) (a : Action) → ByKind (lateRefusal lim s e p a)
+  pub late-by-kind : (e p : ℕ) (a : Action) → ByKind (lateRefusal lim s e p a)
   unfolding lateRefusal
   late-by-kind e p (Read w) = record { not-17 = λ z. omega (arith, z); from-7 = λ z. omega (arith, z) }
   late-by-kind e p (Write w v) = go (dirtyAt (s .pages) p (pageOfWord lim w)) (eqb e (lim .intervals)) (eqb (s .records .standing + dirtyPages s) (lim .records))
@@ -76,6 +76,22 @@ module _ (lim : Limits) (s : State) (t : Step) where
       go false = record { not-17 = λ z. omega (arith, z); from-7 = λ z. omega (arith, z) }
   late-by-kind e p Unknown = record { not-17 = λ z. omega (arith, z); from-7 = λ z. omega (arith, z) }
 
+  -- where another number than theirs is given, none of the rows for every step applies
+  pub late-rows-come : (n : ℕ) → 7 ≤ n → (n ≡ 17 → ⊥) → refusalInOrder lim s t ≡ n → Comes lim s t
+  unfolding refusalInOrder refusalBy
+  late-rows-come n late other = go (knownKind (t .kind)) (present s (t .processor)) (fits lim s t) (hasArrived s (t .processor)) (waits (s .marks) (t .processor)) refl refl refl refl refl
+    where
+      go : (a b c d w : Bool) → knownKind (t .kind) ≡ a → present s (t .processor) ≡ b → fits lim s t ≡ c → hasArrived s (t .processor) ≡ d → waits (s .marks) (t .processor) ≡ w
+          → cond (not a) 3 (cond (not b) 4 (cond (not c) 5 (cond d 6 (cond w 17 (lateRefusal lim s (own s (t .processor)) (t .processor) (actionOf t)))))) ≡ n
+          → Comes lim s t
+      go false b c d w h₃ h₄ h₅ h₆ h₁₇ e = absurd (omega (arith, e, late))
+      go true false c d w h₃ h₄ h₅ h₆ h₁₇ e = absurd (omega (arith, e, late))
+      go true true false d w h₃ h₄ h₅ h₆ h₁₇ e = absurd (omega (arith, e, late))
+      go true true true true w h₃ h₄ h₅ h₆ h₁₇ e = absurd (omega (arith, e, late))
+      go true true true false true h₃ h₄ h₅ h₆ h₁₇ e = absurd (other (sym e))
+      go true true true false false h₃ h₄ h₅ h₆ h₁₇ e =
+          record { addressed = record { known-kind = h₃; processor-present = h₄; fields-fit = h₅; not-arrived = h₆ }; not-waiting = h₁₇ }
+
   -- 3 is given exactly where the kind is not known
   pub three-exactly-when : refusalInOrder lim s t ≡ 3 ↔ knownKind (t .kind) ≡ false
   unfolding refusalInOrder refusalBy
@@ -109,6 +125,15 @@ module _ (lim : Limits) (s : State) (t : Step) where
       go true d = (λ e. eqb-true (holder s l) (t .processor) d, λ e. refl)
       go false d = (λ e. absurd (omega (arith, e)), λ e. absurd (eqb-false (holder s l) (t .processor) d e))
 
+-- so a known kind is never refused with 3
+pub known-never-3 : (lim : Limits) (s : State) (t : Step) → knownKind (t .kind) ≡ true → refusal lim s t ≡ 3 → ⊥
+unfolding refusal
+known-never-3 lim s t known = go (inOrder lim s)
+  where
+    go : (o : Bool) → _≡_ {A = ℕ} (cond o (refusalInOrder lim s t) 1) 3 → ⊥
+    go true e = false≢true (sym (three-exactly-when lim s t .0 e) ∙ known)
+    go false e = omega (arith, e)
+
 -- ---- tallies: "an absent tally is 5, and kinds 8 and 9 leave the reach of 3"
 
 -- the kinds of the tallies are known
@@ -130,12 +155,7 @@ module _ (lim : Limits) (s : State) (t : Step) (tally : (t .kind ≡ 8) ⊎ (t .
       rw (ordered, tallies-known (t .kind) tally, here, tally-bound lim s t tally, le-ltb (t .object) (lim .tallies) absent)
 
   pub tally-never-3 : refusal lim s t ≡ 3 → ⊥
-  unfolding refusal
-  tally-never-3 = go (inOrder lim s)
-    where
-      go : (o : Bool) → _≡_ {A = ℕ} (cond o (refusalInOrder lim s t) 1) 3 → ⊥
-      go true e = false≢true (sym (three-exactly-when lim s t .0 e) ∙ tallies-known (t .kind) tally)
-      go false e = omega (arith, e)
+  tally-never-3 = known-never-3 lim s t (tallies-known (t .kind) tally)
 
 -- ---- who holds a lock
 

@@ -18,7 +18,7 @@ use Rattle.rules.specs.State.{Limits, mainframe, Record, State}
 use Rattle.rules.specs.Fetch.{due, replaced, unreplaced, skipped, wordsIn, applying, fetchCount, fetchWords}
 use Rattle.rules.specs.InOrder.{inOrder, inRange, countsInRange}
 use Rattle.rules.specs.Opening.{Opening, openingRefusal, opened}
-use Rattle.rules.specs.Steps.{read, write, atBarrier, allArrived, roundDone, noneFetched, pagesFetched, allFetched, collected, arrive}
+use Rattle.rules.specs.Steps.{read, write, atBarrier, allArrived, roundDone, noneFetched, pagesFetched, allFetched, collected, arrive, dequeue}
 use Rattle.rules.specs.Refusals.{Step, Arrive, actionOf, effect, refusalInOrder, refusal, refusedAs, acceptedAs, answerInOrder, answer}
 use Rattle.rules.specs.Runs.{answers, wordsMoved, answersInOrder}
 use Rattle.rules.specs.Moved.{BringsNothing, ArrivalBrings, StepsMove, EffectsTold}
@@ -120,6 +120,8 @@ steps-move lim s p =
       by-want = record { count = refl; words = refl };
       by-add = λ t v. record { count = refl; words = refl };
       by-total = λ t. record { count = refl; words = refl };
+      by-enqueue = λ v. record { count = refl; words = refl };
+      by-dequeue = unfold dequeue in record { count = refl; words = refl };
     }
 
 -- a refused step moves none

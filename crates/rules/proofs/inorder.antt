@@ -23,5 +23,6 @@ pub mod KeptFetch
 pub mod KeptLocks
 pub mod KeptBarrier
 pub mod KeptQueue
+pub mod OwnEntries
 pub mod Kept
 pub mod Standing

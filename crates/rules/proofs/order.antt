@@ -12,9 +12,12 @@ pub mod Grants
 pub mod Served
 pub mod Rounds
 pub mod TalliesAfter
+pub mod QueueAfter
 pub mod NumbersAfter
 pub mod Numbers
 pub mod Carrying
 pub mod Ring
 pub mod Jobs
+pub mod JobClocks
+pub mod QueueList
 pub mod NumbersFollow

@@ -2,6 +2,7 @@
 use Prim.Native.Nat.{ℕ, zero, suc, _<_}
 use mathlib.Core.Path.{_≡_}
 use mathlib.Core.List.{List, [], _∷_, _++_}
+use lib.ListN.{replicate}
 use Rattle.limits.specs.Limits.{wordValues, intervalLimit}
 use Rattle.rules.specs.State.{Counts}
 use Rattle.rules.specs.Refusals.{Step, Answer}
@@ -32,6 +33,12 @@ adds p t v = record { kind = 8; processor = p; object = t; value = v }
 
 abbrev pub totals : ℕ → ℕ → Step
 totals p t = record { kind = 9; processor = p; object = t; value = 0 }
+
+abbrev pub enqueues : ℕ → ℕ → Step
+enqueues p v = record { kind = 10; processor = p; object = 0; value = v }
+
+abbrev pub dequeues : ℕ → Step
+dequeues p = record { kind = 11; processor = p; object = 0; value = 0 }
 
 -- ---- openings and answers
 
@@ -122,3 +129,56 @@ unfoldable pub twoPagesFigures : List Figures
 twoPagesFigures =
     figures 0 0 1 ∷ figures 0 0 1 ∷ figures 0 0 2 ∷ figures 0 0 2 ∷ figures 0 2 0 ∷ figures 17 2 0 ∷ figures 0 2 0 ∷ figures 0 2 0 ∷ figures 0 2 1 ∷ figures 0 3 0
     ∷ figures 0 3 0 ∷ figures 6 3 0 ∷ figures 0 0 0 ∷ figures 0 0 1 ∷ []
+
+-- ---- L9: the queue
+
+-- "An enqueue precedes .. the dequeue that returns its job": with 1's job its store comes to 2, and not to 3; a second dequeue finds no job
+unfoldable pub oneJob : List Step
+oneJob = writes 1 0 5 ∷ enqueues 1 77 ∷ dequeues 2 ∷ reads 2 0 ∷ reads 3 0 ∷ dequeues 2 ∷ []
+
+unfoldable pub oneJobAnswers : List Answer
+oneJobAnswers = accepted ∷ accepted ∷ answering 0 77 0 ∷ answering 0 5 1 ∷ accepted ∷ answering 20 0 0 ∷ []
+
+-- "and of itself no other": 3 removes 1's job, and 2 the one that 3 added before; 2 hears nothing of 1's store
+unfoldable pub noOtherJob : List Step
+noOtherJob = writes 1 0 5 ∷ enqueues 1 1 ∷ enqueues 3 2 ∷ dequeues 3 ∷ dequeues 2 ∷ reads 2 0 ∷ []
+
+unfoldable pub noOtherJobAnswers : List Answer
+noOtherJobAnswers = accepted ∷ accepted ∷ accepted ∷ answering 0 1 0 ∷ answering 0 2 0 ∷ accepted ∷ []
+
+-- "A collecting round sets the clocks of queued jobs to zeros": 2 stores after the round and dequeues the job; its record is not lost on 1
+unfoldable pub collectedJob : List Step
+collectedJob =
+    writes 1 0 5 ∷ enqueues 1 1 ∷ wants 1 ∷ arrives 1 ∷ arrives 2 ∷ writes 2 0 6 ∷ dequeues 2 ∷ acquires 2 0 ∷ releases 2 0 ∷ acquires 1 0 ∷ reads 1 0 ∷ dequeues 1 ∷ []
+
+unfoldable pub collectedJobAnswers : List Answer
+collectedJobAnswers =
+    accepted ∷ accepted ∷ accepted ∷ accepted ∷ answering 0 0 1 ∷ accepted ∷ answering 0 1 0 ∷ accepted ∷ accepted ∷ accepted ∷ answering 0 6 1 ∷ answering 20 0 0 ∷ []
+
+-- n jobs of processor p, with the values from v on
+unfoldable pub jobsFrom : ℕ → ℕ → ℕ → List Step
+jobsFrom p v zero = []
+jobsFrom p v (suc n) = enqueues p v ∷ jobsFrom p (suc v) n
+
+-- the answers of n dequeues that return these values
+unfoldable pub valuesFrom : ℕ → ℕ → List Answer
+valuesFrom v zero = []
+valuesFrom v (suc n) = answering 0 v 0 ∷ valuesFrom (suc v) n
+
+-- "One queue holds up to 32 jobs, first in first out, and space is used again after each removal": 1 adds 32 jobs, and one more; 2 removes two; 1 adds two,
+-- and one more; 2 removes them all, and one more
+unfoldable pub fullTwice : List Step
+unfolding repeated jobsFrom
+fullTwice = jobsFrom 1 100 33 ++ repeated 2 (dequeues 2 ∷ []) ++ jobsFrom 1 132 3 ++ repeated 33 (dequeues 2 ∷ [])
+
+unfoldable pub fullTwiceAnswers : List Answer
+unfolding valuesFrom
+fullTwiceAnswers =
+    replicate 32 accepted ++ answering 19 0 0 ∷ valuesFrom 100 2 ++ accepted ∷ accepted ∷ answering 19 0 0 ∷ valuesFrom 102 32 ++ answering 20 0 0 ∷ []
+
+-- "The forecast covers both kinds": both close, and a refused one changes nothing
+unfoldable pub jobsForecast : List Step
+jobsForecast = writes 1 0 5 ∷ enqueues 1 77 ∷ writes 2 1 5 ∷ dequeues 2 ∷ dequeues 2 ∷ arrives 1 ∷ enqueues 1 1 ∷ []
+
+unfoldable pub jobsFigures : List Figures
+jobsFigures = figures 0 0 1 ∷ figures 0 1 0 ∷ figures 0 1 1 ∷ figures 0 2 0 ∷ figures 20 2 0 ∷ figures 0 2 0 ∷ figures 6 2 0 ∷ []

@@ -1,18 +1,18 @@
 -- Document 02, L8, "Space forecast": what a forecast keeps of a state, "no page contents and no values", which refusal it gives a step, and what
 -- an accepted step does to it. Assumes nothing.
-use Prim.Native.Nat.{ℕ, suc, _+_, max, _-_}
+use Prim.Native.Nat.{ℕ, suc, _+_, max}
 use mathlib.Core.Bool.{cond}
 use mathlib.Core.List.{List, [], _∷_, map}
 use lib.ListN.{getD, replicate}
 use lib.Dec.{eqb}
 use Rattle.lists.specs.Tables.{put, putCell, total}
-use Rattle.rules.specs.State.{Limits, Counts, dirtyAt, Marks, withArrived, withWanted, State, withQueue}
+use Rattle.rules.specs.State.{Limits, Counts, dirtyAt, Marks, withArrived, withWanted, State}
 use Rattle.rules.specs.InOrder.{dirtyPages}
 use Rattle.rules.specs.Lines.{lockAsked, lockHanded}
 use Rattle.rules.specs.Opening.{zeroPages, zeroMarks}
 use Rattle.rules.specs.Close.{anyDirty, cleaned}
-use Rattle.rules.specs.Steps.{pageOfWord, allArrived, wantsCollection, placeBehind}
-use Rattle.rules.specs.Refusals.{Step, Action, Read, Write, Acquire, Release, Arrive, Want, TallyAdd, TallyRead, Unknown, actionOf, refusalBy, answer, next, Enqueue, Dequeue}
+use Rattle.rules.specs.Steps.{pageOfWord, allArrived, wantsCollection, withNewJob, withoutOldest}
+use Rattle.rules.specs.Refusals.{Step, Action, Read, Write, Acquire, Release, Arrive, Want, TallyAdd, TallyRead, Enqueue, Dequeue, Unknown, actionOf, refusalBy, answer, next}
 
 -- the counts, the own entry of each processor (by its number), which pages are dirty, how many records stand, and the marks
 pub record Forecast : Type 0 where
@@ -22,7 +22,7 @@ pub record Forecast : Type 0 where
   pub standing : ℕ
   pub marks : Marks
 
--- a state of which only these are known: no clock, no page, no record and no tally has anything in it
+-- a state of which only these are known: no clock, no page, no record, no tally and no job has anything in it
 unfoldable pub bare : Forecast → State
 bare f =
     record {
@@ -103,8 +103,8 @@ forecastAfter lim f p Arrive = completedFor (barrierFor (closedFor f p) p)
 forecastAfter lim f p Want = marksFor f (withWanted (f .marks) (cond (wantsCollection (bare f)) (f .marks .wanted) 1))
 forecastAfter lim f p (TallyAdd t v) = f
 forecastAfter lim f p (TallyRead t) = f
-forecastAfter lim f p (Enqueue v) = let f₁ = closedFor f p in marksFor f₁ (withQueue (f₁ .marks) (f₁ .marks .first) (f₁ .marks .jobs + 1))
-forecastAfter lim f p Dequeue = let f₁ = closedFor f p in marksFor f₁ (withQueue (f₁ .marks) (placeBehind lim (f₁ .marks .first)) (f₁ .marks .jobs - 1))
+forecastAfter lim f p (Enqueue v) = let f₁ = closedFor f p in marksFor f₁ (withNewJob (f₁ .marks))
+forecastAfter lim f p Dequeue = let f₁ = closedFor f p in marksFor f₁ (withoutOldest lim (f₁ .marks))
 forecastAfter lim f p Unknown = f
 
 -- what a step leaves, refused or not

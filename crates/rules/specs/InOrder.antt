@@ -227,9 +227,10 @@ linesSound s =
 unfoldable pub holdersAway : Limits → State → Bool
 holdersAway lim s = every (lim .locks) (λ l. eqb (holder s l) 0 || not (hasArrived s (holder s l)))
 
--- ---- L9: "A state in order has at most 32 jobs, and their clocks keep the bound of every clock" (`entriesKnown`, over every place of the queue)
+-- ---- L9: "A state in order has at most 32 jobs, and their clocks keep the bound of every clock": for the clocks see `entriesKnown`, which holds
+-- of every place of the queue
 
--- the oldest job has a place of the queue, if the queue has any, and there are no more jobs than places
+-- the oldest job has one of its places, if it has any, and there are no more jobs than places
 unfoldable pub queueSound : Limits → State → Bool
 queueSound lim s = (eqb (lim .jobs) 0 || ltb (s .marks .first) (lim .jobs)) && leb (s .marks .jobs) (lim .jobs)
 

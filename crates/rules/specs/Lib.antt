@@ -14,6 +14,7 @@ pub mod Demand
 pub mod Noted
 pub mod Waiting
 pub mod TallyTotals
+pub mod Jobs
 pub mod Moved
 pub mod LocksFree
 pub mod Forecast

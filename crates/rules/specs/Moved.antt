@@ -13,7 +13,7 @@ use Rattle.rules.specs.State.{Limits, mainframe, Counts, Record, State}
 use Rattle.rules.specs.Opening.{opened}
 use Rattle.rules.specs.Fetch.{appliedAll, isSet, anySets, replaced, unreplaced, skipped, fetchCount, fetchWords}
 use Rattle.rules.specs.Steps.{Effect, pageOfWord, atBarrier, allArrived, roundDone, pagesFetched, allFetched, wantsCollection}
-use Rattle.rules.specs.Refusals.{Step, Action, Read, Write, Acquire, Release, Arrive, Want, TallyAdd, TallyRead, Answer, acceptedAs, refusedAs, effect}
+use Rattle.rules.specs.Refusals.{Step, Action, Read, Write, Acquire, Release, Arrive, Want, TallyAdd, TallyRead, Enqueue, Dequeue, Answer, acceptedAs, refusedAs, effect}
 use Rattle.rules.specs.Runs.{stateAfter}
 use Rattle.rules.specs.Order.{events, eventAt, Took}
 
@@ -73,6 +73,8 @@ pub record StepsMove (lim : Limits) (s : State) (p : ℕ) : Type 0 where
   pub by-want : BringsNothing (effect lim s p Want)
   pub by-add : (t v : ℕ) → BringsNothing (effect lim s p (TallyAdd t v))
   pub by-total : (t : ℕ) → BringsNothing (effect lim s p (TallyRead t))
+  pub by-enqueue : (v : ℕ) → BringsNothing (effect lim s p (Enqueue v))
+  pub by-dequeue : BringsNothing (effect lim s p Dequeue)
 
 -- ---- what answers tell of it
 

@@ -41,7 +41,7 @@ pub record Outline : Type 0 where
 unfoldable pub outline : State → Outline
 outline s = record { counts = s .counts; clocks = s .clocks; dirty = s .pages .dirty; standing = s .records .standing; marks = s .marks }
 
--- a step without the value that its kind uses: what it stores, or adds to a tally
+-- a step without the value that its kind uses: what it stores, adds to a tally or enqueues
 unfoldable pub withoutValue : Step → Step
 withoutValue t = record { kind = t .kind; processor = t .processor; object = t .object; value = cond (usesValue (t .kind)) 0 (t .value) }
 

@@ -87,7 +87,7 @@ isEnqueue e = e .accepted && eqb (e .step .kind) 10
 unfoldable pub isDequeue : Event → Bool
 isDequeue e = e .accepted && eqb (e .step .kind) 11
 
--- "the dequeue that returns its job": the queue is first in, first out and empty at the opening, so the dequeue that has m others before it returns the
+-- "the dequeue that returns its job": the queue is "first in first out" and empty at the opening, so the dequeue that has m others before it returns the
 -- job of the enqueue that has m others before it
 pub record Returns (es : List Event) (i p v j q : ℕ) : Type 0 where
   pub enqueue : Took es i p (Enqueue v)

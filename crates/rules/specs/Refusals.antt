@@ -1,4 +1,4 @@
--- Document 01, "Where each refusal is checked", rows 1 to 10 for a step, with document 02's row 17, and what a step does and answers. Assumes nothing.
+-- Document 01, "Where each refusal is checked", rows 1 to 10 for a step, with document 02's rows 17 to 20, and what a step does and answers. Assumes nothing.
 use Prim.Native.Nat.{ℕ, _+_, _*_}
 use mathlib.Core.Bool.{Bool, cond, not, _&&_, _||_}
 use lib.Dec.{leb, ltb, eqb}
@@ -8,7 +8,7 @@ use Rattle.rules.specs.Lines.{waits}
 use Rattle.rules.specs.InOrder.{present, dirtyPages, inOrder}
 use Rattle.rules.specs.Steps.{Effect, silent, pageOfWord, read, write, acquire, release, arrive, want, tallyAdd, tallyRead, enqueue, dequeue}
 
--- a step's four fields, any numbers: kind, processor, object (a word or a lock) and value
+-- a step's four fields, any numbers: kind, processor, object (a word, a lock or a tally) and value
 pub record Step : Type 0 where
   pub kind : ℕ
   pub processor : ℕ
@@ -19,7 +19,7 @@ pub record Step : Type 0 where
 unfoldable pub stepOf : ℕ → ℕ → ℕ → ℕ → Step
 stepOf kind processor object value = record { kind = kind; processor = processor; object = object; value = value }
 
--- the six kinds of step with the fields that each uses
+-- the kinds of step with the fields that each uses
 pub data Action : Type 0 where
   Read : ℕ → Action
   Write : ℕ → ℕ → Action
@@ -52,7 +52,7 @@ actionOf t =
 unfoldable pub knownKind : ℕ → Bool
 knownKind kind = (leb 1 kind && leb kind 6) || (leb 8 kind && leb kind 11)
 
--- the fields of a kind, a row a kind: the object is below this number, which is 1 where no object is used
+-- the fields of a kind, a row a kind: the object is below this number, which is 1 where no object is used. L9: "The object of both kinds is 0"
 unfoldable pub objectBound : Limits → State → Action → ℕ
 objectBound lim s (Read w) = s .counts .pages * lim .words
 objectBound lim s (Write w v) = s .counts .pages * lim .words
@@ -66,7 +66,7 @@ objectBound lim s (Enqueue v) = 1
 objectBound lim s Dequeue = 1
 objectBound lim s Unknown = 1
 
--- "value is used by kind 2 alone", and by L4's kind 8
+-- "value is used by kind 2 alone", by L4's kind 8 and by L9's kind 10: "kind 11 has no value field in use"
 unfoldable pub usesValue : ℕ → Bool
 usesValue kind = eqb kind 2 || eqb kind 8 || eqb kind 10
 
@@ -79,7 +79,8 @@ unfoldable pub holdsAny : Limits → State → ℕ → Bool
 holdsAny lim s p = any (lim .locks) (λ l. eqb (holder s l) p)
 
 -- 7: "7 remains for the holder's own acquire" (L1); 8: "this card is not the holder"; for a write to a clean page 9: "own entry is 63" and
--- 10: "records plus dirty pages are 128"; L7: "18, an arrival by a holder, after 17"; e is the own entry of processor p
+-- 10: "records plus dirty pages are 128"; L7: "18, an arrival by a holder, after 17"; L9: "19, enqueue with 32 jobs waiting; 20, dequeue with none";
+-- e is the own entry of processor p
 unfoldable pub lateRefusal : Limits → State → ℕ → ℕ → Action → ℕ
 lateRefusal lim s e p (Read w) = 0
 lateRefusal lim s e p (Write w v) =
@@ -97,7 +98,7 @@ lateRefusal lim s e p (Enqueue v) = cond (eqb (s .marks .jobs) (lim .jobs)) 19 0
 lateRefusal lim s e p Dequeue = cond (eqb (s .marks .jobs) 0) 20 0
 lateRefusal lim s e p Unknown = 0
 
--- the rows 3 to 10, for a state in order whose processor has the own entry e; 6: "card has arrived, round not complete"; L1: "17, a step by a
+-- the rows 3 to 10 and 17 to 20, for a state in order whose processor has the own entry e; 6: "card has arrived, round not complete"; L1: "17, a step by a
 -- waiting card, after 6"
 unfoldable pub refusalBy : Limits → State → ℕ → Step → ℕ
 refusalBy lim s e t =

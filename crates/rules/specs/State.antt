@@ -9,7 +9,7 @@ use Rattle.lists.specs.Tables.{put, cell, putCell}
 use Rattle.limits.specs.Limits.{processorLimit, pageLimit, pageWidth, lockLimit, recordLimit, intervalLimit, tallyLimit, jobLimit, slotHead}
 use Rattle.clock.specs.Clocks.{entryOf}
 
--- how many processors, pages, words of a page, locks, records, intervals of a processor and tallies there can be
+-- how many processors, pages, words of a page, locks, records, intervals of a processor, tallies and jobs of the queue there can be
 pub record Limits : Type 0 where
   pub processors : ℕ
   pub pages : ℕ
@@ -20,7 +20,7 @@ pub record Limits : Type 0 where
   pub tallies : ℕ
   pub jobs : ℕ
 
--- those of document 01, with document 02's tallies
+-- those of document 01, with document 02's tallies and queue
 unfoldable pub mainframe : Limits
 mainframe =
     record {
@@ -41,7 +41,7 @@ pub record Counts : Type 0 where
   pub locks : ℕ
 
 -- whoever has a clock: "Each card has a clock, and for each page an applied clock. A lock has a clock. The barrier has a clock. Each
--- interval keeps the clock of its card just after closing"
+-- interval keeps the clock of its card just after closing". L9: a job, by its place in the queue, "the value with the card's clock"
 pub data Holder : Type 0 where
   Processor : ℕ → Holder
   Lock : ℕ → Holder
@@ -140,7 +140,7 @@ appended r new =
 
 -- "A lock has a holder. The barrier has an arrived mark for each card and a mark that collection is wanted". "The lock's record gains its
 -- line of waiters" (document 02, L1), which is kept with those who stand in it, by processor: the lock that it waits for, plus 1, or 0; and
--- its turn, how many of that lock's waiters stand before it. L9: the place of the oldest job of the queue, and how many wait
+-- its turn, how many of that lock's waiters stand before it. The queue (L9): the place of the oldest job, and how many jobs wait
 pub record Marks : Type 0 where
   pub holders : List ℕ
   pub arrived : List ℕ
@@ -166,12 +166,12 @@ withHolder m l p = record { holders = put 0 (m .holders) l p; arrived = m .arriv
 abbrev pub withLines : Marks → List ℕ → List ℕ → Marks
 withLines m a t = record { holders = m .holders; arrived = m .arrived; wanted = m .wanted; awaited = a; turns = t; first = m .first; jobs = m .jobs }
 
--- with another oldest job of the queue, and another number of them
+-- with another place of the oldest job, and another number of jobs
 abbrev pub withQueue : Marks → ℕ → ℕ → Marks
 withQueue m f j = record { holders = m .holders; arrived = m .arrived; wanted = m .wanted; awaited = m .awaited; turns = m .turns; first = f; jobs = j }
 
 -- what the processors share beside the pages. The tallies (document 02, L4): of each "the total posted at the last completed round", and the adds of
--- each processor since. The queue (L9): the value of the job at each of its places
+-- each processor since. The queue (L9): of each of its places the value of the job there
 pub record Shared : Type 0 where
   pub posted : List ℕ
   pub adds : List (List ℕ)
@@ -184,6 +184,14 @@ postedOf h t = getD (h .posted) t 0
 -- what a processor has added to it since
 unfoldable pub addsOf : Shared → ℕ → ℕ → ℕ
 addsOf h p t = cell 0 (h .adds) p t
+
+-- the value of the job at a place of the queue
+abbrev pub jobValue : Shared → ℕ → ℕ
+jobValue h k = getD (h .values) k 0
+
+-- with another value there
+abbrev pub withJobValue : Shared → ℕ → ℕ → Shared
+withJobValue h k v = record { posted = h .posted; adds = h .adds; values = put 0 (h .values) k v }
 
 pub record State : Type 0 where
   pub counts : Counts

@@ -7,7 +7,7 @@ use lib.Dec.{eqb, ltb}
 use Rattle.lists.specs.Tables.{put, putCell, every}
 use Rattle.limits.specs.Limits.{wordValues}
 use Rattle.clock.specs.Clocks.{joined}
-use Rattle.rules.specs.State.{Limits, Holder, Processor, Lock, Barrier, Job, Clocks, clockOf, withClock, cleared, Pages, copyOf, dirtyAt, withArrived, withWanted, withQueue, State, withClocks, withPages, withRecords, withMarks, withShared, holder, hasArrived}
+use Rattle.rules.specs.State.{Limits, Holder, Processor, Lock, Barrier, Job, Clocks, clockOf, withClock, cleared, Pages, copyOf, dirtyAt, Marks, withArrived, withWanted, withQueue, jobValue, withJobValue, State, withClocks, withPages, withRecords, withMarks, withShared, holder, hasArrived}
 use Rattle.rules.specs.Lines.{firstInLine, lockAsked, lockHanded}
 use Rattle.rules.specs.Close.{closed}
 use Rattle.rules.specs.Fetch.{withCopy, fetched, fetchCount, fetchWords}
@@ -20,7 +20,7 @@ pub record Effect : Type 0 where
   pub count : ℕ
   pub words : ℕ
 
--- "Only a read has a value other than 0. Where no count is named it is 0"
+-- "Only a read has a value other than 0", with L4 a read of a tally too and with L9 a dequeue. "Where no count is named it is 0"
 abbrev pub silent : State → Effect
 silent s = record { after = s; value = 0; count = 0; words = 0 }
 
@@ -148,7 +148,7 @@ allFetched lim s (suc k) =
     let h = pagesFetched lim (f .after) (suc k) (s .counts .pages) in
     record { after = h .after; count = f .count + h .count; words = f .words + h .words }
 
--- "all clocks (of cards, applied, of locks, of intervals) become zeros"
+-- "all clocks (of cards, applied, of locks, of intervals) become zeros"; L9: "A collecting round sets the clocks of queued jobs to zeros"
 unfoldable pub allCleared : Clocks → Clocks
 allCleared c =
     record {
@@ -203,28 +203,39 @@ tallyRead s p t = record { after = s; value = tallyTotal (s .shared) p t; count 
 
 -- ---- 10 and 11: the queue (L9). Its places are a ring: "space is used again after each removal"
 
--- the place behind another
+-- the place behind another: behind the last one the first
 unfoldable pub placeBehind : Limits → ℕ → ℕ
 placeBehind lim k = cond (eqb (suc k) (lim .jobs)) 0 (suc k)
 
--- the place for the next job: as far behind the oldest one's as there are jobs
-unfoldable pub freePlace : Limits → State → ℕ
-freePlace lim s =
-    let k = s .marks .first + s .marks .jobs in cond (ltb k (lim .jobs)) k (k - lim .jobs)
+-- the place of the job that has k others before it: k places behind the oldest job's
+abbrev pub placeAt : Limits → State → ℕ → ℕ
+placeAt lim s k = let x = s .marks .first + k in cond (ltb x (lim .jobs)) x (x - lim .jobs)
 
--- "closes the card's interval and adds the value with the card's clock"
+-- the place for the next job: all that wait are before it
+unfoldable pub freePlace : Limits → State → ℕ
+freePlace lim s = placeAt lim s (s .marks .jobs)
+
+-- one job more, behind the others
+abbrev pub withNewJob : Marks → Marks
+withNewJob m = withQueue m (m .first) (m .jobs + 1)
+
+-- the oldest job removed: the next one is the oldest
+abbrev pub withoutOldest : Limits → Marks → Marks
+withoutOldest lim m = withQueue m (placeBehind lim (m .first)) (m .jobs - 1)
+
+-- "Kind 10 closes the card's interval and adds the value with the card's clock"
 unfoldable pub enqueue : Limits → State → ℕ → ℕ → State
 enqueue lim s p v =
     let s₁ = closed s p in
     let k = freePlace lim s₁ in
-    let s₂ = withShared s₁ (record { posted = s₁ .shared .posted; adds = s₁ .shared .adds; values = put 0 (s₁ .shared .values) k (v % wordValues) }) in
+    let s₂ = withShared s₁ (withJobValue (s₁ .shared) k (v % wordValues)) in
     let s₃ = withClocks s₂ (withClock (s₁ .clocks) (Job k) (clockOf (s₁ .clocks) (Processor p))) in
-    withMarks s₃ (withQueue (s₁ .marks) (s₁ .marks .first) (s₁ .marks .jobs + 1))
+    withMarks s₃ (withNewJob (s₁ .marks))
 
--- "closes, removes the oldest job, learns its clock and answers its value"
+-- "kind 11 closes, removes the oldest job, learns its clock and answers its value"
 unfoldable pub dequeue : Limits → State → ℕ → Effect
 dequeue lim s p =
     let s₁ = closed s p in
     let k = s₁ .marks .first in
-    let s₂ = withClocks s₁ (learned (s₁ .clocks) (Processor p) (Job k)) in
-    record { after = withMarks s₂ (withQueue (s₁ .marks) (placeBehind lim k) (s₁ .marks .jobs - 1)); value = getD (s₁ .shared .values) k 0; count = 0; words = 0 }
+    let s₂ = withMarks s₁ (withoutOldest lim (s₁ .marks)) in
+    record { after = withClocks s₂ (learned (s₁ .clocks) (Processor p) (Job k)); value = jobValue (s₁ .shared) k; count = 0; words = 0 }

@@ -1,24 +1,24 @@
 -- What an accepted step does, by its kind: what the steps ask holds, and what they leave is the rules' effect. One law for each way of the
--- code, and `acting-laws`. Assumes nothing.
+-- code; those of the tallies and of the queue are in ActingOnShared. Assumes nothing.
 use Prim.Native.Nat.{ℕ, _*_, _≤_, _<_}
 use native.Mathlib.Omega.{arith}
+use native.Mathlib.Decide.{ℕ-discrete}
 use mathlib.Core.Path.{_≡_, refl, sym, ap, _∙_}
 use mathlib.Core.Bool.{true}
 use mathlib.Core.Logic.{_⊎_, inl, inr}
 use mathlib.Core.List.{List}
 use lib.ListN.{length}
-use borrow.Author.Needs.{needs}
-use Rattle.limits.specs.Limits.{pageWidth, processorLimit, tallyLimit}
+use Rattle.limits.specs.Limits.{pageWidth}
 use Rattle.limits.specs.inner.Sizes.{markArea}
-use Rattle.rules.specs.Refusals.{stepOf, Action, Read, Write, Acquire, Release, Arrive, Want, TallyAdd, TallyRead, actionOf, knownKind, objectBound, effect}
+use Rattle.rules.specs.Refusals.{stepOf, Action, Read, Write, Acquire, Release, Arrive, Want, actionOf, knownKind, objectBound, effect}
 use Rattle.rules.specs.State.{mainframe, State, own}
 use Rattle.rules.specs.Steps.{Effect, read, write, acquire, release, arrive}
 use Rattle.rules.proofs.inorder.Accepted.{Accepted, accepted-says, present-says, object-there, acquire-there, release-there, late-arrive}
 use Rattle.rules.proofs.inorder.Kept.{effect-keeps-order}
 use Rattle.rules.proofs.order.Timeline.{effect-keeps-counts}
-use Rattle.rules.proofs.inorder.KindsOfSteps.{objectIn, known-says, kind-reads, kind-writes, kind-acquires, kind-releases, kind-arrives, kind-wants, kind-adds, kind-totals}
+use Rattle.rules.proofs.inorder.KindsOfSteps.{objectIn, known-says, kind-reads, kind-writes, kind-acquires, kind-releases, kind-arrives, kind-wants}
 use Rattle.rules.proofs.inorder.Standing.{StillStand, still-stand}
-use Rattle.layout.specs.Areas.{sharedIn, stateIn}
+use Rattle.layout.specs.Areas.{stateIn}
 use Rattle.layout.specs.inner.Needed.{Acts, Ready, Holds}
 use Rattle.fetch_index.proofs.Kept.{bounds-stay, kept-while-standing}
 use Rattle.step_collect.specs.inner.Effects.{CountedKept}
@@ -27,33 +27,30 @@ use Rattle.step_access.specs.inner.Needed.{ActsOnWord, AccessesKept}
 use Rattle.step_lock.specs.inner.Needed.{ActsOnLock}
 use Rattle.barrier_marks.specs.inner.Effects.{Wanted}
 use Rattle.step_barrier.specs.inner.Needed.{ArrivesKept}
-use Rattle.rules.specs.Tallies.{tallyTotal}
-use Rattle.step_tally.specs.inner.Needed.{TallyIn}
-use Rattle.step_tally.specs.inner.Effects.{AddDone}
 use Rattle.step_act.specs.declared.Outcome.{Outcome}
 use Rattle.step_act.specs.declared.Outcome.the-variants.{Done}
-use Rattle.step_act.specs.inner.Needed.{Acting, ActingKept, Accessing, AccessingKept, Locking, Meeting, MeetingKept, Tallying, DoneAs, DoneKept, Tallied}
+use Rattle.step_act.specs.inner.Needed.{Acting, ActingKept, Accessing, AccessingKept, Locking, Meeting, MeetingKept, DoneAs, DoneKept}
 use Rattle.step_act.proofs.Telling.{done-tells}
 
 -- ---- the effect of an action that is known
 
-done-by : (e f : Effect) (o : Outcome) (c w r m : List ℕ) → e ≡ f → DoneAs f o c w r m → DoneAs e o c w r m
+pub done-by : (e f : Effect) (o : Outcome) (c w r m : List ℕ) → e ≡ f → DoneAs f o c w r m → DoneAs e o c w r m
 done-by e f o c w r m q d =
     record {
       outcome = rw q (d .outcome);
       areas = record { lent = d .areas .lent; is = d .areas .is ∙ ap (λ (x : Effect). x .after) (sym q) };
     }
 
-done-with : (e : Effect) (x n j : ℕ) (c w r m : List ℕ) → x ≡ e .value → n ≡ e .count → j ≡ e .words → Holds c w r m (e .after) → DoneAs e (Done x n j) c w r m
+pub done-with : (e : Effect) (x n j : ℕ) (c w r m : List ℕ) → x ≡ e .value → n ≡ e .count → j ≡ e .words → Holds c w r m (e .after) → DoneAs e (Done x n j) c w r m
 done-with e x n j c w r m ex en ej h = record { outcome = rw (← ex, ← en, ← ej) (done-tells x n j); areas = h }
 
 -- ---- what the steps ask
 
 module _ (c w r m : List ℕ) (k p o v : ℕ) (h : Acting c w r m k p o v) where
-  accepted : Accepted mainframe (stateIn mainframe c w r m) (stepOf k p o v)
+  pub accepted : Accepted mainframe (stateIn mainframe c w r m) (stepOf k p o v)
   accepted = accepted-says mainframe (stateIn mainframe c w r m) (stepOf k p o v) (h .accepted)
 
-  acts : Acts c w r m p
+  pub acts : Acts c w r m p
   unfolding stepOf
   acts =
       let is = present-says (stateIn mainframe c w r m) p (accepted .processor-present) in
@@ -66,17 +63,26 @@ module _ (c w r m : List ℕ) (k p o v : ℕ) (h : Acting c w r m k p o v) where
   kind-from : 1 ≤ k
   kind-from = go (known-says k kind-known)
     where
-      go : ((1 ≤ k) × (k ≤ 6)) ⊎ ((k ≡ 8) ⊎ (k ≡ 9)) → 1 ≤ k
+      go : ((1 ≤ k) × (k ≤ 6)) ⊎ ((8 ≤ k) × (k ≤ 11)) → 1 ≤ k
       go (inl e) = e .0
-      go (inr (inl e)) = omega (arith, e)
-      go (inr (inr e)) = omega (arith, e)
+      go (inr e) = omega (arith, e .0)
 
-  kind-tallies : 6 < k → (k ≡ 8) ⊎ (k ≡ 9)
-  kind-tallies l = go (known-says k kind-known)
+  -- behind 6 and up to 9 they are the tallies'
+  pub kind-tallies : 6 < k → k ≤ 9 → (k ≡ 8) ⊎ (k ≡ 9)
+  kind-tallies f l = go (known-says k kind-known) (ℕ-discrete k 8)
     where
-      go : ((1 ≤ k) × (k ≤ 6)) ⊎ ((k ≡ 8) ⊎ (k ≡ 9)) → (k ≡ 8) ⊎ (k ≡ 9)
-      go (inl e) = absurd (omega (arith, e .1))
-      go (inr e) = e
+      go : ((1 ≤ k) × (k ≤ 6)) ⊎ ((8 ≤ k) × (k ≤ 11)) → Dec (k ≡ 8) → (k ≡ 8) ⊎ (k ≡ 9)
+      go (inl e) d = absurd (omega (arith, e .1, f))
+      go (inr e) (yes d) = inl d
+      go (inr e) (no d) = inr (omega (arith, e .0, l, d))
+
+  -- no kind is above 11
+  pub kind-last : k ≤ 11
+  kind-last = go (known-says k kind-known)
+    where
+      go : ((1 ≤ k) × (k ≤ 6)) ⊎ ((8 ≤ k) × (k ≤ 11)) → k ≤ 11
+      go (inl e) = omega (arith, e .1)
+      go (inr e) = e .1
 
   on-word : o < stateIn mainframe c w r m .counts .pages * pageWidth → ActsOnWord c w r m p o
   on-word b = record { acts = acts; word = b }
@@ -84,7 +90,7 @@ module _ (c w r m : List ℕ) (k p o v : ℕ) (h : Acting c w r m k p o v) where
   on-lock : o < stateIn mainframe c w r m .counts .locks → ActsOnLock c w r m p o
   on-lock b = record { acts = acts; lock = b }
 
-effect-by : (s : State) (p : ℕ) (a b : Action) → a ≡ b → effect mainframe s p a ≡ effect mainframe s p b
+pub effect-by : (s : State) (p : ℕ) (a b : Action) → a ≡ b → effect mainframe s p a ≡ effect mainframe s p b
 effect-by s p a b e = ap (λ (x : Action). effect mainframe s p x) e
 
 -- ---- read and write
@@ -203,7 +209,7 @@ module _ (c w r m : List ℕ) (k p o v : ℕ) (x : List ℕ) (q : ActingKept c w
   unfolding stepOf
   still = rw (d .areas .is) (still-stand mainframe before (stepOf k p o v) (q .acting .ready .in-order) no-access no-arrival)
 
-  apart-done : DoneKept (effect mainframe (stateIn mainframe c w r m) p (actionOf (stepOf k p o v))) y c′ w′ r′ m′ x
+  pub apart-done : DoneKept (effect mainframe (stateIn mainframe c w r m) p (actionOf (stepOf k p o v))) y c′ w′ r′ m′ x
   apart-done =
       record {
         done = d;
@@ -267,40 +273,6 @@ module _ (c w r m : List ℕ) (k p o v : ℕ) (x : List ℕ) (q : MeetingKept c 
       (done-with f 0 0 0 c w r m′ refl refl refl
       (record { lent = record { clocks = l .clocks; words = l .words; records = l .records; marks = a .marks }; is = a .is c w r }))))
 
--- ---- tallies
-
-module _ (w : List ℕ) (k p o v : ℕ) (h : Tallying w k p o) where
-  -- the tally has its place
-  pub tally-has-place : TallyIn w p o
-  tally-has-place = h .tally
-
-  is-add : (k ≡ 9 → ⊥) → k ≡ 8
-  is-add z = go (h .kinds)
-    where
-      go : (k ≡ 8) ⊎ (k ≡ 9) → k ≡ 8
-      go (inl e) = e
-      go (inr e) = absurd (z e)
-
-  -- an add was done
-  pub add-tallied : (y : Outcome) (w′ : List ℕ) → (k ≡ 9 → ⊥) → AddDone w w′ p o v → y ≡ Done 0 0 0 → Tallied w w′ k p o v y
-  unfolding effect stateIn
-  add-tallied y w′ z a done =
-      record {
-        words = a .words;
-        is = λ c r m. a .is c r m ∙ ap (λ (x : Effect). x .after) (sym (effect-by (stateIn mainframe c w r m) p (actionOf (stepOf k p o v)) (TallyAdd o v) (kind-adds k p o v (is-add z))));
-        outcome = λ c r m. rw (kind-adds k p o v (is-add z), done) (done-tells 0 0 0);
-      }
-
-  -- a total was read
-  pub total-tallied : (x : ℕ) → k ≡ 9 → x ≡ tallyTotal (sharedIn mainframe w) p o → Tallied w w k p o v (Done x 0 0)
-  unfolding effect stateIn
-  total-tallied x nine e =
-      record {
-        words = h .tally .words;
-        is = λ c r m. ap (λ (y : Effect). y .after) (sym (effect-by (stateIn mainframe c w r m) p (actionOf (stepOf k p o v)) (TallyRead o) (kind-totals k p o v nine)));
-        outcome = λ c r m. rw (kind-totals k p o v nine, ← e) (done-tells x 0 0);
-      }
-
 -- ---- the kinds
 
 module _ (c w r m : List ℕ) (k p o v : ℕ) (x : List ℕ) (q : ActingKept c w r m k p o v x) where
@@ -320,30 +292,3 @@ module _ (c w r m : List ℕ) (k p o v : ℕ) (x : List ℕ) (q : ActingKept c w
   -- kinds 5 and 6
   pub meets : 4 < k → k ≤ 6 → MeetingKept c w r m k p o v x
   meets f l = record { meeting = record { acting = q .acting; first = f; last = l }; kept = q .kept }
-
-  -- kinds 8 and 9
-  pub tallies : 6 < k → Tallying w k p o
-  tallies f = record { tally = record { words = q .acting .ready .lent .words; on-tally = record { from = acts c w r m k p o v (q .acting) .from; to = on-machine; tally = below (kind-tallies c w r m k p o v (q .acting) f) } }; kinds = kind-tallies c w r m k p o v (q .acting) f }
-    where
-      on-machine : p ≤ processorLimit
-      on-machine = unfold mainframe in omega (arith, acts c w r m k p o v (q .acting) .to, q .acting .ready .in-order .processors-fit)
-
-      there : (a : Action) → actionOf (stepOf k p o v) ≡ a → objectIn o a < objectBound mainframe (stateIn mainframe c w r m) a
-      there a e = unfold stepOf in object-there mainframe (stateIn mainframe c w r m) (stepOf k p o v) a e (accepted c w r m k p o v (q .acting) .fields-fit)
-
-      below : (k ≡ 8) ⊎ (k ≡ 9) → o < tallyLimit
-      below (inl e) = unfold objectBound objectIn mainframe in there (TallyAdd o v) (kind-adds k p o v e)
-      below (inr e) = unfold objectBound objectIn mainframe in there (TallyRead o) (kind-totals k p o v e)
-
-  -- which keep the index
-  pub tallied-kept : 6 < k → (y : Outcome) (w′ : List ℕ) → Tallied w w′ k p o v y
-      → DoneKept (effect mainframe (stateIn mainframe c w r m) p (actionOf (stepOf k p o v))) y c w′ r m x
-  tallied-kept f y w′ d =
-      let l = q .acting .ready .lent in
-      apart-done c w r m k p o v x q (omega arith) (λ e. omega (arith, e, f)) y c w′ r m
-      (record {
-        outcome = d .outcome c r m;
-        areas = record { lent = record { clocks = l .clocks; words = d .words; records = l .records; marks = l .marks }; is = d .is c r m };
-      })
-
-pub ruleset acting-laws = (read-there, read-done, write-there, write-done, acquire-has-lock, acquire-done, release-has-lock, release-done, arrival-there, arrival-done, wish-there, wish-done, accesses, locks-or-frees, locked-or-freed, meets, tally-has-place, add-tallied, total-tallied, tallies, tallied-kept, needs)

@@ -4,7 +4,7 @@ ghost use mathlib.Core.Path.{_≡_};
 ghost use Rattle.rules.specs.State.{mainframe};
 ghost use Rattle.rules.specs.Refusals.{stepOf, actionOf, effect};
 ghost use Rattle.layout.specs.Areas.{stateIn};
-ghost use Rattle.step_act.specs.inner.Needed.{ActingKept, AccessingKept, Locking, MeetingKept, Tallying, DoneAs, DoneKept, Tallied};
+ghost use Rattle.step_act.specs.inner.Needed.{ActingKept, AccessingKept, Locking, MeetingKept, Tallying, Queueing, DoneAs, DoneKept, Tallied};
 use clock::ProcessorId;
 
 // What a step answers: its value, its count and how many words it moved where it was done, else its refusal.
@@ -37,7 +37,10 @@ pub fn act(
     if kind <= 6 {
         return meet(kind, p, object, value, clocks, words, records, marks, index);
     }
-    tally(kind, p, object, value, words)
+    if kind <= 9 {
+        return tally(kind, p, object, value, words);
+    }
+    queue(kind, p, object, value, clocks, words, records, marks)
 }
 
 // A step that was done, and of which there is nothing else to say.
@@ -145,5 +148,31 @@ fn tally(kind: u32, p: ProcessorId, object: usize, value: u32, words: &mut [u32]
         };
     }
     step_tally::add_to(words, p, object, value);
+    done()
+}
+
+// Kinds 10 and 11: enqueue and dequeue.
+fn queue(
+    kind: u32,
+    p: ProcessorId,
+    object: usize,
+    value: u32,
+    clocks: &mut [u8],
+    words: &mut [u32],
+    records: &mut [u8],
+    marks: &mut [u8],
+) -> Outcome
+    requires { ⌜ Queueing (now clocks) (now words) (now records) (now marks) kind (p .0) object value ⌝ }
+    ensures { λ r. ⌜ DoneAs (effect mainframe (stateIn mainframe (now (clocks .entry)) (now (words .entry)) (now (records .entry)) (now (marks .entry))) (p .0) (actionOf (stepOf kind (p .0) object value))) r (now (clocks .exit)) (now (words .exit)) (now (records .exit)) (now (marks .exit)) ⌝ }
+{
+    if kind == 11 {
+        let job = step_queue::dequeue(p, clocks, words, records, marks);
+        return Outcome::Done {
+            value: job,
+            count: 0,
+            words: 0,
+        };
+    }
+    step_queue::enqueue(p, value, clocks, words, records, marks);
     done()
 }

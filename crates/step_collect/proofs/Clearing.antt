@@ -8,8 +8,8 @@ use mathlib.Core.List.{List, [], _++_}
 use lib.ListN.{length, getD, take, drop, replicate, length-replicate, getD-replicate}
 use lib.Seq.{ext-getD, sets, length-sets}
 use borrow.Author.Needs.{needs}
-use Rattle.limits.specs.Limits.{intervalLimit, processorLimit}
-use Rattle.limits.specs.inner.Sizes.{clockArea, clockWidth, firstIntervalRow}
+use Rattle.limits.specs.Limits.{intervalLimit, jobLimit, processorLimit}
+use Rattle.limits.specs.inner.Sizes.{clockArea, clockWidth, firstIntervalRow, firstJobRow}
 use Rattle.clock.specs.Clocks.{entryOf}
 use Rattle.rules.specs.State.{mainframe, Processor, Interval, clockOf, clock, own}
 use Rattle.rules.proofs.inorder.Facts.{Within}
@@ -52,7 +52,7 @@ later-zero c n p j m h k from to =
     place = unfold intervalRow mainframe in omega arith
 
 -- those of absent processors too
-absent-zero : (c : List ℕ) (n j : ℕ) → OnlyMade c n → clockWidth * (firstIntervalRow + intervalLimit * n) ≤ j → j < clockArea → getD c j 0 ≡ 0
+absent-zero : (c : List ℕ) (n j : ℕ) → OnlyMade c n → clockWidth * (firstIntervalRow + intervalLimit * n) ≤ j → j < clockWidth * firstJobRow → getD c j 0 ≡ 0
 absent-zero c n j m from to =
     let p : ℕ = (j / clockWidth - firstIntervalRow) / intervalLimit + 1 in
     let none : madeIntervals c p ≡ 0 = m .absent p (omega arith) in
@@ -81,6 +81,13 @@ made-cleared c p made from part h is e z =
   where
     at : clockWidth * intervalRow mainframe p 1 ≡ from
     at = unfold intervalRow mainframe in omega (arith, e)
+
+-- ---- clear_jobs
+
+pub jobs-cleared : (c part : List ℕ) → length c ≡ clockArea → part ≡ replicate (length (take (clockArea - clockWidth * firstJobRow) (drop (clockWidth * firstJobRow) c))) 0
+    → take (clockWidth * firstJobRow) c ++ (part ++ drop (clockArea - clockWidth * firstJobRow) (drop (clockWidth * firstJobRow) c))
+    ≡ sets c (clockWidth * firstJobRow) (replicate (clockWidth * jobLimit) 0)
+jobs-cleared c part h z = part-cleared c part (clockWidth * firstJobRow) (clockWidth * jobLimit) (omega (arith, h)) z
 
 -- ---- clear_clocks
 
@@ -157,43 +164,68 @@ module _ (c₀ c : List ℕ) (n k : ℕ) (t : ClocksClearing c₀ c n k) where
             behind j (omega arith) (omega arith)
             ∙ later-zero c₀ n (k + 1) j (t .made) (omega arith) (omega (arith, b, t .made .few)) (omega (arith, is-from, made-before)) l
 
-  -- with the rows before the intervals all are zeros
-  all-zeros : n ≤ k → (front : ℕ) → front ≡ clockWidth * firstIntervalRow → (part : List ℕ) → part ≡ replicate (length (take front (drop 0 c))) 0
-      → take 0 c ++ (part ++ drop front (drop 0 c)) ≡ replicate (length c₀) 0
-  all-zeros b front e part z =
-      part-cleared c part 0 front (omega (arith, t .long)) z ∙ ext-getD 0 cleared (replicate (length c₀) 0) long at
+  -- with the rows of the queue and those before the intervals all are zeros
+  all-zeros : n ≤ k → (front back : ℕ) → front ≡ clockWidth * firstIntervalRow → back ≡ clockWidth * firstJobRow → (c₁ : List ℕ)
+      → c₁ ≡ sets c back (replicate (clockWidth * jobLimit) 0) → (part : List ℕ) → part ≡ replicate (length (take front (drop 0 c₁))) 0
+      → take 0 c₁ ++ (part ++ drop front (drop 0 c₁)) ≡ replicate (length c₀) 0
+  all-zeros b front back ef eb c₁ e₁ part z =
+      part-cleared c₁ part 0 front (omega (arith, long₁, ef)) z ∙ ext-getD 0 cleared (replicate (length c₀) 0) long at
     where
+      jobs : List ℕ
+      jobs = replicate (clockWidth * jobLimit) 0
+
+      long-jobs : length jobs ≡ clockWidth * jobLimit
+      long-jobs = length-replicate {A = ℕ} (clockWidth * jobLimit) 0
+
+      long₁ : length c₁ ≡ clockArea
+      long₁ = ap length e₁ ∙ length-sets c back jobs ∙ t .long
+
       zeros : List ℕ
       zeros = replicate front 0
 
       cleared : List ℕ
-      cleared = sets c 0 zeros
+      cleared = sets c₁ 0 zeros
 
       long-zeros : length zeros ≡ front
       long-zeros = length-replicate {A = ℕ} front 0
 
       as-long : length cleared ≡ length c₀
-      as-long = length-sets c 0 zeros ∙ t .long ∙ sym (t .made .clocks)
+      as-long = length-sets c₁ 0 zeros ∙ long₁ ∙ sym (t .made .clocks)
 
       long : length cleared ≡ length (replicate {A = ℕ} (length c₀) 0)
       long = as-long ∙ sym (length-replicate {A = ℕ} (length c₀) 0)
 
-      is-zero : (j : ℕ) → j < clockArea → Dec (j < front) → Dec (j < clockWidth * (firstIntervalRow + intervalLimit * k)) → getD (sets c 0 zeros) j 0 ≡ 0
+      -- behind the rows before the intervals
+      behind : (j : ℕ) → front ≤ j → getD cleared j 0 ≡ getD (sets c back jobs) j 0
+      behind j h = get-sets-behind zeros c₁ 0 j 0 (omega (arith, long-zeros)) ∙ ap (λ (l : List ℕ). getD l j 0) e₁
+
+      -- the intervals' rows
+      interval-zero : (j : ℕ) → front ≤ j → j < back → Dec (j < clockWidth * (firstIntervalRow + intervalLimit * k)) → getD c j 0 ≡ 0
+      interval-zero j h l (yes y) = t .zero j (omega (arith, h, ef)) y
+      interval-zero j h l (no y) = t .rest j (omega arith) ∙ absent-zero c₀ n j (t .made) (omega (arith, b, t .upto)) (omega (arith, l, eb))
+
+      is-zero : (j : ℕ) → j < clockArea → Dec (j < front) → Dec (j < back) → getD cleared j 0 ≡ 0
       is-zero j l (yes x) y =
           let place : j ≡ 0 + j = omega arith in
-          ap (λ (i : ℕ). getD (sets c 0 zeros) i 0) place ∙ get-sets-same zeros c 0 j 0 (omega (arith, long-zeros)) (omega (arith, long-zeros, t .long))
+          ap (λ (i : ℕ). getD cleared i 0) place ∙ get-sets-same zeros c₁ 0 j 0 (omega (arith, long-zeros)) (omega (arith, long-zeros, long₁, ef))
           ∙ getD-replicate front j 0 0 x
-      is-zero j l (no x) (yes y) = get-sets-behind zeros c 0 j 0 (omega (arith, long-zeros)) ∙ t .zero j (omega arith) y
+      is-zero j l (no x) (yes y) =
+          behind j (omega arith) ∙ get-sets-before jobs c back j 0 y ∙ interval-zero j (omega arith) y (decLt j (clockWidth * (firstIntervalRow + intervalLimit * k)))
       is-zero j l (no x) (no y) =
-          get-sets-behind zeros c 0 j 0 (omega (arith, long-zeros)) ∙ t .rest j (omega arith) ∙ absent-zero c₀ n j (t .made) (omega (arith, b, t .upto)) l
+          let place : j ≡ back + (j - back) = omega arith in
+          behind j (omega arith) ∙ ap (λ (i : ℕ). getD (sets c back jobs) i 0) place
+          ∙ get-sets-same jobs c back (j - back) 0 (omega (arith, long-jobs, l, eb)) (omega (arith, long-jobs, t .long, eb))
+          ∙ getD-replicate (clockWidth * jobLimit) (j - back) 0 0 (omega (arith, l, eb))
 
       at : (j : ℕ) → j < length cleared → getD cleared j 0 ≡ getD (replicate (length c₀) 0) j 0
-      at j l =
-          is-zero j (omega (arith, as-long, t .made .clocks)) (decLt j front) (decLt j (clockWidth * (firstIntervalRow + intervalLimit * k)))
-          ∙ sym (getD-replicate (length c₀) j 0 0 (omega (arith, as-long)))
+      at j l = is-zero j (omega (arith, as-long, t .made .clocks)) (decLt j front) (decLt j back) ∙ sym (getD-replicate (length c₀) j 0 0 (omega (arith, as-long)))
 
-  pub clearing-all : n ≤ k → (part : List ℕ) → part ≡ replicate (length (take (clockWidth * firstIntervalRow) c)) 0
-      → part ++ drop (clockWidth * firstIntervalRow) c ≡ replicate (length c₀) 0
-  clearing-all b part z = all-zeros b (clockWidth * firstIntervalRow) refl part z
+  -- the clocks that are left
+  pub clearing-long : length c ≡ clockArea
+  clearing-long = t .long
 
-pub ruleset clear-laws = (made-read, made-fits, made-cleared, clearing-begins, clearing-next, clearing-more, clearing-all, needs)
+  pub clearing-all : n ≤ k → (c₁ : List ℕ) → c₁ ≡ sets c (clockWidth * firstJobRow) (replicate (clockWidth * jobLimit) 0) → (part : List ℕ)
+      → part ≡ replicate (length (take (clockWidth * firstIntervalRow) c₁)) 0 → part ++ drop (clockWidth * firstIntervalRow) c₁ ≡ replicate (length c₀) 0
+  clearing-all b c₁ e part z = all-zeros b (clockWidth * firstIntervalRow) (clockWidth * firstJobRow) refl refl c₁ e part z
+
+pub ruleset clear-laws = (made-read, made-fits, made-cleared, jobs-cleared, clearing-begins, clearing-next, clearing-more, clearing-long, clearing-all, needs)

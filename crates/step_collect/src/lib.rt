@@ -4,8 +4,8 @@ ghost use mathlib.Core.Path.{_≡_};
 ghost use Prim.Native.Nat.{_*_, _≤_};
 ghost use lib.ListN.{length, replicate};
 ghost use lib.Seq.{sets};
-ghost use Rattle.limits.specs.Limits.{intervalLimit, pageWidth};
-ghost use Rattle.limits.specs.inner.Sizes.{clockWidth, keyArea};
+ghost use Rattle.limits.specs.Limits.{intervalLimit, jobLimit, pageWidth};
+ghost use Rattle.limits.specs.inner.Sizes.{clockArea, clockWidth, firstJobRow, keyArea};
 ghost use Rattle.rules.specs.State.{mainframe};
 ghost use Rattle.rules.specs.Steps.{pagesFetched, allFetched, collected};
 ghost use Rattle.layout.specs.Areas.{intervalRow, stateIn};
@@ -22,8 +22,10 @@ use layout::marks::put_standing_count;
 use layout::marks::put_wanted;
 use layout::own_entry;
 use layout::wide;
+use limits::CLOCK_AREA;
 use limits::CLOCK_WIDTH;
 use limits::FIRST_INTERVAL_ROW;
+use limits::FIRST_JOB_ROW;
 use limits::INTERVAL_LIMIT;
 
 // How many records fetches applied, and how many words those set.
@@ -129,7 +131,16 @@ fn clear_clocks(clocks: &mut [u8], n: usize)
         clear_made(clocks, ProcessorId(k + 1));
         k = k + 1;
     }
+    clear_jobs(clocks);
     clear(&mut clocks[0..CLOCK_WIDTH * FIRST_INTERVAL_ROW]);
+}
+
+// The rows of the places of the queue become zeros.
+fn clear_jobs(clocks: &mut [u8])
+    requires { ⌜ length (now clocks) ≡ clockArea ⌝ }
+    ensures { λ _. ⌜ now (clocks .exit) ≡ sets (now (clocks .entry)) (clockWidth * firstJobRow) (replicate (clockWidth * jobLimit) 0) ⌝ }
+{
+    clear(&mut clocks[CLOCK_WIDTH * FIRST_JOB_ROW..CLOCK_AREA]);
 }
 
 // The rows of the intervals that a processor has made become zeros.

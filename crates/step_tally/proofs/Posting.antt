@@ -11,11 +11,11 @@ use borrow.Author.Needs.{needs}
 use Rattle.lists.specs.Tables.{total}
 use Rattle.lists.proofs.Tables.{total-same}
 use Rattle.limits.specs.Limits.{processorLimit, tallyLimit, wordValues}
-use Rattle.limits.specs.inner.Sizes.{firstTally, wordArea}
+use Rattle.limits.specs.inner.Sizes.{firstJobValue, firstTally, wordArea}
 use Rattle.rules.specs.State.{mainframe, postedOf, addsOf}
 use Rattle.rules.specs.Tallies.{totalAfter, posting}
-use Rattle.layout.specs.Areas.{tallyPlace, sharedIn}
-use Rattle.layout.proofs.TallyLaws.{tally-at, posted-read, adds-read, shared-written, posting-done}
+use Rattle.layout.specs.Areas.{tallyPlace, valuePlace, sharedIn}
+use Rattle.layout.proofs.TallyLaws.{tally-at, value-at, posted-read, adds-read, shared-written, posting-done}
 use Rattle.step_tally.specs.inner.Needed.{OnTally, RoundReady, SumReady}
 use Rattle.step_tally.specs.inner.Effects.{TotalsPosted, AddsCleared, Posted}
 
@@ -145,26 +145,28 @@ module _ (w₀ w : List ℕ) (n t : ℕ) (now : PostedTo w₀ w n t) where
         words = now .words;
         posted = λ u l. now .done u (omega (arith, l, end));
         pages = λ i l. now .kept i (λ u m e. omega (arith, l, e, tally-at 0 u));
+        values = λ i l. now .kept i (λ u m e. omega (arith, l, e, m, now .upto, tally-at 0 u));
       }
 
 -- ---- the adds
 
--- the words from the first add to i are 0, all before them is as it was
+-- the words from the first add to i are 0, all else is as it was
 pub record ClearedTo (w₀ w : List ℕ) (i : ℕ) : Type 0 where
   pub words : length w ≡ wordArea
   pub from : firstTally + tallyLimit ≤ i
-  pub upto : i ≤ wordArea
+  pub upto : i ≤ firstJobValue
   pub clear : (j : ℕ) → firstTally + tallyLimit ≤ j → j < i → getD w j 0 ≡ 0
   pub kept : (j : ℕ) → j < firstTally + tallyLimit → getD w j 0 ≡ getD w₀ j 0
+  pub values : (j : ℕ) → firstJobValue ≤ j → getD w j 0 ≡ getD w₀ j 0
 
 pub adds-clearing-begins : (w : List ℕ) → length w ≡ wordArea → ClearedTo w w (firstTally + tallyLimit)
-adds-clearing-begins w h = record { words = h; from = omega arith; upto = omega arith; clear = λ j a b. absurd (omega arith); kept = λ j a. refl }
+adds-clearing-begins w h = record { words = h; from = omega arith; upto = omega arith; clear = λ j a b. absurd (omega arith); kept = λ j a. refl; values = λ j a. refl }
 
 module _ (w₀ w : List ℕ) (i : ℕ) (now : ClearedTo w₀ w i) where
-  pub adds-clearing-place : i < wordArea → i < length w
+  pub adds-clearing-place : i < firstJobValue → i < length w
   adds-clearing-place more = omega (arith, now .words)
 
-  pub adds-clearing-more : i < wordArea → ClearedTo w₀ (set w i 0) (i + 1)
+  pub adds-clearing-more : i < firstJobValue → ClearedTo w₀ (set w i 0) (i + 1)
   adds-clearing-more more =
       record {
         words = length-set w i 0 ∙ now .words;
@@ -172,14 +174,15 @@ module _ (w₀ w : List ℕ) (i : ℕ) (now : ClearedTo w₀ w i) where
         upto = omega arith;
         clear = λ j a b. at j a b (ℕ-discrete j i);
         kept = λ j a. getD-set-other w i j 0 0 (λ e. omega (arith, e, now .from, a)) ∙ now .kept j a;
+        values = λ j a. getD-set-other w i j 0 0 (λ e. omega (arith, e, more, a)) ∙ now .values j a;
       }
     where
       at : (j : ℕ) → firstTally + tallyLimit ≤ j → j < i + 1 → Dec (j ≡ i) → getD (set w i 0) j 0 ≡ 0
       at j a b (yes d) = rw d (getD-set-same w i 0 0 (omega (arith, now .words, more)))
       at j a b (no d) = getD-set-other w i j 0 0 d ∙ now .clear j a (omega (arith, b, d))
 
-  pub adds-clearing-ends : wordArea ≤ i → AddsCleared w₀ w
-  adds-clearing-ends end = record { words = now .words; clear = λ j a b. now .clear j a (omega (arith, b, end)); kept = now .kept }
+  pub adds-clearing-ends : firstJobValue ≤ i → AddsCleared w₀ w
+  adds-clearing-ends end = record { words = now .words; clear = λ j a b. now .clear j a (omega (arith, b, end)); kept = now .kept; values = now .values }
 
 -- ---- both
 
@@ -198,6 +201,7 @@ module _ (w : List ℕ) (n : ℕ) (ready : RoundReady w n) (w₁ : List ℕ) (to
             (record {
               posted = λ t l. cleared .kept (tallyPlace mainframe 0 t) (omega (arith, l, tally-at 0 t)) ∙ totals .posted t l;
               adds = λ p t h k l. cleared .clear (tallyPlace mainframe p t) (omega (arith, h, tally-at p t)) (omega (arith, k, l, tally-at p t));
+              values = λ k l. cleared .values (valuePlace mainframe k) (omega (arith, value-at k)) ∙ totals .values (valuePlace mainframe k) (omega (arith, value-at k));
             }));
       }
 

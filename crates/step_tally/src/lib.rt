@@ -10,9 +10,9 @@ ghost use Rattle.layout.specs.Areas.{tallyPlace, sharedIn};
 ghost use Rattle.step_tally.specs.inner.Needed.{OnTally, TallyIn, RoundReady, SumReady};
 ghost use Rattle.step_tally.specs.inner.Effects.{AddDone, TotalsPosted, AddsCleared, Posted};
 use clock::ProcessorId;
+use limits::FIRST_JOB_VALUE;
 use limits::FIRST_TALLY;
 use limits::TALLY_LIMIT;
-use limits::WORD_AREA;
 
 // Adds to a tally.
 pub fn add_to(words: &mut [u32], p: ProcessorId, t: usize, v: u32)
@@ -80,7 +80,7 @@ fn clear_adds(words: &mut [u32])
     ensures { λ _. ⌜ AddsCleared (now (words .entry)) (now (words .exit)) ⌝ }
 {
     let mut i: usize = FIRST_TALLY + TALLY_LIMIT;
-    while i < WORD_AREA {
+    while i < FIRST_JOB_VALUE {
         words[i] = 0;
         i = i + 1;
     }

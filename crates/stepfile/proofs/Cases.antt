@@ -15,7 +15,7 @@ use Rattle.rules.specs.State.{mainframe, State}
 use Rattle.rules.specs.Bench.{listing, listingAnswers}
 use Rattle.rules.proofs.runs.Listing.{start}
 use Rattle.rules.proofs.runs.FromStart.{listing-a}
-use Rattle.layout.specs.Areas.{clockRows, wordPlaces, wordRows, markPlaces, sizesRight, Areas, areas, rightSizes}
+use Rattle.layout.specs.Areas.{clockRows, wordPlaces, wordRows, firstPlace, jobsPlace, markPlaces, sizesRight, Areas, areas, rightSizes}
 use Rattle.opening.specs.Promises.{openingOf, openRefusal, areasOpened}
 use Rattle.step_fields.specs.Records.{stepFrom, stepsIn, stepCount}
 use Rattle.lines.specs.Decimal.{digitsWithin, digits}
@@ -33,12 +33,12 @@ unfoldable blank : Areas
 blank = areas (replicate clockArea 0) (replicate wordArea 0) (replicate recordArea 0) (replicate markArea 0)
 
 blank-sizes : rightSizes blank ≡ true
-unfolding rightSizes blank areas sizesRight clockRows wordPlaces wordRows markPlaces slotSize mainframe
+unfolding rightSizes blank areas sizesRight clockRows wordPlaces wordRows firstPlace jobsPlace markPlaces slotSize mainframe
 blank-sizes = refl
 
 -- all lines that feeding prints; who unfolds it unfolds what feeding computes with, but no step
 unfoldable fed : List ℕ → List ℕ
-unfolding blank areas after bytesTaken byteTaken heldOn recordTaken openingTaken openRefusal areasOpened rightSizes sizesRight clockRows wordPlaces wordRows markPlaces slotSize begun progressOf finishLine lastLine openingRefusal countsInRange inRange mainframe openingOf refusalLine lineBytes wordsLine digits digitsWithin
+unfolding blank areas after bytesTaken byteTaken heldOn recordTaken openingTaken openRefusal areasOpened rightSizes sizesRight clockRows wordPlaces wordRows firstPlace jobsPlace markPlaces slotSize begun progressOf finishLine lastLine openingRefusal countsInRange inRange mainframe openingOf refusalLine lineBytes wordsLine digits digitsWithin
 fed bytes = after blank bytes .lines ++ finishLine (progressOf (after blank bytes))
 
 -- ---- a file that ends before its opening, or within it: "0 15 0 0"

@@ -7,18 +7,22 @@ const PAGE_WORDS: usize = 32;
 const LOCKS: usize = 16;
 const INTERVALS: usize = 63;
 const TALLIES: usize = 16;
+const JOBS: usize = 32;
 const SLOTS: usize = 128;
 const SLOT: usize = 135;
 
 // Rows of clocks, eight entries each: the barrier's, those of cards, locks,
-// pages of each card (applied) and intervals of each card.
+// pages of each card (applied), intervals of each card, and jobs.
 const FIRST_LOCK_ROW: usize = 1 + CARDS;
 const FIRST_APPLIED_ROW: usize = FIRST_LOCK_ROW + LOCKS;
 const FIRST_INTERVAL_ROW: usize = FIRST_APPLIED_ROW + CARDS * PAGES;
-const CLOCK_ROWS: usize = FIRST_INTERVAL_ROW + CARDS * INTERVALS;
+const FIRST_JOB_ROW: usize = FIRST_INTERVAL_ROW + CARDS * INTERVALS;
+const CLOCK_ROWS: usize = FIRST_JOB_ROW + JOBS;
 
-// Words: the copies, the twins, then the tallies, posted and of each card.
+// Words: the copies, the twins, then the tallies, posted and of each card, then
+// the values of jobs.
 const FIRST_TALLY: usize = 2 * CARDS * PAGES * PAGE_WORDS;
+const FIRST_JOB_WORD: usize = FIRST_TALLY + (CARDS + 1) * TALLIES;
 
 // Marks.
 const CARDS_PLACE: usize = 0;
@@ -32,12 +36,14 @@ const FIRST_HOLDER: usize = FIRST_ARRIVED + CARDS;
 const FIRST_DIRTY: usize = FIRST_HOLDER + LOCKS;
 const FIRST_AWAITED: usize = FIRST_DIRTY + CARDS * PAGES;
 const FIRST_TURN: usize = FIRST_AWAITED + CARDS;
+const OLDEST_JOB_PLACE: usize = FIRST_TURN + CARDS;
+const JOBS_PLACE: usize = OLDEST_JOB_PLACE + 1;
 
 // The bytes of each area.
 const CLOCK_BYTES: usize = CARDS * CLOCK_ROWS;
-const WORD_BYTES: usize = 4 * (FIRST_TALLY + (CARDS + 1) * TALLIES);
+const WORD_BYTES: usize = 4 * (FIRST_JOB_WORD + JOBS);
 const RECORD_BYTES: usize = SLOT * SLOTS;
-const MARK_BYTES: usize = FIRST_TURN + CARDS;
+const MARK_BYTES: usize = JOBS_PLACE + 1;
 
 /// The areas of a mainframe in order.
 pub struct Areas {
@@ -55,6 +61,13 @@ pub struct Record {
     pub page: u8,
     /// The words that it sets, as offsets on the page, with their values.
     pub sets: Vec<(u8, u32)>,
+}
+
+/// A job that waits.
+#[derive(Debug, PartialEq, Eq)]
+pub struct Job<'a> {
+    pub value: u32,
+    pub clock: &'a [u8],
 }
 
 impl Areas {
@@ -168,6 +181,18 @@ impl Areas {
     /// What a card has added to a tally since.
     pub fn added(&self, tally: u8, card: u8) -> u32 {
         self.words[FIRST_TALLY + TALLIES * usize::from(card) + usize::from(tally)]
+    }
+
+    /// The jobs that wait, the oldest first: they lie in a ring of places.
+    pub fn jobs(&self) -> Vec<Job<'_>> {
+        let oldest = usize::from(self.marks[OLDEST_JOB_PLACE]);
+        let waiting = usize::from(self.marks[JOBS_PLACE]);
+        let places = (oldest..oldest + waiting).map(|place| place % JOBS);
+        let job = |place| Job {
+            value: self.words[FIRST_JOB_WORD + place],
+            clock: self.clock(FIRST_JOB_ROW + place),
+        };
+        places.map(job).collect()
     }
 }
 

@@ -1,12 +1,12 @@
 //! `./steps explain`: each record in words with its answer, and why.
 
 use super::input::Range;
-use super::ledger::Deed;
+use super::ledger::{Deed, Job};
 use super::progress::Progress;
 use super::proved::Run;
 use super::reading::Readings;
 use super::refusal;
-use super::sentence::{self, cards_listed, counted};
+use super::sentence::{self, cards_listed, counted, jobs_waiting};
 use super::summary::Summary;
 use super::walk::{Told, Walk};
 use super::writes::Finding;
@@ -56,7 +56,7 @@ fn record(
     Ok(())
 }
 
-/// The rule that a read breaks: demand 3, or what a tally must show.
+/// The rule that a read breaks: demand 3, or what a tally or a job must show.
 fn broken(walk: &Walk, told: &Told) -> Option<String> {
     let value = told.reply.value;
     let due = match (&told.finding, &told.accepted) {
@@ -67,6 +67,7 @@ fn broken(walk: &Walk, told: &Told) -> Option<String> {
             return (!may).then(|| "neither 0 nor a value written before".to_string());
         }
         (_, Some((_, Deed::TallyRead { posted, own }))) => posted.wrapping_add(*own),
+        (_, Some((_, Deed::Dequeued { job, .. }))) => job.map_or(0, |job| job.value),
         _ => return None,
     };
     (value != due).then(|| format!("{due} is due"))
@@ -110,6 +111,11 @@ fn answer(walk: &Walk, told: &Told) -> String {
         Deed::Wanted => "at the end of this round".to_string(),
         Deed::Added => "added".to_string(),
         Deed::TallyRead { posted, own } => format!("{value}; {}", tally(walk, *posted, *own)),
+        Deed::Enqueued { waiting } => format!("added; {}", jobs_waiting(*waiting)),
+        Deed::Dequeued { job, waiting } => {
+            let (by, left) = (enqueued_by(job), jobs_waiting(*waiting));
+            format!("{value}, {by}; {left}")
+        }
     }
 }
 
@@ -121,6 +127,14 @@ fn refused(walk: &Walk, told: &Told) -> String {
         _ => refusal::of_opening(bytes),
     };
     format!("refused ({refusal}): {why}")
+}
+
+/// Where the value of a dequeue comes from.
+fn enqueued_by(job: &Option<Job>) -> String {
+    match job {
+        Some(Job { card, since, .. }) => format!("which card {card} enqueued at {since}"),
+        None => "which nobody enqueued".to_string(),
+    }
 }
 
 /// Of what the answer to a read of a tally is the sum.

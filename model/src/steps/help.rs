@@ -30,6 +30,8 @@ Makes a step file of a text: a sentence a line, the opening first.
     card 2 wants collection
     card 1 adds 5 to tally 3
     card 2 reads tally 3
+    card 1 enqueues 77
+    card 2 dequeues
     raw 07 01 00 00 00 00 00 00      eight bytes in base sixteen, for a record that has no sentence;
                                      the last record may have fewer
 
@@ -61,7 +63,7 @@ const STATE: &str = "./steps state FILE.steps N
 
 Prints what the engine holds after record N, from its own memory: the clocks of cards, locks and
 barrier, the clocks applied to pages, who holds and awaits which lock, who has arrived, dirty pages,
-records and tallies. The static library runs the file; it is built first where it is missing.
+records, tallies and the jobs that wait, with their values and clocks. The static library runs the file; it is built first where it is missing.
 ";
 
 const PICTURE: &str = "./steps picture FILE.steps [FROM TO] > run.svg

@@ -1,8 +1,8 @@
 //! Refusals by what other cards do, in words: who holds a lock, who waits for
-//! it, who has arrived.
+//! it, who has arrived, which jobs wait.
 
 use super::ledger::Ledger;
-use super::sentence::cards_listed;
+use super::sentence::{cards_listed, jobs_waiting};
 use crate::model::Step;
 
 /// 6: the card has arrived, and others have not.
@@ -96,6 +96,23 @@ pub fn arrives_holding(step: &Step, ledger: &Ledger) -> String {
     let it = if held.len() == 1 { "it" } else { "them" };
     let holds = format!("it holds {}", names.join("; "));
     format!("{holds}; it would have to release {it} first")
+}
+
+/// 19: an enqueue with as many jobs waiting as the queue holds.
+pub fn queue_is_full(ledger: &Ledger) -> String {
+    let waiting = jobs_waiting(ledger.jobs.len());
+    let oldest = ledger.jobs.front().map_or(String::new(), |job| {
+        format!(", the oldest of card {}, since {}", job.card, job.since)
+    });
+    format!("{waiting}{oldest}; a card would have to dequeue one first")
+}
+
+/// 20: a dequeue with no job waiting.
+pub fn queue_is_empty() -> String {
+    format!(
+        "{}; a card would have to enqueue one first",
+        jobs_waiting(0)
+    )
 }
 
 /// 7: the card is the holder.

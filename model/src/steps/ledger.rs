@@ -1,11 +1,10 @@
 //! What the accepted steps leave behind them, with the records that brought it
 //! about: who holds and awaits which lock, who has arrived, which pages are
-//! dirty, how many records stand, what is in the tallies.
+//! dirty, how many records stand, what is in the tallies, which jobs wait.
 
 use super::order::CARDS;
-use crate::model::{
-    Step, ACQUIRE, ARRIVE, READ, RELEASE, TALLIES, TALLY_ADD, TALLY_READ, WANT, WRITE,
-};
+use crate::model::{Step, ACQUIRE, ARRIVE, DEQUEUE, ENQUEUE, READ, RELEASE, WANT, WRITE};
+use crate::model::{TALLIES, TALLY_ADD, TALLY_READ};
 use std::collections::{BTreeMap, BTreeSet, VecDeque};
 
 /// A card that holds or awaits a lock, from this record on.
@@ -20,6 +19,14 @@ pub struct Lock {
     pub holder: Option<Turn>,
     /// Those who wait, the longest first.
     pub line: VecDeque<Turn>,
+}
+
+/// A job, and who enqueued it at which record.
+#[derive(Clone, Copy, Debug, PartialEq, Eq)]
+pub struct Job {
+    pub card: u8,
+    pub since: usize,
+    pub value: u32,
 }
 
 /// What an accepted step did.
@@ -49,6 +56,15 @@ pub enum Deed {
         posted: u32,
         own: u32,
     },
+    /// How many jobs wait then.
+    Enqueued {
+        waiting: usize,
+    },
+    /// The job, where there was one, and how many wait then.
+    Dequeued {
+        job: Option<Job>,
+        waiting: usize,
+    },
 }
 
 pub struct Ledger {
@@ -70,6 +86,8 @@ pub struct Ledger {
     pub intervals: [usize; CARDS],
     posted: [u32; TALLIES as usize],
     adds: BTreeMap<(u16, u8), u32>,
+    /// The jobs that wait, the oldest first.
+    pub jobs: VecDeque<Job>,
 }
 
 impl Ledger {
@@ -88,6 +106,7 @@ impl Ledger {
             intervals: [0; CARDS],
             posted: [0; TALLIES as usize],
             adds: BTreeMap::new(),
+            jobs: VecDeque::new(),
         }
     }
 
@@ -124,7 +143,7 @@ impl Ledger {
             card: step.card,
             since: number,
         };
-        if matches!(step.kind, ACQUIRE | RELEASE | ARRIVE) {
+        if matches!(step.kind, ACQUIRE | RELEASE | ARRIVE | ENQUEUE | DEQUEUE) {
             self.close(step.card);
         }
         match step.kind {
@@ -135,6 +154,8 @@ impl Ledger {
             ARRIVE => self.arrive(turn),
             TALLY_ADD => self.add(step),
             TALLY_READ => self.read_tally(step),
+            ENQUEUE => self.enqueue(number, step),
+            DEQUEUE => self.dequeue(),
             WANT => {
                 self.wanted = true;
                 Deed::Wanted
@@ -221,6 +242,25 @@ impl Ledger {
                 .get(&(step.object, step.card))
                 .copied()
                 .unwrap_or(0),
+        }
+    }
+
+    fn enqueue(&mut self, number: usize, step: &Step) -> Deed {
+        self.jobs.push_back(Job {
+            card: step.card,
+            since: number,
+            value: step.value,
+        });
+        Deed::Enqueued {
+            waiting: self.jobs.len(),
+        }
+    }
+
+    fn dequeue(&mut self) -> Deed {
+        let job = self.jobs.pop_front();
+        Deed::Dequeued {
+            job,
+            waiting: self.jobs.len(),
         }
     }
 }

@@ -4,7 +4,7 @@
 
 use super::progress::Progress;
 use crate::judge::{Accepted, Clocks, Known, Ties};
-use crate::model::{ACQUIRE, ARRIVE, RELEASE};
+use crate::model::{ACQUIRE, ARRIVE, ENQUEUE, RELEASE};
 use std::collections::BTreeMap;
 
 /// Cards are numbered from 1 to 8; entry 0 of what is kept by card is nobody's.
@@ -18,14 +18,16 @@ pub struct Order {
     known: Vec<[u32; CARDS]>,
     /// The places of each card's steps.
     by_card: [Vec<usize>; CARDS],
-    /// The places of each card's releases and arrivals: by these it hands on
-    /// what it knows.
+    /// The places of each card's releases, arrivals and enqueues: by these it
+    /// hands on what it knows.
     handing_on: [Vec<usize>; CARDS],
     arrivals: [Vec<usize>; CARDS],
     /// The places of each lock's releases.
     releases: BTreeMap<u16, Vec<usize>>,
     /// For each card the releases that served it while it waited.
     grants: [Vec<usize>; CARDS],
+    /// For each dequeue the enqueue of the job that it returns.
+    enqueues: BTreeMap<usize, usize>,
 }
 
 impl Order {
@@ -39,6 +41,7 @@ impl Order {
             arrivals: Default::default(),
             releases: BTreeMap::new(),
             grants: Default::default(),
+            enqueues: BTreeMap::new(),
             list,
         };
         for place in 0..order.list.len() {
@@ -50,7 +53,7 @@ impl Order {
     fn note(&mut self, place: usize) {
         let step = self.list[place].step;
         self.by_card[usize::from(step.card)].push(place);
-        if matches!(step.kind, RELEASE | ARRIVE) {
+        if matches!(step.kind, RELEASE | ARRIVE | ENQUEUE) {
             self.handing_on[usize::from(step.card)].push(place);
         }
         if step.kind == ARRIVE {
@@ -61,6 +64,9 @@ impl Order {
         }
         if let Some(waiter) = self.ties.served[place] {
             self.grants[usize::from(waiter)].push(place);
+        }
+        if let Some(dequeue) = self.ties.returned[place] {
+            self.enqueues.insert(dequeue, place);
         }
     }
 
@@ -91,8 +97,8 @@ impl Order {
         places.get(ignorant).copied()
     }
 
-    /// The releases and arrivals of a card from one place to another, the
-    /// first included.
+    /// The releases, arrivals and enqueues of a card from one place to another,
+    /// the first included.
     pub fn handed_on(&self, card: u8, from: usize, to: usize) -> &[usize] {
         let places = &self.handing_on[usize::from(card)];
         let start = places.partition_point(|place| *place < from);
@@ -103,6 +109,11 @@ impl Order {
     /// Where the round of an arrival was completed.
     pub fn round_end(&self, arrival: usize) -> Option<usize> {
         self.ties.ends[arrival]
+    }
+
+    /// The dequeue that returns the job of an enqueue.
+    pub fn returned(&self, enqueue: usize) -> Option<usize> {
+        self.ties.returned[enqueue]
     }
 
     /// Steps from `s` to `t`, each directly before the next; nothing if `s` is
@@ -116,10 +127,11 @@ impl Order {
         let mut here = t;
         while self.card(here) != self.card(s) {
             let learnt = self.first_knowing(self.card(here), s)?;
-            here = match self.told_by_lock(learnt, s) {
-                Some(release) => {
+            let told = self.told_by_lock(learnt, s).or(self.told_by_job(learnt, s));
+            here = match told {
+                Some(teller) => {
                     chain.extend((learnt != here).then_some(learnt));
-                    release
+                    teller
                 }
                 None => self
                     .told_by_grant(learnt, s)
@@ -145,6 +157,13 @@ impl Order {
             .get(ignorant)
             .copied()
             .filter(|release| *release < acquire)
+    }
+
+    /// L9: "An enqueue precedes ... the dequeue that returns its job", where it
+    /// knows of `s`.
+    fn told_by_job(&self, dequeue: usize, s: usize) -> Option<usize> {
+        let enqueue = self.enqueues.get(&dequeue).copied();
+        enqueue.filter(|enqueue| self.known_at(s, *enqueue))
     }
 
     /// L1: "the release precedes the waiter's next step".

@@ -1,7 +1,8 @@
 //! `./steps pack`: a text of sentences, a record a line, as a step file.
 //! `sentence.rs` has the sentences.
 
-use crate::model::{Step, ACQUIRE, ARRIVE, READ, RELEASE, TALLY_ADD, TALLY_READ, WANT, WRITE};
+use crate::model::{Step, ACQUIRE, ARRIVE, DEQUEUE, ENQUEUE, READ, RELEASE, WANT, WRITE};
+use crate::model::{TALLY_ADD, TALLY_READ};
 
 /// What is wrong in a text, and where; lines and columns count from 1.
 #[derive(Debug, PartialEq, Eq)]
@@ -124,6 +125,8 @@ fn step(words: &mut Words) -> Result<Step, Mistake> {
             (kind, words.object("the number of a lock")?, 0)
         }
         "arrives" => (ARRIVE, 0, 0),
+        "enqueues" => (ENQUEUE, 0, words.value()?),
+        "dequeues" => (DEQUEUE, 0, 0),
         _ => {
             words.one_of(&["collection"])?;
             (WANT, 0, 0)
@@ -137,8 +140,8 @@ fn step(words: &mut Words) -> Result<Step, Mistake> {
     })
 }
 
-const VERBS: [&str; 7] = [
-    "reads", "writes", "acquires", "releases", "arrives", "wants", "adds",
+const VERBS: [&str; 9] = [
+    "reads", "writes", "acquires", "releases", "arrives", "wants", "adds", "enqueues", "dequeues",
 ];
 
 /// `raw 07 01 00`: one to eight bytes; fewer than eight only at the end.

@@ -3,8 +3,11 @@
 
 use super::input::Range;
 use super::layout::{text_width, Layout, BAR, MARGIN, ROW};
-use super::scene::{Arrow, Mark, Rest, Row, Scene, Time};
+use super::scene::{Arrow, Goal, Mark, Rest, Row, Scene, Time};
 use super::svg::Svg;
+
+/// The side of the mark of a job.
+const JOB: f64 = 10.0;
 
 /// A picture shows at most so many records.
 pub const MOST_SHOWN: usize = 400;
@@ -134,11 +137,11 @@ impl Drawing<'_> {
         }
     }
 
-    /// From the release down into the gap behind its row, across, and to the
-    /// bar that begins there.
+    /// From the release or the enqueue down into the gap behind its row, across,
+    /// and to the bar that begins there or to the dequeue.
     fn arrow(&self, svg: &mut Svg, nth: usize) {
         let arrow = &self.scene.arrows[nth];
-        let Some(bar) = self.bar_begun(arrow) else {
+        let Some(goal) = self.goal(arrow) else {
             return;
         };
         let end = self.layout.time(arrow.at);
@@ -146,14 +149,14 @@ impl Drawing<'_> {
             let axis = self.layout.lane_of(card).axis;
             (axis, self.layout.row(number), self.layout.gap(number))
         });
-        let from_right = start.is_some_and(|(axis, ..)| axis > bar);
+        let from_right = start.is_some_and(|(axis, ..)| axis > goal);
         let mut path = String::new();
         if let Some((axis, row, gap)) = start {
             path.push_str(&format!("M {axis} {row} V {gap} "));
         }
         let tip = match arrow.at {
-            Time::Behind(_) if from_right => bar + BAR,
-            _ => bar,
+            Time::Behind(_) if from_right => goal + BAR,
+            _ => goal,
         };
         if let Time::At(_) = arrow.at {
             let down = self.layout.arrow_down(self.scene, nth);
@@ -164,8 +167,16 @@ impl Drawing<'_> {
         }
         path.push_str(&format!("H {tip}"));
         svg.path("arrow", &path);
-        let back = if tip > bar { 7.0 } else { -7.0 };
+        let back = if tip > goal { 7.0 } else { -7.0 };
         svg.path("head", &format!("M {tip} {end} l {back} -4 v 8 z"));
+    }
+
+    /// The left edge of what an arrow leads to.
+    fn goal(&self, arrow: &Arrow) -> Option<f64> {
+        match arrow.goal {
+            Goal::Bar => self.bar_begun(arrow),
+            Goal::Mark => Some(self.layout.lane_of(arrow.to).axis - JOB / 2.0),
+        }
     }
 
     /// The left edge of the bar that an arrow leads to.
@@ -216,6 +227,7 @@ fn mark(svg: &mut Svg, mark: Mark, (x, y): (f64, f64)) {
         Mark::Write => svg.rect("solid", (x - 4.5, y - 4.5), 9.0, 9.0),
         Mark::Lock => svg.line("step", (x - 6.0, y), (x + 6.0, y)),
         Mark::Arrival => svg.path("solid", &format!("M {} {} h 12 l -6 9 z", x - 6.0, y - 4.0)),
+        Mark::Job => svg.rect("job", (x - JOB / 2.0, y - JOB / 2.0), JOB, JOB),
         Mark::Other => svg.circle("solid", (x, y), 3.0),
         Mark::Refused => {
             let cross = format!("M {} {} l 8 8 m 0 -8 l -8 8", x - 4.0, y - 4.0);
@@ -234,7 +246,7 @@ enum Sign {
     Round,
 }
 
-const LEGEND: [(Sign, &str); 13] = [
+const LEGEND: [(Sign, &str); 14] = [
     (Sign::Mark(Mark::ReadOrdered), "read, ordered"),
     (
         Sign::Mark(Mark::ReadNoneWritten),
@@ -244,11 +256,15 @@ const LEGEND: [(Sign, &str); 13] = [
     (Sign::Mark(Mark::Write), "write"),
     (Sign::Mark(Mark::Lock), "acquire, release"),
     (Sign::Mark(Mark::Arrival), "arrival"),
+    (Sign::Mark(Mark::Job), "enqueue, dequeue"),
     (Sign::Mark(Mark::Other), "other step"),
     (Sign::Mark(Mark::Refused), "refused"),
     (Sign::Holds, "holds the lock of this number"),
     (Sign::Waits, "waits for it"),
-    (Sign::Arrow, "release that reaches an acquire or a waiter"),
+    (
+        Sign::Arrow,
+        "release that reaches an acquire or a waiter, enqueue that reaches its dequeue",
+    ),
     (Sign::Rest, "has arrived"),
     (Sign::Round, "round complete"),
 ];

@@ -4,12 +4,12 @@
 use super::order::Order;
 use super::sentence::counted;
 use super::writes::{Disorder, Finding, Unknown};
-use crate::model::{ACQUIRE, ARRIVE, RELEASE};
+use crate::model::{ACQUIRE, ARRIVE, DEQUEUE, ENQUEUE, RELEASE};
 use std::collections::BTreeMap;
 
 /// Of so many writing cards it is said how far their news had come.
 const MOST_DETAILED: usize = 2;
-/// So many releases and arrivals of a card are named.
+/// So many releases, arrivals and enqueues of a card are named.
 const MOST_HANDED_ON: usize = 2;
 
 /// Tells of reads one after another, and why two writes are not ordered once.
@@ -102,6 +102,8 @@ fn link(order: &Order, place: usize) -> String {
     match order.list[place].step.kind {
         RELEASE => format!("release {number}"),
         ACQUIRE => format!("acquire {number}"),
+        ENQUEUE => format!("enqueue {number}"),
+        DEQUEUE => format!("dequeue {number}"),
         ARRIVE => match order.round_end(place).map(|end| order.number(end)) {
             Some(end) if end != number => format!("arrival {number} (round complete at {end})"),
             _ => format!("arrival {number}"),
@@ -124,7 +126,8 @@ fn named(order: &Order, unknown: &Unknown) -> String {
 fn not_reached(order: &Order, s: usize, t: usize) -> String {
     let (from, to) = (order.card(s), order.card(t));
     let (first, second) = (order.number(s), order.number(t));
-    format!("no release or arrival of card {from} after {first} reaches card {to} before {second}")
+    let none = format!("no release, arrival or enqueue of card {from} after {first}");
+    format!("{none} reaches card {to} before {second}")
 }
 
 /// How far the news of the step at `s` had come before `t`: each card that had
@@ -152,7 +155,8 @@ fn handed_on(order: &Order, card: u8, from: usize, t: usize) -> String {
     let places = order.handed_on(card, from, t);
     let (first, second) = (order.number(from), order.number(t));
     if places.is_empty() {
-        return format!("neither releases a lock nor arrives between {first} and {second}");
+        let nothing = "releases no lock, does not arrive and enqueues no job";
+        return format!("{nothing} between {first} and {second}");
     }
     let one = |place: &usize| {
         let number = order.number(*place);
@@ -160,15 +164,27 @@ fn handed_on(order: &Order, card: u8, from: usize, t: usize) -> String {
         let lock = step.object;
         match step.kind {
             RELEASE => format!("releases lock {lock} at {number}, but card {asker} does not acquire lock {lock} between {number} and {second}"),
+            ENQUEUE => format!("enqueues a job at {number}, but {}", taken_by(order, *place, t)),
             _ => format!("arrives at {number}, but the round is not complete before {second}"),
         }
     };
     let mut said: Vec<String> = places.iter().take(MOST_HANDED_ON).map(one).collect();
     if places.len() > MOST_HANDED_ON {
         said.push(format!(
-            "and so on, {} releases and arrivals in all",
+            "and so on, {} releases, arrivals and enqueues in all",
             places.len()
         ));
     }
     said.join("; ")
+}
+
+/// Who took the job of an enqueue before `t`.
+fn taken_by(order: &Order, enqueue: usize, t: usize) -> String {
+    match order.returned(enqueue).filter(|dequeue| *dequeue < t) {
+        Some(dequeue) => {
+            let (card, number) = (order.card(dequeue), order.number(dequeue));
+            format!("card {card} dequeues it, at {number}")
+        }
+        None => format!("nobody dequeues it before {}", order.number(t)),
+    }
 }

@@ -3,10 +3,8 @@
 use super::hindrance;
 use super::ledger::Ledger;
 use super::sentence::{counted, listed};
-use crate::model::{
-    Step, ACQUIRE, ARRIVE, MOST_INTERVALS, MOST_RECORDS, READ, RELEASE, TALLIES, TALLY_ADD,
-    TALLY_READ, WANT, WRITE,
-};
+use crate::model::{Step, ACQUIRE, ARRIVE, DEQUEUE, ENQUEUE, READ, RELEASE, WANT, WRITE};
+use crate::model::{MOST_INTERVALS, MOST_RECORDS, TALLIES, TALLY_ADD, TALLY_READ};
 use crate::stepfile::MOST_STEPS;
 
 /// Why the opening was refused, from its bytes.
@@ -59,12 +57,17 @@ pub fn of_step(refusal: u32, number: usize, bytes: &[u8], ledger: &Ledger) -> St
     };
     let step = Step::from_bytes(record);
     match refusal {
-        3 => format!("{} is no kind of step: they are 1 to 6, 8 and 9", step.kind),
+        3 => format!(
+            "{} is no kind of step: they are 1 to 6 and 8 to 11",
+            step.kind
+        ),
         4 => no_card(&step, ledger),
         5 => wrong_field(&step, ledger),
         6 => hindrance::has_arrived(&step, ledger),
         17 => hindrance::waits(&step, ledger),
         18 => hindrance::arrives_holding(&step, ledger),
+        19 => hindrance::queue_is_full(ledger),
+        20 => hindrance::queue_is_empty(),
         7 => hindrance::holds_already(&step, ledger),
         8 => hindrance::not_holder(&step, ledger),
         9 => no_interval(&step, ledger),
@@ -86,7 +89,7 @@ fn wrong_field(step: &Step, ledger: &Ledger) -> String {
         READ | WRITE => ("word", 32 * u16::from(ledger.pages)),
         ACQUIRE | RELEASE => ("lock", ledger.locks.len() as u16),
         TALLY_ADD | TALLY_READ => ("tally", TALLIES),
-        ARRIVE | WANT => ("", 1),
+        ARRIVE | WANT | ENQUEUE | DEQUEUE => ("", 1),
         _ => ("", u16::MAX),
     };
     let mut wrong = Vec::new();
@@ -107,7 +110,7 @@ fn wrong_field(step: &Step, ledger: &Ledger) -> String {
             ),
         });
     }
-    if step.value != 0 && !matches!(step.kind, WRITE | TALLY_ADD) {
+    if step.value != 0 && !matches!(step.kind, WRITE | TALLY_ADD | ENQUEUE) {
         wrong.push(format!(
             "its value is {}, and must be 0: it is not used",
             step.value
@@ -162,6 +165,8 @@ pub fn in_short(refusal: u32) -> &'static str {
         6 => "the card has arrived",
         17 => "the card waits for a lock",
         18 => "an arrival by a holder",
+        19 => "the queue is full",
+        20 => "the queue is empty",
         7 => "the card holds the lock already",
         8 => "the card does not hold the lock",
         9 => "no interval left",

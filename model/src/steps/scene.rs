@@ -1,8 +1,9 @@
 //! What a picture of a run has in it: a row for each record, the times for
-//! which cards hold and await locks, the releases that reach somebody, rounds.
+//! which cards hold and await locks, the releases and jobs that reach somebody,
+//! rounds.
 
 use super::input::Range;
-use super::ledger::Deed;
+use super::ledger::{Deed, Job};
 use super::sentence;
 use super::walk::{Told, Walk};
 use super::writes::Finding;
@@ -17,6 +18,7 @@ pub enum Mark {
     Write,
     Lock,
     Arrival,
+    Job,
     Other,
     Refused,
 }
@@ -47,12 +49,22 @@ pub struct Bar {
     pub to: Option<Time>,
 }
 
-/// A release that reaches an acquire or a waiter of another card.
+/// A release that reaches an acquire or a waiter of another card, or an enqueue
+/// whose job another card dequeues.
 pub struct Arrow {
     /// Its card and record; none where that is before the picture.
     pub from: Option<(u8, usize)>,
     pub to: u8,
     pub at: Time,
+    pub goal: Goal,
+}
+
+/// Where an arrow leads: to the bar of a lock that begins then, or to the mark of
+/// a dequeue.
+#[derive(Clone, Copy, Debug, PartialEq, Eq)]
+pub enum Goal {
+    Bar,
+    Mark,
 }
 
 /// A card that has arrived rests until the round is complete.
@@ -119,7 +131,8 @@ impl Stage {
         let (card, lock) = (step.card, step.object);
         match deed {
             Deed::Holds => {
-                self.reach(self.releases[usize::from(lock)], card, Time::At(number));
+                let release = self.releases[usize::from(lock)];
+                self.reach(release, card, Time::At(number), Goal::Bar);
                 self.open_bar(card, lock, false, Time::At(number));
             }
             Deed::Waits { .. } => self.open_bar(card, lock, true, Time::At(number)),
@@ -132,7 +145,7 @@ impl Stage {
                 self.close_bar(card, lock, Time::At(number));
                 self.close_bar(turn.card, lock, behind);
                 self.open_bar(turn.card, lock, false, behind);
-                self.reach(Some((card, number)), turn.card, behind);
+                self.reach(Some((card, number)), turn.card, behind, Goal::Bar);
             }
             Deed::Arrived { .. } => self.rests.push(Rest {
                 card,
@@ -140,6 +153,12 @@ impl Stage {
                 to: None,
             }),
             Deed::RoundComplete { .. } => self.complete_round(number),
+            Deed::Dequeued { job: Some(job), .. } => {
+                let Job {
+                    card: by, since, ..
+                } = *job;
+                self.reach(Some((by, since)), card, Time::At(number), Goal::Mark);
+            }
             _ => {}
         }
     }
@@ -177,13 +196,14 @@ impl Stage {
         }
     }
 
-    fn reach(&mut self, release: Option<(u8, usize)>, to: u8, at: Time) {
-        let Some((card, number)) = release.filter(|(card, _)| *card != to) else {
+    /// What a step of another card hands on reaches this one.
+    fn reach(&mut self, from: Option<(u8, usize)>, to: u8, at: Time, goal: Goal) {
+        let Some((card, number)) = from.filter(|(card, _)| *card != to) else {
             return;
         };
         if self.seen_time(at).is_some() {
             let from = self.seen(number).map(|number| (card, number));
-            self.scene.arrows.push(Arrow { from, to, at });
+            self.scene.arrows.push(Arrow { from, to, at, goal });
         }
     }
 
@@ -232,7 +252,9 @@ fn label(told: &Told, said: String) -> String {
     match (&told.accepted, &told.finding) {
         _ if refusal != 0 => format!("{said}: refused ({refusal})"),
         (_, Some(Finding::NotOrdered(_))) => format!("{said}: {value}, not ordered"),
-        (Some((_, Deed::Read | Deed::TallyRead { .. })), _) => format!("{said}: {value}"),
+        (Some((_, Deed::Read | Deed::TallyRead { .. } | Deed::Dequeued { .. })), _) => {
+            format!("{said}: {value}")
+        }
         (Some((_, Deed::Waits { .. })), _) => format!("{said}: waits"),
         (Some((_, Deed::RoundComplete { collected })), _) => match collected {
             true => format!("{said}: round complete, collection"),
@@ -254,6 +276,7 @@ fn mark(told: &Told) -> Option<Mark> {
         (Deed::Stored, _) => Mark::Write,
         (Deed::Holds | Deed::Waits { .. } | Deed::Freed | Deed::HandedTo(_), _) => Mark::Lock,
         (Deed::Arrived { .. } | Deed::RoundComplete { .. }, _) => Mark::Arrival,
+        (Deed::Enqueued { .. } | Deed::Dequeued { .. }, _) => Mark::Job,
         _ => Mark::Other,
     })
 }

@@ -1,7 +1,8 @@
 //! A record as a sentence, in the words of the documents. `pack.rs` reads what
 //! is written here.
 
-use crate::model::{Step, ACQUIRE, ARRIVE, READ, RELEASE, TALLY_ADD, TALLY_READ, WANT, WRITE};
+use crate::model::{Step, ACQUIRE, ARRIVE, DEQUEUE, ENQUEUE, READ, RELEASE, WANT, WRITE};
+use crate::model::{TALLY_ADD, TALLY_READ};
 
 /// The sentence of record `number`. Bytes for which there is none, an odd
 /// record or one that is cut, are written as they are.
@@ -42,6 +43,8 @@ pub fn deed(step: &Step) -> Option<String> {
         (WANT, 0, 0) => Some("wants collection".to_string()),
         (TALLY_ADD, _, _) => Some(format!("adds {value} to tally {object}")),
         (TALLY_READ, _, 0) => Some(format!("reads tally {object}")),
+        (ENQUEUE, 0, _) => Some(format!("enqueues {value}")),
+        (DEQUEUE, 0, 0) => Some("dequeues".to_string()),
         _ => None,
     }
 }
@@ -61,6 +64,15 @@ fn raw(bytes: &[u8]) -> String {
 pub fn counted(count: usize, what: &str) -> String {
     let ending = if count == 1 { "" } else { "s" };
     format!("{count} {what}{ending}")
+}
+
+/// `no job waits`, `1 job waits`, `2 jobs wait`.
+pub fn jobs_waiting(count: usize) -> String {
+    match count {
+        0 => "no job waits".to_string(),
+        1 => "1 job waits".to_string(),
+        _ => format!("{count} jobs wait"),
+    }
 }
 
 /// `1`, `1 and 2`, `1, 2 and 3`.

@@ -17,6 +17,7 @@ pub fn text(areas: &Areas) -> String {
         cards(areas),
         records(areas),
         tallies(areas),
+        jobs(areas),
     ];
     parts.join("\n")
 }
@@ -207,6 +208,22 @@ fn tallies(areas: &Areas) -> String {
         let mut cells = vec![format!("tally {tally}"), areas.posted(tally).to_string()];
         cells.extend(added(tally).map(|sum| sum.to_string()));
         rows.push(cells);
+    }
+    table(&rows)
+}
+
+fn jobs(areas: &Areas) -> String {
+    let jobs = areas.jobs();
+    if jobs.is_empty() {
+        return "no jobs wait\n".to_string();
+    }
+    let mut rows = vec![row(["job, the oldest first", "value", "its clock"])];
+    for (nth, job) in jobs.iter().enumerate() {
+        rows.push(vec![
+            format!("job {}", nth + 1),
+            job.value.to_string(),
+            entries(job.clock),
+        ]);
     }
     table(&rows)
 }

@@ -2,7 +2,7 @@
 
 use super::ledger::Deed;
 use super::refusal;
-use super::sentence::counted;
+use super::sentence::{counted, jobs_waiting};
 use super::walk::{Told, Walk};
 use super::writes::Finding;
 use std::collections::BTreeMap;
@@ -18,6 +18,8 @@ pub struct Summary {
     /// The first reads that are not ordered.
     named: Vec<String>,
     tally_reads: usize,
+    enqueues: usize,
+    dequeues: usize,
     refusals: BTreeMap<u32, usize>,
     /// Reads that answered what they may not.
     pub broken: usize,
@@ -34,6 +36,8 @@ impl Summary {
             (Some(Finding::Ordered { .. }), _) => self.ordered += 1,
             (Some(Finding::NotOrdered(_)), _) => self.count_not_ordered(told.number),
             (_, Some((_, Deed::TallyRead { .. }))) => self.tally_reads += 1,
+            (_, Some((_, Deed::Enqueued { .. }))) => self.enqueues += 1,
+            (_, Some((_, Deed::Dequeued { .. }))) => self.dequeues += 1,
             _ => {}
         }
     }
@@ -60,6 +64,10 @@ impl Summary {
         if self.tally_reads > 0 {
             lines.push(format!("    reads of tallies: {}", self.tally_reads));
         }
+        if self.enqueues > 0 {
+            let (added, removed) = (self.enqueues, self.dequeues);
+            lines.push(format!("    jobs: {added} enqueued, {removed} dequeued"));
+        }
         lines.push(format!(
             "    refusals: {}",
             self.refusals.values().sum::<usize>()
@@ -73,7 +81,11 @@ impl Summary {
         if let Some(ledger) = &walk.ledger {
             let (standing, dirty) = (ledger.standing(), ledger.dirty.len());
             let (records, pages) = (counted(standing, "record"), counted(dirty, "dirty page"));
-            lines.push(format!("    at the end: {records} standing, {pages}"));
+            let jobs = match ledger.jobs.len() {
+                0 => String::new(),
+                waiting => format!(", {}", jobs_waiting(waiting)),
+            };
+            lines.push(format!("    at the end: {records} standing, {pages}{jobs}"));
         }
         lines.push(format!("    words moved: {}", self.words(walk)));
         if self.broken > 0 {

@@ -88,6 +88,7 @@ text { font-family: Verdana, 'DejaVu Sans', Arial, sans-serif; font-size: 12px; 
 .head { fill: #3667b5; }
 .round { stroke: #1d2126; stroke-width: 3; }
 .step { stroke: #1d2126; stroke-width: 2; fill: none; }
+.job { stroke: #1d2126; stroke-width: 2; fill: #ffffff; }
 .solid { fill: #1d2126; }
 .ordered { fill: #1a7f4b; stroke: #1a7f4b; stroke-width: 1.5; }
 .none-written { fill: #ffffff; stroke: #1a7f4b; stroke-width: 2; }
@@ -109,6 +110,7 @@ text { fill: #e8eaed; }
 .holds, .head { fill: #8ab4f8; }
 .waits, .hatch, .arrow { stroke: #8ab4f8; }
 .round, .step { stroke: #e8eaed; }
+.job { stroke: #e8eaed; fill: #17191c; }
 .solid { fill: #e8eaed; }
 .ordered { fill: #6fd39b; stroke: #6fd39b; }
 .none-written { fill: #17191c; stroke: #6fd39b; }

@@ -1,4 +1,3 @@
--- `act` meets its contract. Assumes nothing.
 use Rattle.forecast_step.proofs.Acting.{act-laws}
 use Rattle.forecast_step.proofs.act.Statement.{statement}
 use Rattle.forecast_step.proofs.act.Tie as tie
@@ -6,4 +5,4 @@ use Rattle.forecast_step.proofs.act.Tie as tie
 pub act-spec : {M : Type 1} → statement M
 act-spec =
     tie.close
-    (tie.spec (λ c κs. search act-laws) (λ c. search act-laws) (λ c. search act-laws) (λ c κs. search act-laws) (λ c. search act-laws) (λ c. search act-laws) (λ c. search act-laws) (λ c κs. search act-laws) (λ c. search act-laws) (λ c. search act-laws) (λ c. search act-laws) (λ c κs. search act-laws) (λ c. search act-laws) (λ c. search act-laws) (λ c. search act-laws) (λ c κs. search act-laws) (λ c. search act-laws) (λ c. search act-laws) (λ c. search act-laws))
+    (tie.spec (λ c κs. search act-laws) (λ c. search act-laws) (λ c. search act-laws) (λ c κs. search act-laws) (λ c. search act-laws) (λ c. search act-laws) (λ c. search act-laws) (λ c κs. search act-laws) (λ c. search act-laws) (λ c. search act-laws) (λ c. search act-laws) (λ c κs. search act-laws) (λ c. search act-laws) (λ c. search act-laws) (λ c. search act-laws) (λ c κs. search act-laws) (λ c. search act-laws) (λ c. search act-laws) (λ c κs. search act-laws) (λ c. search act-laws) (λ c. search act-laws) (λ c. search act-laws) (λ c κs. search act-laws) (λ c. search act-laws) (λ c. search act-laws) (λ c. search act-laws) (λ c. search act-laws))

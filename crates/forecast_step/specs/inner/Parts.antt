@@ -12,6 +12,7 @@ use Rattle.rules.specs.Refusals.{stepOf}
 use Rattle.rules.specs.Forecast.{Forecast, bare, forecastRefusal, writtenFor, roundFor, collectedFor}
 use Rattle.layout.specs.inner.Marks.{processorCount, lockCount}
 use Rattle.refusals.specs.inner.Parts.{seen}
+use Rattle.queue_marks.specs.inner.Needed.{RoomThere, JobThere}
 use Rattle.forecast_step.specs.Memory.{forecastIn}
 use Rattle.forecast_step.specs.inner.Needed.{Foreseen}
 
@@ -33,7 +34,17 @@ pub record LockForeseen (own m : List ℕ) (p l : ℕ) : Type 0 where
   pub acts : ActsForeseen own m p
   pub lock : l < lockCount m
 
--- the same, and p has not arrived
+-- p acts, and the queue has room for one job more
+pub record RoomForeseen (own m : List ℕ) (p : ℕ) : Type 0 where
+  pub acts : ActsForeseen own m p
+  pub queue : RoomThere m
+
+-- p acts, and a job waits
+pub record JobForeseen (own m : List ℕ) (p : ℕ) : Type 0 where
+  pub acts : ActsForeseen own m p
+  pub queue : JobThere m
+
+-- p acts, and has not arrived
 pub record ArrivalForeseen (own m : List ℕ) (p : ℕ) : Type 0 where
   pub acts : ActsForeseen own m p
   pub not-arrived : hasArrived (seen m) p ≡ false

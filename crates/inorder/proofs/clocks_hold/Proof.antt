@@ -6,4 +6,4 @@ use Rattle.inorder.proofs.clocks_hold.Tie as tie
 pub clocks-hold-spec : {M : Type 1} → statement M
 clocks-hold-spec =
     tie.close
-    (tie.spec (λ c κs. search clocks-checked) (λ c. search clocks-checked) (λ c. search clocks-checked) (λ c κs. search clocks-checked) (λ c. search clocks-checked) (λ c κs. search clocks-checked) (λ c. search clocks-checked) (λ c κs. search clocks-checked) (λ c. search clocks-checked) (λ c κs. search clocks-checked) (λ c. search clocks-checked))
+    (tie.spec (λ c κs. search clocks-checked depth 7) (λ c. search clocks-checked depth 7) (λ c. search clocks-checked depth 7) (λ c κs. search clocks-checked depth 7) (λ c. search clocks-checked depth 7) (λ c κs. search clocks-checked depth 7) (λ c. search clocks-checked depth 7) (λ c κs. search clocks-checked depth 7) (λ c. search clocks-checked depth 7) (λ c κs. search clocks-checked depth 7) (λ c. search clocks-checked depth 7) (λ c κs. search clocks-checked depth 7) (λ c. search clocks-checked depth 7))

@@ -7,8 +7,8 @@ use mathlib.Core.List.{List}
 use lib.ListN.{getD}
 use lib.Dec.{leb}
 use Rattle.lists.specs.Tables.{every, tabulate}
-use Rattle.limits.specs.Limits.{intervalLimit, lockLimit, pageLimit, pageWidth, processorLimit, recordLimit, tallyLimit}
-use Rattle.limits.specs.inner.Sizes.{clockWidth, copyLimit, firstAppliedRow, firstIntervalRow, firstLockRow, ownStep, firstTally}
+use Rattle.limits.specs.Limits.{intervalLimit, jobLimit, lockLimit, pageLimit, pageWidth, processorLimit, recordLimit, tallyLimit}
+use Rattle.limits.specs.inner.Sizes.{clockWidth, copyLimit, firstAppliedRow, firstIntervalRow, firstJobRow, firstLockRow, ownStep, firstTally}
 use Rattle.layout.specs.Layout.{rowOf}
 use Rattle.layout.specs.Areas.{standingCount}
 use Rattle.layout.specs.inner.Marks.{lockCount, pageCount, processorCount}
@@ -41,14 +41,15 @@ appliedHold c processors pages k = rowsHold (rowOf clockWidth c (k + 1)) c (firs
 unfoldable pub intervalsHold : List ℕ → List ℕ → ℕ → Bool
 intervalsHold own c k = rowsHold own c (firstIntervalRow + intervalLimit * k) intervalLimit (getD own k 0)
 
--- all clocks: the barrier's and the processors', the locks', the applied ones, the intervals'
+-- all clocks: the barrier's and the processors', the locks', those of every place of the queue, the applied ones, the intervals'
 unfoldable pub clocksHoldWith : List ℕ → List ℕ → ℕ → ℕ → ℕ → Bool
 clocksHoldWith own c processors pages locks =
     every processorLimit (ownFits own)
     && (rowsHold own c 0 firstLockRow (processors + 1)
     && (rowsHold own c firstLockRow lockLimit locks
+    && (rowsHold own c firstJobRow jobLimit jobLimit
     && (every processorLimit (appliedHold c processors pages)
-    && every processorLimit (intervalsHold own c))))
+    && every processorLimit (intervalsHold own c)))))
 
 -- ---- words: the copies and the twins of absent pages are zeros
 

@@ -6,9 +6,10 @@ use mathlib.Core.List.{List}
 use lib.ListN.{getD}
 use lib.Dec.{leb, ltb, eqb}
 use Rattle.lists.specs.Tables.{every, any, total}
-use Rattle.limits.specs.Limits.{intervalLimit, lockLimit, pageLimit, processorLimit, recordLimit}
+use Rattle.limits.specs.Limits.{intervalLimit, jobLimit, lockLimit, pageLimit, processorLimit, recordLimit}
 use Rattle.limits.specs.Places.{firstArrived}
 use Rattle.limits.specs.inner.Sizes.{firstAwaited, firstDirty, firstHolder, firstTurn}
+use Rattle.layout.specs.inner.Marks.{firstMark, jobsMark}
 
 -- ---- what the tests of other areas share with these
 
@@ -107,13 +108,20 @@ linesHold m processors locks =
     && (every (processorLimit - processors) (zeroAt m (firstAwaited + processors))
     && every (processorLimit - processors) (zeroAt m (firstTurn + processors)))
 
+-- ---- the queue
+
+-- the oldest job has a place of the queue, and there are no more jobs than places
+unfoldable pub queueHolds : List ℕ → Bool
+queueHolds m = ltb (firstMark m) jobLimit && leb (jobsMark m) jobLimit
+
 -- ---- all marks
 
--- dirty pages, holders, arrivals, lines of waiters, and room
+-- dirty pages, holders, arrivals, lines of waiters, the queue, and room
 unfoldable pub marksHoldWith : List ℕ → List ℕ → ℕ → ℕ → ℕ → ℕ → Bool
 marksHoldWith own m processors pages locks standing =
     every processorLimit (dirtyHold own m processors pages)
     && (holdersHold m processors locks
     && (arrivedHold m processors
     && (linesHold m processors locks
-    && roomHolds m processors pages standing)))
+    && (queueHolds m
+    && roomHolds m processors pages standing))))

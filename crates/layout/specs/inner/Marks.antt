@@ -6,7 +6,7 @@ use Rattle.limits.specs.Limits.{slotHead}
 use Rattle.limits.specs.Places.{processorsPlace, pagesPlace, locksPlace, standingPlace, standingHigh, wantedPlace}
 use Rattle.limits.specs.inner.Sizes.{slotWidth}
 use Rattle.rules.specs.State.{mainframe, Record}
-use Rattle.layout.specs.Areas.{arrivedPlace, holderPlace, dirtyPlace, awaitedPlace, turnPlace}
+use Rattle.layout.specs.Areas.{arrivedPlace, holderPlace, dirtyPlace, awaitedPlace, turnPlace, firstPlace, jobsPlace}
 
 -- ---- marks; how many records stand is `standingCount` of Areas
 
@@ -49,6 +49,14 @@ awaitedMark m p = getD m (awaitedPlace mainframe p) 0
 -- the turn of processor p
 abbrev pub turnMark : List ℕ → ℕ → ℕ
 turnMark m p = getD m (turnPlace mainframe p) 0
+
+-- the place of the oldest job of the queue
+abbrev pub firstMark : List ℕ → ℕ
+firstMark m = getD m (firstPlace mainframe) 0
+
+-- how many jobs wait
+abbrev pub jobsMark : List ℕ → ℕ
+jobsMark m = getD m (jobsPlace mainframe) 0
 
 -- ---- the numbers of slot i, and the diff behind them
 

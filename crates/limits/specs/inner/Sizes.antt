@@ -1,7 +1,7 @@
 -- The sizes and places that follow from the numbers of Limits.antt, each with one name; the code has the same names in capitals (src/lib.rt).
 -- Assumes nothing.
 use Prim.Native.Nat.{ℕ, _+_, _*_, _/_}
-use Rattle.limits.specs.Limits.{processorLimit, pageLimit, pageWidth, lockLimit, recordLimit, intervalLimit, tallyLimit, slotHead}
+use Rattle.limits.specs.Limits.{processorLimit, pageLimit, pageWidth, lockLimit, recordLimit, intervalLimit, tallyLimit, jobLimit, slotHead}
 use Rattle.limits.specs.Files.{stepLimit}
 use Rattle.limits.specs.Places.{firstArrived}
 
@@ -45,7 +45,7 @@ noticeWidth = 3
 abbrev pub slotWidth : ℕ
 slotWidth = slotHead + diffLimit
 
--- ---- rows of clocks: the barrier's, the processors', the locks', the applied clocks and the intervals'
+-- ---- rows of clocks: the barrier's, the processors', the locks', the applied clocks, the intervals' and the jobs'
 
 -- the locks', behind the barrier's and the processors'
 abbrev pub firstLockRow : ℕ
@@ -59,9 +59,13 @@ firstAppliedRow = firstLockRow + lockLimit
 abbrev pub firstIntervalRow : ℕ
 firstIntervalRow = firstAppliedRow + copyLimit
 
+-- the jobs', behind the intervals'
+abbrev pub firstJobRow : ℕ
+firstJobRow = firstIntervalRow + processorLimit * intervalLimit
+
 -- all
 abbrev pub clockRowLimit : ℕ
-clockRowLimit = firstIntervalRow + processorLimit * intervalLimit
+clockRowLimit = firstJobRow + jobLimit
 
 -- ---- rows of words: the copies, then the twins
 
@@ -69,7 +73,7 @@ clockRowLimit = firstIntervalRow + processorLimit * intervalLimit
 abbrev pub wordRowLimit : ℕ
 wordRowLimit = copyLimit + copyLimit
 
--- ---- marks: behind the arrived marks the holders, then dirty, then who waits for which lock, and the turns
+-- ---- marks: behind the arrived marks the holders, then dirty, then who waits for which lock, the turns, and the two of the queue
 
 -- the holders, behind the arrived marks
 abbrev pub firstHolder : ℕ
@@ -87,6 +91,14 @@ firstAwaited = firstDirty + copyLimit
 abbrev pub firstTurn : ℕ
 firstTurn = firstAwaited + processorLimit
 
+-- the queue's place of its oldest job, behind the turns
+abbrev pub queueFirst : ℕ
+queueFirst = firstTurn + processorLimit
+
+-- and how many jobs it has
+abbrev pub queueJobs : ℕ
+queueJobs = queueFirst + 1
+
 -- ---- "its size is the fixed one": the four areas
 
 -- the bytes of the clocks
@@ -97,9 +109,13 @@ clockArea = clockWidth * clockRowLimit
 abbrev pub firstTally : ℕ
 firstTally = pageWidth * wordRowLimit
 
+-- the values of the jobs, behind the tallies
+abbrev pub firstJobValue : ℕ
+firstJobValue = firstTally + (processorLimit + 1) * tallyLimit
+
 -- all words
 abbrev pub wordArea : ℕ
-wordArea = firstTally + (processorLimit + 1) * tallyLimit
+wordArea = firstJobValue + jobLimit
 
 -- the bytes of the records
 abbrev pub recordArea : ℕ
@@ -107,7 +123,7 @@ recordArea = slotWidth * recordLimit
 
 -- the marks
 abbrev pub markArea : ℕ
-markArea = firstTurn + processorLimit
+markArea = queueJobs + 1
 
 -- ---- a sort key: sum, processor, interval and slot as one number, each below its base
 
@@ -177,7 +193,7 @@ firstBound = firstMask + recordLimit
 
 -- from this kind on none is known: they share its place among the bounds
 abbrev pub kindLimit : ℕ
-kindLimit = 10
+kindLimit = 12
 
 -- the places for the kinds: 0, those that are known, and one for all above
 abbrev pub kindBounds : ℕ

@@ -23,7 +23,7 @@ openingFits bytes = eqb (length bytes) fileRecordWidth && eqb (openingRefusal ma
 unfoldable pub freshCopy : List ℕ
 freshCopy = replicate wordLimit 0
 
--- the copies and twins of eight processors and the tallies, all 0
+-- the copies and twins of eight processors, the tallies and the values of jobs, all 0
 unfoldable pub freshWords : List ℕ
 freshWords = replicate wordArea 0
 

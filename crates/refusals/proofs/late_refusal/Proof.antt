@@ -6,4 +6,4 @@ use Rattle.refusals.proofs.late_refusal.Tie as tie
 pub late-refusal-spec : {M : Type 1} → statement M
 late-refusal-spec =
     tie.close
-    (tie.spec (λ c κs. search refusal-laws) (λ c. search refusal-laws) (λ c κs. search refusal-laws) (λ c. search refusal-laws) (λ c κs. search refusal-laws) (λ c. search refusal-laws) (λ c κs. search refusal-laws) (λ c. search refusal-laws) (λ c. search refusal-laws))
+    (tie.spec (λ c κs. search refusal-laws) (λ c. search refusal-laws) (λ c κs. search refusal-laws) (λ c. search refusal-laws) (λ c κs. search refusal-laws) (λ c. search refusal-laws) (λ c κs. search refusal-laws) (λ c. search refusal-laws) (λ c κs. search refusal-laws) (λ c. search refusal-laws) (λ c κs. search refusal-laws) (λ c. search refusal-laws) (λ c. search refusal-laws))

@@ -6,4 +6,4 @@ use Rattle.refusals.proofs.object_bound.Tie as tie
 pub object-bound-spec : {M : Type 1} → statement M
 object-bound-spec =
     tie.close
-    (tie.spec (λ c κs. search refusal-laws) (λ c. search refusal-laws) (λ c. search refusal-laws) (λ c κs. search refusal-laws) (λ c. search refusal-laws) (λ c. search refusal-laws) (λ c. search refusal-laws))
+    (tie.spec (λ c κs. search refusal-laws) (λ c. search refusal-laws) (λ c. search refusal-laws) (λ c κs. search refusal-laws) (λ c. search refusal-laws) (λ c. search refusal-laws) (λ c. search refusal-laws) (λ c. search refusal-laws))

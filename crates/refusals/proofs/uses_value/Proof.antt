@@ -6,4 +6,4 @@ use Rattle.refusals.proofs.uses_value.Tie as tie
 pub uses-value-spec : {M : Type 1} → statement M
 uses-value-spec =
     tie.close
-    (tie.spec (λ c. search refusal-laws) (λ c. search refusal-laws))
+    (tie.spec (λ c. search refusal-laws) (λ c. search refusal-laws) (λ c. search refusal-laws))

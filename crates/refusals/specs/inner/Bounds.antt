@@ -1,4 +1,4 @@
--- The bounds of the kinds: 22 numbers by which one test says whether a kind is known and its fields fit; and the marks of a processor as one
+-- The bounds of the kinds: 26 numbers by which one test says whether a kind is known and its fields fit; and the marks of a processor as one
 -- test. Assumes nothing.
 use Prim.Native.Nat.{ℕ, _+_, _*_, min}
 use mathlib.Core.Bool.{Bool, cond, _&&_}
@@ -31,10 +31,10 @@ unfoldable pub marksFree : List ℕ → ℕ → Bool
 marksFree m k = eqb (getD m (firstArrived + k) 0) 0 && eqb (getD m (firstAwaited + k) 0) 0
 
 -- the bounds of the marks, a place a kind: the words for a read or a write, the locks for an acquire or a release, 1 where no object is used, the
--- tallies for kinds 8 and 9, 0 where a kind is not known; then what the value may be, anything for a write or an add and 0 for the others
+-- tallies for kinds 8 and 9, 0 where a kind is not known; then what the value may be, anything for a write, an add or an enqueue and 0 for the others
 unfoldable pub boundsOf : List ℕ → List ℕ
 boundsOf m =
     let words = pageCount m * pageWidth in
     let locks = lockCount m in
-    0 ∷ words ∷ words ∷ locks ∷ locks ∷ 1 ∷ 1 ∷ 0 ∷ tallyLimit ∷ tallyLimit ∷ 0
-    ∷ 0 ∷ 0 ∷ valueLimit ∷ 0 ∷ 0 ∷ 0 ∷ 0 ∷ 0 ∷ valueLimit ∷ 0 ∷ 0 ∷ []
+    0 ∷ words ∷ words ∷ locks ∷ locks ∷ 1 ∷ 1 ∷ 0 ∷ tallyLimit ∷ tallyLimit ∷ 1 ∷ 1 ∷ 0
+    ∷ 0 ∷ 0 ∷ valueLimit ∷ 0 ∷ 0 ∷ 0 ∷ 0 ∷ 0 ∷ valueLimit ∷ 0 ∷ valueLimit ∷ 0 ∷ 0 ∷ []

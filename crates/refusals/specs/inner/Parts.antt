@@ -7,7 +7,7 @@ use lib.Dec.{leb, ltb, eqb}
 use Rattle.rules.specs.State.{mainframe, State, hasArrived}
 use Rattle.rules.specs.InOrder.{present, dirtyPages}
 use Rattle.rules.specs.Lines.{waits}
-use Rattle.rules.specs.Refusals.{Write, Acquire, Release, Arrive, knownKind, usesValue, lateRefusal}
+use Rattle.rules.specs.Refusals.{Write, Acquire, Release, Arrive, Enqueue, Dequeue, knownKind, usesValue, lateRefusal}
 use Rattle.layout.specs.Areas.{stateIn}
 
 -- the state of the mainframe with these marks, its clocks, words and slots left out
@@ -16,20 +16,27 @@ seen marks = stateIn mainframe [] [] [] marks
 
 -- of 5: below which number the object of a known kind is
 unfoldable pub boundOf : State → ℕ → ℕ
-boundOf s kind = cond (leb kind 2) (s .counts .pages * mainframe .words) (cond (leb kind 4) (s .counts .locks) (cond (leb kind 6) 1 (mainframe .tallies)))
+boundOf s kind =
+    cond (leb kind 2) (s .counts .pages * mainframe .words)
+    (cond (leb kind 4) (s .counts .locks)
+    (cond (leb kind 6) 1
+    (cond (leb kind 9) (mainframe .tallies)
+    1)))
 
 -- 5: whether object and value fit a known kind
 unfoldable pub fieldsFit : State → ℕ → ℕ → ℕ → Bool
 fieldsFit s kind object value = ltb object (boundOf s kind) && (usesValue kind || eqb value 0)
 
--- the rows 7 to 10 and 18, by the step's kind; none looks at the value, and 7, 8 and 18 not at the own entry
+-- the rows 7 to 10 and 18 to 20, by the step's kind; none looks at the value, only 9 at the own entry, and 19 and 20 not at the processor
 unfoldable pub refusalOfKind : State → ℕ → ℕ → ℕ → ℕ → ℕ
 refusalOfKind s own kind processor object =
     cond (eqb kind 2) (lateRefusal mainframe s own processor (Write object 0))
     (cond (eqb kind 3) (lateRefusal mainframe s 0 processor (Acquire object))
     (cond (eqb kind 4) (lateRefusal mainframe s 0 processor (Release object))
     (cond (eqb kind 5) (lateRefusal mainframe s 0 processor Arrive)
-    0)))
+    (cond (eqb kind 10) (lateRefusal mainframe s 0 0 (Enqueue 0))
+    (cond (eqb kind 11) (lateRefusal mainframe s 0 0 Dequeue)
+    0)))))
 
 -- 6 and 17: whether a processor has not arrived and does not wait
 unfoldable pub isFree : State → ℕ → Bool

@@ -15,7 +15,7 @@ use Rattle.rules.specs.State.{Limits, Counts, Processor, Lock, Clocks, w
 use Rattle.rules.specs.Lines.{waits, turnOf, inLine, waiterAt, firstInLine, withWaiter, lockAsked, withoutWaiter, lockHanded}
 use Rattle.rules.specs.Close.{closed}
 use Rattle.rules.specs.Steps.{learned, acquire, lockTold, waiterTold, release, wantsCollection, want}
-use Rattle.rules.proofs.state.Holders.{Knows, lock-carries}
+use Rattle.rules.proofs.state.Holders.{lock-carries}
 use Rattle.rules.proofs.state.Waiters.{holderIn, awake-says, found-stands, moved-up-at, length-moved-up}
 use Rattle.rules.proofs.inorder.Facts.{LinesInOrder}
 use Rattle.rules.proofs.inorder.KeptParts.{presentAmong, among-says, among-when, arrivedIn, CountsInOrder, ClocksInOrder, MarksInOrder, Parts}

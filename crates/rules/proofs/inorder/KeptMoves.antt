@@ -42,9 +42,9 @@ knows-present n (Applied p g) k = absurd k
 knows-present n (Interval p i) k = absurd k
 knows-present n (Job i) k = refl
 
-pub processor-within : (lim : Limits) (n : Counts) → CountsInOrder lim n → (p : ℕ) → presentAmong n p ≡ true → Within lim (Processor p)
+pub present-within : (lim : Limits) (n : Counts) → CountsInOrder lim n → (p : ℕ) → presentAmong n p ≡ true → Within lim (Processor p)
 unfolding Within
-processor-within lim n c p a = let k = among-says n p a in (k .0, omega (arith, k .1, c .processors-fit))
+present-within lim n c p a = let k = among-says n p a in (k .0, omega (arith, k .1, c .processors-fit))
 
 pub lock-within : (lim : Limits) (n : Counts) → CountsInOrder lim n → (l : ℕ) → l < n .locks → Within lim (Lock l)
 unfolding Within

@@ -2,26 +2,23 @@
 -- learns. Rests on KeptClose and KeptRounds. Assumes nothing.
 use Prim.Native.Nat.{ℕ, suc, _+_, _-_, _%_, _≤_, _<_}
 use native.Mathlib.Omega.{arith}
-use native.Mathlib.Decide.{decLt, ℕ-discrete}
-use mathlib.Core.Path.{_≡_, refl, sym, ap, _∙_}
+use native.Mathlib.Decide.{ℕ-discrete}
+use mathlib.Core.Path.{_≡_, refl, _∙_}
 use mathlib.Core.Bool.{Bool, true, false, cond}
 use mathlib.Core.Logic.{_⊎_, inl, inr}
-use mathlib.Core.List.{List}
-use lib.ListN.{length, getD}
 use lib.Dec.{eqb, ltb}
-use borrow.Author.Tests.{eqb-true, eqb-false, ltb-true, ltb-false, eq-eqb, ne-eqb, lt-ltb}
+use borrow.Author.Tests.{ltb-true, ltb-false, eq-eqb, ne-eqb}
 use Rattle.lists.specs.Tables.{put}
 use Rattle.lists.proofs.Tables.{length-put-within}
 use Rattle.limits.specs.Limits.{wordValues}
-use Rattle.rules.specs.State.{Limits, Counts, Processor, Job, Clocks, clockOf, withClock, Marks, withQueue, Shared, addsOf, State, withClocks, withMarks, withShared}
+use Rattle.rules.specs.State.{Limits, Counts, Processor, Job, clockOf, withClock, Marks, withQueue, addsOf, State, withClocks, withMarks}
 use Rattle.rules.specs.Lines.{waits, turnOf}
 use Rattle.rules.specs.Close.{closed}
 use Rattle.rules.specs.Steps.{learned, placeBehind, freePlace, enqueue, dequeue}
 use Rattle.rules.proofs.state.Holders.{job-carries}
 use Rattle.rules.proofs.inorder.Facts.{Within}
-use Rattle.rules.proofs.inorder.KeptParts.{presentAmong, CountsInOrder, MarksInOrder, SharedInOrder, Parts}
+use Rattle.rules.proofs.inorder.KeptParts.{presentAmong, MarksInOrder, Parts}
 use Rattle.rules.proofs.inorder.KeptLines.{queue-lines}
-use Rattle.rules.proofs.inorder.KeptMoves.{OwnKept}
 use Rattle.rules.proofs.inorder.KeptRounds.{processor-learned, carrier-handed}
 use Rattle.rules.proofs.inorder.KeptClose.{closed-parts}
 use Rattle.rules.proofs.inorder.KeptShared.{shared-changed}

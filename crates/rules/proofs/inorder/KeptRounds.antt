@@ -17,7 +17,7 @@ use Rattle.rules.proofs.state.Holders.{clock-of-with-same, Knows, Carri
 use Rattle.rules.proofs.inorder.Facts.{Within}
 use Rattle.rules.proofs.inorder.Rows.{rows-map-all}
 use Rattle.rules.proofs.inorder.KeptParts.{presentAmong, among-says, among-when, ownIn, CountsInOrder, ClocksSized, ClocksInOrder}
-use Rattle.rules.proofs.inorder.KeptMoves.{OwnKept, kept-again, processor-within, carrier-set, interval-set, own-same, own-other, processor-set}
+use Rattle.rules.proofs.inorder.KeptMoves.{OwnKept, kept-again, present-within, carrier-set, interval-set, own-same, own-other, processor-set}
 
 -- ---- one clock learns another
 
@@ -29,7 +29,7 @@ processor-learned lim n c p from k f a w =
     record {
       in-order =
           processor-set lim n c p v k f a
-          (omega (arith, length-joined (clockOf c (Processor p)) (clockOf c from), f .sized .clocks (Processor p) (processor-within lim n k p a), f .sized .clocks from w))
+          (omega (arith, length-joined (clockOf c (Processor p)) (clockOf c from), f .sized .clocks (Processor p) (present-within lim n k p a), f .sized .clocks from w))
           (λ q. omega (arith, entry q)) (omega (arith, entry p, f .known from p, f .own-fits p)) (λ q d. omega (arith, entry q, f .known from q, f .known (Processor p) q));
       own-kept = λ q. go q (ℕ-discrete q p);
     }
@@ -50,7 +50,7 @@ pub carrier-learned : (lim : Limits) (n : Counts) (c : Clocks) (h : Holder) (p :
 unfolding learned Knows
 carrier-learned lim n c h p k f carrier place a =
     carrier-set lim n c h (joined (clockOf c h) (clockOf c (Processor p))) k f carrier place
-    (omega (arith, length-joined (clockOf c h) (clockOf c (Processor p)), f .sized .clocks (Processor p) (processor-within lim n k p a), f .sized .clocks h place))
+    (omega (arith, length-joined (clockOf c h) (clockOf c (Processor p)), f .sized .clocks (Processor p) (present-within lim n k p a), f .sized .clocks h place))
     (λ q. omega (arith, entryOf-joined (clockOf c h) (clockOf c (Processor p)) q, f .known h q, f .known (Processor p) q))
 
 -- a carrier's clock becomes a processor's
@@ -58,7 +58,7 @@ pub carrier-handed : (lim : Limits) (n : Counts) (c : Clocks) (h : Holder) (p : 
     → OwnKept lim n c (withClock c h (clockOf c (Processor p)))
 unfolding Knows
 carrier-handed lim n c h p k f carrier place a =
-    carrier-set lim n c h (clockOf c (Processor p)) k f carrier place (f .sized .clocks (Processor p) (processor-within lim n k p a)) (f .known (Processor p))
+    carrier-set lim n c h (clockOf c (Processor p)) k f carrier place (f .sized .clocks (Processor p) (present-within lim n k p a)) (f .known (Processor p))
 
 -- ---- a round completes
 

@@ -3,10 +3,10 @@ use Prim.Native.Nat.{ℕ, zero, suc, _≤_}
 use native.Mathlib.Omega.{arith}
 use native.Mathlib.Decide.{ℕ-discrete}
 use mathlib.Core.Path.{_≡_, refl, sym, ap, _∙_}
-use mathlib.Core.Bool.{Bool, true, false, cond, _&&_, _||_, and-eq-true-iff, false≢true}
+use mathlib.Core.Bool.{Bool, true, false, _&&_, _||_, and-eq-true-iff, false≢true}
 use mathlib.Core.Logic.{_⊎_, inl, inr}
 use lib.Dec.{leb, eqb}
-use borrow.Author.Tests.{eqb-true, leb-true}
+use borrow.Author.Tests.{ne-eqb, leb-true}
 use Rattle.rules.specs.Refusals.{Step, Action, Read, Write, Acquire, Release, Arrive, Want, TallyAdd, TallyRead, Enqueue, Dequeue, Unknown, actionOf, knownKind, stepOf}
 
 -- a known kind is 1 to 6 or 8 to 11
@@ -77,6 +77,50 @@ module _ (k p o v : ℕ) where
   unfolding actionOf stepOf
   kind-totals e = ap (λ (j : ℕ). actionOf (stepOf j p o v)) e
 
+  pub kind-enqueues : k ≡ 10 → actionOf (stepOf k p o v) ≡ Enqueue v
+  unfolding actionOf stepOf
+  kind-enqueues e = ap (λ (j : ℕ). actionOf (stepOf j p o v)) e
+
+  pub kind-dequeues : k ≡ 11 → actionOf (stepOf k p o v) ≡ Dequeue
+  unfolding actionOf stepOf
+  kind-dequeues e = ap (λ (j : ℕ). actionOf (stepOf j p o v)) e
+
+-- a kind that is not known is none of those that are
+pub unknown-differs : (n : ℕ) → knownKind n ≡ true → (k : ℕ) → knownKind k ≡ false → eqb k n ≡ false
+unknown-differs n known k unknown = ne-eqb k n (λ e. false≢true (sym unknown ∙ ap knownKind e ∙ known))
+
+-- and asks for no action
+unknown-action : (t : Step) → knownKind (t .kind) ≡ false → actionOf t ≡ Unknown
+unfolding actionOf
+unknown-action t u = rw (
+  no 1 (unfold knownKind in refl),
+  no 2 (unfold knownKind in refl),
+  no 3 (unfold knownKind in refl),
+  no 4 (unfold knownKind in refl),
+  no 5 (unfold knownKind in refl),
+  no 6 (unfold knownKind in refl),
+  no 8 (unfold knownKind in refl),
+  no 9 (unfold knownKind in refl),
+  no 10 (unfold knownKind in refl),
+  no 11 (unfold knownKind in refl),
+)
+  where
+    no : (n : ℕ) → knownKind n ≡ true → eqb (t .kind) n ≡ false
+    no n known = unknown-differs n known (t .kind) u
+
+-- a claim about a kind and what it asks for holds of a step if it holds of each known kind with its action, and of every other with none
+pub by-action : (claim : ℕ → Action → Type 0) (t : Step) → claim 1 (Read (t .object)) → claim 2 (Write (t .object) (t .value)) → claim 3 (Acquire (t .object))
+    → claim 4 (Release (t .object)) → claim 5 Arrive → claim 6 Want → claim 8 (TallyAdd (t .object) (t .value)) → claim 9 (TallyRead (t .object)) → claim 10 (Enqueue (t .value))
+    → claim 11 Dequeue → ((k : ℕ) → knownKind k ≡ false → claim k Unknown) → claim (t .kind) (actionOf t)
+by-action claim t a b c d e f g h i j other = go (knownKind (t .kind)) refl
+  where
+    of-kind : ℕ → Step
+    of-kind k = record { kind = k; processor = t .processor; object = t .object; value = t .value }
+
+    go : (known : Bool) → knownKind (t .kind) ≡ known → claim (t .kind) (actionOf t)
+    go true z = by-kind (λ k. claim k (actionOf (of-kind k))) (unfold actionOf in a) (unfold actionOf in b) (unfold actionOf in c) (unfold actionOf in d) (unfold actionOf in e) (unfold actionOf in f) (unfold actionOf in g) (unfold actionOf in h) (unfold actionOf in i) (unfold actionOf in j) (t .kind) z
+    go false z = rw (unknown-action t z) (other (t .kind) z)
+
 -- the kind of an action; 0 for none
 unfoldable pub kindOf : Action → ℕ
 kindOf (Read w) = 1
@@ -108,31 +152,9 @@ objectIn d Unknown = d
 module _ (t : Step) where
   -- the kind of a step is that of its action, where it has one
   pub kind-or-unknown : (t .kind ≡ kindOf (actionOf t)) ⊎ (actionOf t ≡ Unknown)
-  unfolding actionOf kindOf
+  unfolding kindOf
   kind-or-unknown =
-      go (eqb k 1) (eqb k 2) (eqb k 3) (eqb k 4) (eqb k 5) (eqb k 6) (eqb k 8) (eqb k 9) (eqb k 10) (eqb k 11) (eqb-true k 1) (eqb-true k 2) (eqb-true k 3) (eqb-true k 4) (eqb-true k 5) (eqb-true k 6) (eqb-true k 8) (eqb-true k 9) (eqb-true k 10) (eqb-true k 11)
-    where
-      k : ℕ
-      k = t .kind
-
-      action : (a b c d e f g h i j : Bool) → Action
-      action a b c d e f g h i j =
-          cond a (Read (t .object)) (cond b (Write (t .object) (t .value)) (cond c (Acquire (t .object)) (cond d (Release (t .object)) (cond e Arrive (cond f Want
-          (cond g (TallyAdd (t .object) (t .value)) (cond h (TallyRead (t .object)) (cond i (Enqueue (t .value)) (cond j Dequeue Unknown)))))))))
-
-      go : (a b c d e f g h i j : Bool) → (a ≡ true → k ≡ 1) → (b ≡ true → k ≡ 2) → (c ≡ true → k ≡ 3) → (d ≡ true → k ≡ 4) → (e ≡ true → k ≡ 5) → (f ≡ true → k ≡ 6)
-          → (g ≡ true → k ≡ 8) → (h ≡ true → k ≡ 9) → (i ≡ true → k ≡ 10) → (j ≡ true → k ≡ 11) → (k ≡ kindOf (action a b c d e f g h i j)) ⊎ (action a b c d e f g h i j ≡ Unknown)
-      go true b c d e f g h i j h₁ h₂ h₃ h₄ h₅ h₆ h₈ h₉ h₁₀ h₁₁ = inl (h₁ refl)
-      go false true c d e f g h i j h₁ h₂ h₃ h₄ h₅ h₆ h₈ h₉ h₁₀ h₁₁ = inl (h₂ refl)
-      go false false true d e f g h i j h₁ h₂ h₃ h₄ h₅ h₆ h₈ h₉ h₁₀ h₁₁ = inl (h₃ refl)
-      go false false false true e f g h i j h₁ h₂ h₃ h₄ h₅ h₆ h₈ h₉ h₁₀ h₁₁ = inl (h₄ refl)
-      go false false false false true f g h i j h₁ h₂ h₃ h₄ h₅ h₆ h₈ h₉ h₁₀ h₁₁ = inl (h₅ refl)
-      go false false false false false true g h i j h₁ h₂ h₃ h₄ h₅ h₆ h₈ h₉ h₁₀ h₁₁ = inl (h₆ refl)
-      go false false false false false false true h i j h₁ h₂ h₃ h₄ h₅ h₆ h₈ h₉ h₁₀ h₁₁ = inl (h₈ refl)
-      go false false false false false false false true i j h₁ h₂ h₃ h₄ h₅ h₆ h₈ h₉ h₁₀ h₁₁ = inl (h₉ refl)
-      go false false false false false false false false true j h₁ h₂ h₃ h₄ h₅ h₆ h₈ h₉ h₁₀ h₁₁ = inl (h₁₀ refl)
-      go false false false false false false false false false true h₁ h₂ h₃ h₄ h₅ h₆ h₈ h₉ h₁₀ h₁₁ = inl (h₁₁ refl)
-      go false false false false false false false false false false h₁ h₂ h₃ h₄ h₅ h₆ h₈ h₉ h₁₀ h₁₁ = inr refl
+      by-action (λ k a. (k ≡ kindOf a) ⊎ (a ≡ Unknown)) t (inl refl) (inl refl) (inl refl) (inl refl) (inl refl) (inl refl) (inl refl) (inl refl) (inl refl) (inl refl) (λ k u. inr refl)
 
   -- so is that of a step with a known action
   pub kind-of : (a : Action) → actionOf t ≡ a → (a ≡ Unknown → ⊥) → t .kind ≡ kindOf a
@@ -144,33 +166,16 @@ module _ (t : Step) where
 
   -- the object of a step is that of its action
   pub object-in : objectIn (t .object) (actionOf t) ≡ t .object
-  unfolding actionOf objectIn
-  object-in = go (eqb (t .kind) 1) (eqb (t .kind) 2) (eqb (t .kind) 3) (eqb (t .kind) 4) (eqb (t .kind) 5) (eqb (t .kind) 6) (eqb (t .kind) 8) (eqb (t .kind) 9) (eqb (t .kind) 10) (eqb (t .kind) 11)
-    where
-      go : (a b c d e f g h i j : Bool)
-          → objectIn (t .object)
-          (cond a (Read (t .object)) (cond b (Write (t .object) (t .value)) (cond c (Acquire (t .object)) (cond d (Release (t .object)) (cond e Arrive (cond f Want
-          (cond g (TallyAdd (t .object) (t .value)) (cond h (TallyRead (t .object)) (cond i (Enqueue (t .value)) (cond j Dequeue Unknown))))))))))
-          ≡ t .object
-      go true b c d e f g h i j = refl
-      go false true c d e f g h i j = refl
-      go false false true d e f g h i j = refl
-      go false false false true e f g h i j = refl
-      go false false false false true f g h i j = refl
-      go false false false false false true g h i j = refl
-      go false false false false false false true h i j = refl
-      go false false false false false false false true i j = refl
-      go false false false false false false false false true j = refl
-      go false false false false false false false false false true = refl
-      go false false false false false false false false false false = refl
+  unfolding objectIn
+  object-in = by-action (λ k a. objectIn (t .object) a ≡ t .object) t refl refl refl refl refl refl refl refl refl refl (λ k u. refl)
 
   -- no known kind asks for an unknown action
   pub known-action : knownKind (t .kind) ≡ true → actionOf t ≡ Unknown → ⊥
-  unfolding actionOf kindOf
-  known-action h =
-      by-kind (λ j. actionOf (record { kind = j; processor = t .processor; object = t .object; value = t .value }) ≡ Unknown → ⊥)
-      (λ e. apart 0 (ap kindOf e)) (λ e. apart 1 (ap kindOf e)) (λ e. apart 2 (ap kindOf e)) (λ e. apart 3 (ap kindOf e)) (λ e. apart 4 (ap kindOf e)) (λ e. apart 5 (ap kindOf e))
-      (λ e. apart 7 (ap kindOf e)) (λ e. apart 8 (ap kindOf e)) (λ e. apart 9 (ap kindOf e)) (λ e. apart 10 (ap kindOf e)) (t .kind) h
+  unfolding kindOf
+  known-action =
+      by-action (λ k a. knownKind k ≡ true → a ≡ Unknown → ⊥) t (λ z e. apart 0 (ap kindOf e)) (λ z e. apart 1 (ap kindOf e)) (λ z e. apart 2 (ap kindOf e)) (λ z e. apart 3 (ap kindOf e))
+      (λ z e. apart 4 (ap kindOf e)) (λ z e. apart 5 (ap kindOf e)) (λ z e. apart 7 (ap kindOf e)) (λ z e. apart 8 (ap kindOf e)) (λ z e. apart 9 (ap kindOf e)) (λ z e. apart 10 (ap kindOf e))
+      (λ k u z. absurd (false≢true (sym u ∙ z)))
     where
       apart : (n : ℕ) → suc n ≡ 0 → ⊥
       apart n e = omega arith

@@ -19,39 +19,10 @@ use Rattle.rules.specs.Opening.{zeroShared, Opening, openingRefusal, row
 use Rattle.rules.proofs.state.Waiters.{awaits}
 use Rattle.rules.proofs.inorder.Facts.{Within, Sized, LinesInOrder, InOrder}
 use Rattle.rules.proofs.inorder.Everywhere.{entry-none}
-use Rattle.rules.proofs.inorder.Rows.{Rows}
+use Rattle.rules.proofs.inorder.Rows.{replicated, rows-all, row-at, rows-sized}
 use Rattle.rules.proofs.inorder.Conditions.{countsTests, counts-tests}
 use Rattle.rules.proofs.inorder.InOrderSays.{in-range-says}
 use Rattle.rules.proofs.inorder.InOrderWhen.{in-order-when}
-
--- ---- lists and tables of equal elements
-
--- what holds of the element and of the default holds at every place
-replicated : {A : Type 0} (P : A → Type 0) (n i : ℕ) (a d : A) → P a → P d → P (getD (replicate n a) i d)
-replicated P zero i a d x y = y
-replicated P (suc n) zero a d x y = x
-replicated P (suc n) (suc i) a d x y = replicated P n i a d x y
-
-module _ {A : Type 0} where
-  -- what holds of the row and of the empty row holds of every row
-  rows-all : (P : List A → Type 0) (n : ℕ) (row : List A) (p : ℕ) → P row → P [] → P (getD (rows n row) p [])
-  unfolding rows
-  rows-all P n row zero x y = y
-  rows-all P n row (suc p) x y = replicated P n p row [] x y
-
-  row-at : (n : ℕ) (row : List A) (p : ℕ) → 1 ≤ p → p ≤ n → getD (rows n row) p [] ≡ row
-  unfolding rows
-  row-at n row zero h k = absurd (omega arith)
-  row-at n row (suc p) h k = getD-replicate n p row [] k
-
-  rows-sized : (lim : Limits) (m : ℕ) (row : List A) → length row ≡ m → Rows lim m (rows (lim .processors) row)
-  unfolding rows
-  rows-sized lim m row e =
-      record {
-        processors = ap suc (length-replicate (lim .processors) row);
-        nobody = refl;
-        row = λ p h k. ap length (row-at (lim .processors) row p h k) ∙ e;
-      }
 
 -- ---- the clocks
 
@@ -134,6 +105,11 @@ opened-clean lim p g =
     ap (λ (n : ℕ). not (eqb n 0))
     (rows-all (λ (row : List ℕ). getD row g 0 ≡ 0) (lim .processors) (replicate {A = ℕ} (lim .pages) 0) p
     (replicated (λ (n : ℕ). n ≡ 0) (lim .pages) g 0 0 refl refl) refl)
+
+-- the queue has its first place, or none
+some-place : (m : ℕ) → (m ≡ 0) ⊎ (0 < m)
+some-place zero = inl refl
+some-place (suc m) = inr (omega arith)
 
 -- nothing is posted
 pub opened-none-posted : (lim : Limits) (t : ℕ) → postedOf (zeroShared lim) t ≡ 0
@@ -244,18 +220,6 @@ module _ (lim : Limits) (c : Counts) where
       }
 
   -- counts in range make the opened state one in order
-  opened-first : (lim .jobs ≡ 0) ⊎ (opened lim c .marks .first < lim .jobs)
-  unfolding opened zeroMarks
-  opened-first = go (lim .jobs)
-    where
-      go : (m : ℕ) → (m ≡ 0) ⊎ (0 < m)
-      go zero = inl refl
-      go (suc m) = inr (omega arith)
-
-  opened-few-jobs : opened lim c .marks .jobs ≤ lim .jobs
-  unfolding opened zeroMarks
-  opened-few-jobs = omega arith
-
   pub opened-in-order : countsInRange lim c ≡ true → InOrder lim (opened lim c)
   unfolding opened countsTests
   opened-in-order e = go (λ i. conjoined-at (countsTests lim c) i (sym (counts-tests lim c) ∙ e))
@@ -295,8 +259,8 @@ module _ (lim : Limits) (c : Counts) where
             someone-missing = record { at = 0; below = processors .0; passes = ap not (opened-not-arrived 1) };
             lines = opened-no-lines;
             holder-away = λ l. inl (opened-not-held l);
-            first-there = opened-first;
-            few-jobs = opened-few-jobs;
+            first-there = unfold zeroMarks in some-place (lim .jobs);
+            few-jobs = unfold zeroMarks in omega arith;
           }
 
 -- an accepted opening has its counts in range

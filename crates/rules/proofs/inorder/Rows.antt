@@ -1,12 +1,12 @@
--- Tables with an empty row for nobody and a row of one length for each processor: what the test of them says, that nothing stands outside,
--- and that they keep their lengths when places change. Rests on Everywhere. Assumes nothing.
+-- Tables with an empty row for nobody and a row of one length for each processor: what the test of them says, that nothing stands outside, that they keep
+-- their lengths when places change, and those with equal rows. Rests on Everywhere. Assumes nothing.
 use Prim.Native.Nat.{ℕ, zero, suc, _≤_, _<_}
 use native.Mathlib.Omega.{arith}
 use native.Mathlib.Decide.{decLe, ℕ-discrete}
 use mathlib.Core.Path.{_≡_, refl, ap, _∙_}
 use mathlib.Core.Bool.{Bool, true}
 use mathlib.Core.List.{List, [], _∷_, map}
-use lib.ListN.{length, getD, List·getD-eq-default, length-map}
+use lib.ListN.{length, getD, replicate, length-replicate, getD-replicate, List·getD-eq-default, length-map}
 use lib.Dec.{eqb}
 use borrow.Author.Tests.{eqb-true, eq-eqb}
 use Rattle.lists.specs.Tables.{put, cell, putCell}
@@ -14,6 +14,7 @@ use Rattle.lists.proofs.Tables.{get-put-same, get-put-other, length-put-within,
 use Rattle.lists.proofs.Conditions.{conjoined, Given, conjoined-at, conjoined-holds}
 use Rattle.rules.specs.State.{Limits}
 use Rattle.rules.specs.InOrder.{everyProcessor, rowsSized}
+use Rattle.rules.specs.Opening.{rows}
 use Rattle.rules.proofs.inorder.Everywhere.{every-processor-at, every-processor-holds}
 
 -- a list of length 0 is empty
@@ -115,3 +116,32 @@ rows-map-all {A} lim n t f r =
   where
     same : (q : ℕ) → length (getD (map (map f) t) q []) ≡ length (getD t q [])
     same q = ap length (get-map (map f) [] t q) ∙ length-map (getD t q []) f
+
+-- ---- lists and tables of equal elements
+
+-- what holds of the element and of the default holds at every place
+pub replicated : {A : Type 0} (P : A → Type 0) (n i : ℕ) (a d : A) → P a → P d → P (getD (replicate n a) i d)
+replicated P zero i a d x y = y
+replicated P (suc n) zero a d x y = x
+replicated P (suc n) (suc i) a d x y = replicated P n i a d x y
+
+module _ {A : Type 0} where
+  -- what holds of the row and of the empty row holds of every row
+  pub rows-all : (P : List A → Type 0) (n : ℕ) (row : List A) (p : ℕ) → P row → P [] → P (getD (rows n row) p [])
+  unfolding rows
+  rows-all P n row zero x y = y
+  rows-all P n row (suc p) x y = replicated P n p row [] x y
+
+  pub row-at : (n : ℕ) (row : List A) (p : ℕ) → 1 ≤ p → p ≤ n → getD (rows n row) p [] ≡ row
+  unfolding rows
+  row-at n row zero h k = absurd (omega arith)
+  row-at n row (suc p) h k = getD-replicate n p row [] k
+
+  pub rows-sized : (lim : Limits) (m : ℕ) (row : List A) → length row ≡ m → Rows lim m (rows (lim .processors) row)
+  unfolding rows
+  rows-sized lim m row e =
+      record {
+        processors = ap suc (length-replicate (lim .processors) row);
+        nobody = refl;
+        row = λ p h k. ap length (row-at (lim .processors) row p h k) ∙ e;
+      }

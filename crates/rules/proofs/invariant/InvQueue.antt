@@ -1,27 +1,20 @@
 -- Adding a job to the queue and removing one keep the invariant, where closing keeps it: the clock of a place becomes the processor's, or the
 -- processor learns the clock of a place. Rests on InvLocks and InvMoves. Assumes nothing.
-use Prim.Native.Nat.{ℕ, suc, _+_, _-_, _≤_, _<_}
-use mathlib.Core.Path.{_≡_, refl, sym, ap, _∙_}
-use mathlib.Core.Bool.{Bool, true, false, cond}
+use Prim.Native.Nat.{ℕ, _+_, _-_, _≤_}
+use mathlib.Core.Path.{_≡_, refl, sym, _∙_}
 use lib.ListN.{length}
-use lib.Dec.{ltb}
-use Rattle.rules.specs.State.{Limits, Holder, Processor, Job, clockOf, withClock, Marks, withQueue, State, withClocks, withMarks, withShared}
+use Rattle.rules.specs.State.{Limits, Holder, Processor, Job, clockOf, withClock, Marks, withQueue, State, withClocks, withMarks}
 use Rattle.rules.specs.Lines.{waits}
-use Rattle.rules.specs.Close.{closed, ticked, anyDirty}
-use Rattle.rules.specs.Steps.{learned, placeBehind, freePlace, enqueue, dequeue}
+use Rattle.rules.specs.Close.{closed}
+use Rattle.rules.specs.Steps.{placeBehind, freePlace, enqueue, dequeue}
 use Rattle.rules.specs.Refusals.{Enqueue, Dequeue, effect}
 use Rattle.rules.proofs.state.Holders.{job-carries}
-use Rattle.rules.proofs.order.Ghosts.{Ghost, learnedNumbers, withNumber, closedGhost, ghostPlace, ghostAfter}
+use Rattle.rules.proofs.order.Ghosts.{Ghost, withNumber, closedGhost, ghost-place, ghostAfter}
 use Rattle.rules.proofs.order.MarksAfter.{restsIn}
 use Rattle.rules.proofs.invariant.Invariant.{Inv}
 use Rattle.rules.proofs.invariant.InvMoves.{withKnown, clean-carrier, hand-keeps, learn-keeps}
 use Rattle.rules.proofs.invariant.InvSame.{shared-aside}
 use Rattle.rules.proofs.invariant.InvLocks.{clean-closer}
-
--- the free place is the one of the ghost
-pub ghost-place : (lim : Limits) (s : State) → length (s .clocks .jobs) ≡ lim .jobs → ghostPlace s ≡ freePlace lim s
-unfolding ghostPlace freePlace
-ghost-place lim s e = ap (λ (m : ℕ). cond (ltb (s .marks .first + s .marks .jobs) m) (s .marks .first + s .marks .jobs) (s .marks .first + s .marks .jobs - m)) e
 
 module _ (lim : Limits) (g o : ℕ) (s : State) (γ : Ghost) (p : ℕ) (from : 1 ≤ p) (to : p ≤ s .counts .processors)
     (closing : Inv (lim .words) g o (closed s p) (closedGhost γ p)) (few : (h : Holder) → γ .known h ≤ γ .writes) (size : length (s .clocks .jobs) ≡ lim .jobs) where

@@ -9,7 +9,7 @@ use lib.ListN.{length}
 use lib.Dec.{eqb}
 use borrow.Author.Tests.{eqb-true, eq-eqb, ne-eqb}
 use Rattle.lists.proofs.Tables.{every-at}
-use Rattle.rules.specs.State.{Limits, Counts, Holder, Processor, Lock, Barrier, Applied, Interval, Job, cleared, dirtyAt, State, withClocks, standing, hasArrived, Shared, withShared, withMarks, withClock}
+use Rattle.rules.specs.State.{Limits, Counts, Holder, Processor, Lock, Barrier, Applied, Interval, Job, cleared, dirtyAt, State, withClocks, standing, hasArrived, withMarks, withClock}
 use Rattle.rules.specs.Close.{closed}
 use Rattle.rules.specs.Steps.{atBarrier, allArrived, allLearned, roundDone}
 use Rattle.rules.proofs.state.Holders.{sameHolder, Knows, barrier-carries}

@@ -1,15 +1,16 @@
--- What the kind of a step says of its action, that the events count the arrivals and the writes to a word, and that a read, a write or a release
--- is no acquire. Rests on the definitions alone. Assumes nothing.
+-- What the kind of a step says of its action, that the events count the arrivals, the writes to a word, the acquires and releases of a lock and the jobs, and
+-- that a read, a write or a release is no acquire. Rests on KindsOfSteps. Assumes nothing.
 use Prim.Native.Nat.{ℕ}
-use native.Mathlib.Decide.{ℕ-discrete}
-use mathlib.Core.Path.{_≡_, refl, ap, _∙_}
-use mathlib.Core.Bool.{Bool, true, false, cond, _&&_, false≢true, and-eq-true-iff}
+use native.Mathlib.Omega.{arith}
+use mathlib.Core.Path.{_≡_, refl, ap}
+use mathlib.Core.Bool.{Bool, true, false, _&&_, false≢true, and-eq-true-iff}
 use mathlib.Core.List.{List}
 use lib.Dec.{eqb}
-use borrow.Author.Tests.{eqb-true, ne-eqb}
-use Rattle.rules.specs.Refusals.{Action, Read, Write, Acquire, Release, Arrive, Want, TallyAdd, TallyRead, Enqueue, Dequeue, Unknown, actionOf}
+use borrow.Author.Tests.{eqb-true}
+use Rattle.rules.specs.Refusals.{Step, Action, Read, Write, Acquire, Release, Arrive, Want, TallyAdd, TallyRead, Enqueue, Dequeue, Unknown, actionOf, knownKind}
 use Rattle.rules.specs.Order.{Event, eventAt, Took, isArrival, isAcquireOf, isReleaseOf, isEnqueue, isDequeue}
 use Rattle.rules.specs.Demand.{isWriteTo}
+use Rattle.rules.proofs.inorder.KindsOfSteps.{unknown-differs, by-action}
 
 -- whether an action is an arrival, and whether it is a write to the word w
 unfoldable pub arrivesBy : Action → Bool
@@ -123,115 +124,6 @@ writes-to-is w (Enqueue j) e = absurd (false≢true e)
 writes-to-is w Dequeue e = absurd (false≢true e)
 writes-to-is w Unknown e = absurd (false≢true e)
 
--- a step's action from its kind
-abbrev chosen : ℕ → ℕ → ℕ → Action
-chosen k x v =
-    cond (eqb k 1) (Read x)
-    (cond (eqb k 2) (Write x v)
-    (cond (eqb k 3) (Acquire x)
-    (cond (eqb k 4) (Release x)
-    (cond (eqb k 5) Arrive
-    (cond (eqb k 6) Want
-    (cond (eqb k 8) (TallyAdd x v)
-    (cond (eqb k 9) (TallyRead x)
-    (cond (eqb k 10) (Enqueue v)
-    (cond (eqb k 11) Dequeue
-    Unknown)))))))))
-
-kind-arrives : (k x v : ℕ) → eqb k 5 ≡ arrivesBy (chosen k x v)
-unfolding arrivesBy
-kind-arrives k x v = go (ℕ-discrete k 5)
-  where
-    other : (b₁ b₂ b₃ b₄ b₆ b₈ b₉ b₁₀ b₁₁ : Bool)
-        → false ≡ arrivesBy (cond b₁ (Read x) (cond b₂ (Write x v) (cond b₃ (Acquire x) (cond b₄ (Release x) (cond b₆ Want (cond b₈ (TallyAdd x v) (cond b₉ (TallyRead x) (cond b₁₀ (Enqueue v) (cond b₁₁ Dequeue Unknown)))))))))
-    other true b₂ b₃ b₄ b₆ b₈ b₉ b₁₀ b₁₁ = refl
-    other false true b₃ b₄ b₆ b₈ b₉ b₁₀ b₁₁ = refl
-    other false false true b₄ b₆ b₈ b₉ b₁₀ b₁₁ = refl
-    other false false false true b₆ b₈ b₉ b₁₀ b₁₁ = refl
-    other false false false false true b₈ b₉ b₁₀ b₁₁ = refl
-    other false false false false false true b₉ b₁₀ b₁₁ = refl
-    other false false false false false false true b₁₀ b₁₁ = refl
-    other false false false false false false false true b₁₁ = refl
-    other false false false false false false false false true = refl
-    other false false false false false false false false false = refl
-
-    go : Dec (k ≡ 5) → eqb k 5 ≡ arrivesBy (chosen k x v)
-    go (yes e) = rw e
-    go (no e) = rw (ne-eqb k 5 e) (other (eqb k 1) (eqb k 2) (eqb k 3) (eqb k 4) (eqb k 6) (eqb k 8) (eqb k 9) (eqb k 10) (eqb k 11))
-
-kind-writes : (w k x v : ℕ) → (eqb k 2 && eqb x w) ≡ writesTo w (chosen k x v)
-unfolding writesTo
-kind-writes w k x v = go (ℕ-discrete k 2)
-  where
-    other : (b₁ b₃ b₄ b₅ b₆ b₈ b₉ b₁₀ b₁₁ : Bool)
-        → false ≡ writesTo w (cond b₁ (Read x) (cond b₃ (Acquire x) (cond b₄ (Release x) (cond b₅ Arrive (cond b₆ Want (cond b₈ (TallyAdd x v) (cond b₉ (TallyRead x) (cond b₁₀ (Enqueue v) (cond b₁₁ Dequeue Unknown)))))))))
-    other true b₃ b₄ b₅ b₆ b₈ b₉ b₁₀ b₁₁ = refl
-    other false true b₄ b₅ b₆ b₈ b₉ b₁₀ b₁₁ = refl
-    other false false true b₅ b₆ b₈ b₉ b₁₀ b₁₁ = refl
-    other false false false true b₆ b₈ b₉ b₁₀ b₁₁ = refl
-    other false false false false true b₈ b₉ b₁₀ b₁₁ = refl
-    other false false false false false true b₉ b₁₀ b₁₁ = refl
-    other false false false false false false true b₁₀ b₁₁ = refl
-    other false false false false false false false true b₁₁ = refl
-    other false false false false false false false false true = refl
-    other false false false false false false false false false = refl
-
-    go : Dec (k ≡ 2) → (eqb k 2 && eqb x w) ≡ writesTo w (chosen k x v)
-    go (yes e) = rw e
-    go (no e) = rw (ne-eqb k 2 e) (other (eqb k 1) (eqb k 3) (eqb k 4) (eqb k 5) (eqb k 6) (eqb k 8) (eqb k 9) (eqb k 10) (eqb k 11))
-
-kind-acquires : (l k x v : ℕ) → (eqb k 3 && eqb x l) ≡ acquiresLock l (chosen k x v)
-unfolding acquiresLock
-kind-acquires l k x v = go (ℕ-discrete k 3)
-  where
-    other : (b₁ b₂ b₄ b₅ b₆ b₈ b₉ b₁₀ b₁₁ : Bool)
-        → false ≡ acquiresLock l (cond b₁ (Read x) (cond b₂ (Write x v) (cond b₄ (Release x) (cond b₅ Arrive (cond b₆ Want (cond b₈ (TallyAdd x v) (cond b₉ (TallyRead x) (cond b₁₀ (Enqueue v) (cond b₁₁ Dequeue Unknown)))))))))
-    other true b₂ b₄ b₅ b₆ b₈ b₉ b₁₀ b₁₁ = refl
-    other false true b₄ b₅ b₆ b₈ b₉ b₁₀ b₁₁ = refl
-    other false false true b₅ b₆ b₈ b₉ b₁₀ b₁₁ = refl
-    other false false false true b₆ b₈ b₉ b₁₀ b₁₁ = refl
-    other false false false false true b₈ b₉ b₁₀ b₁₁ = refl
-    other false false false false false true b₉ b₁₀ b₁₁ = refl
-    other false false false false false false true b₁₀ b₁₁ = refl
-    other false false false false false false false true b₁₁ = refl
-    other false false false false false false false false true = refl
-    other false false false false false false false false false = refl
-
-    go : Dec (k ≡ 3) → (eqb k 3 && eqb x l) ≡ acquiresLock l (chosen k x v)
-    go (yes e) = rw e
-    go (no e) = rw (ne-eqb k 3 e) (other (eqb k 1) (eqb k 2) (eqb k 4) (eqb k 5) (eqb k 6) (eqb k 8) (eqb k 9) (eqb k 10) (eqb k 11))
-
-kind-releases : (l k x v : ℕ) → (eqb k 4 && eqb x l) ≡ releasesLock l (chosen k x v)
-unfolding releasesLock
-kind-releases l k x v = go (ℕ-discrete k 4)
-  where
-    other : (b₁ b₂ b₃ b₅ b₆ b₈ b₉ b₁₀ b₁₁ : Bool)
-        → false ≡ releasesLock l (cond b₁ (Read x) (cond b₂ (Write x v) (cond b₃ (Acquire x) (cond b₅ Arrive (cond b₆ Want (cond b₈ (TallyAdd x v) (cond b₉ (TallyRead x) (cond b₁₀ (Enqueue v) (cond b₁₁ Dequeue Unknown)))))))))
-    other true b₂ b₃ b₅ b₆ b₈ b₉ b₁₀ b₁₁ = refl
-    other false true b₃ b₅ b₆ b₈ b₉ b₁₀ b₁₁ = refl
-    other false false true b₅ b₆ b₈ b₉ b₁₀ b₁₁ = refl
-    other false false false true b₆ b₈ b₉ b₁₀ b₁₁ = refl
-    other false false false false true b₈ b₉ b₁₀ b₁₁ = refl
-    other false false false false false true b₉ b₁₀ b₁₁ = refl
-    other false false false false false false true b₁₀ b₁₁ = refl
-    other false false false false false false false true b₁₁ = refl
-    other false false false false false false false false true = refl
-    other false false false false false false false false false = refl
-
-    go : Dec (k ≡ 4) → (eqb k 4 && eqb x l) ≡ releasesLock l (chosen k x v)
-    go (yes e) = rw e
-    go (no e) = rw (ne-eqb k 4 e) (other (eqb k 1) (eqb k 2) (eqb k 3) (eqb k 5) (eqb k 6) (eqb k 8) (eqb k 9) (eqb k 10) (eqb k 11))
-
-kind-value : (w k x v : ℕ) → writesTo w (chosen k x v) ≡ true → v ≡ storedBy (chosen k x v)
-unfolding storedBy
-kind-value w k x v h = go (ℕ-discrete k 2)
-  where
-    go : Dec (k ≡ 2) → v ≡ storedBy (chosen k x v)
-    go (yes e) = rw e
-    go (no e) =
-        let z : (eqb k 2 && eqb x w) ≡ true = kind-writes w k x v ∙ h in
-        absurd (false≢true (rw (ne-eqb k 2 e) at z))
-
 -- L9: whether an action adds a job, and whether it removes one
 unfoldable pub addsJob : Action → Bool
 addsJob (Read x) = false
@@ -259,45 +151,43 @@ removesJob (Enqueue x) = false
 removesJob Dequeue = true
 removesJob Unknown = false
 
-kind-adds-job : (k x v : ℕ) → eqb k 10 ≡ addsJob (chosen k x v)
-unfolding addsJob
-kind-adds-job k x v = go (ℕ-discrete k 10)
-  where
-    other : (b₁ b₂ b₃ b₄ b₅ b₆ b₈ b₉ b₁₁ : Bool) → false ≡ addsJob (cond b₁ (Read x) (cond b₂ (Write x v) (cond b₃ (Acquire x) (cond b₄ (Release x) (cond b₅ Arrive (cond b₆ Want (cond b₈ (TallyAdd x v) (cond b₉ (TallyRead x) (cond b₁₁ Dequeue Unknown)))))))))
-    other true b₂ b₃ b₄ b₅ b₆ b₈ b₉ b₁₁ = refl
-    other false true b₃ b₄ b₅ b₆ b₈ b₉ b₁₁ = refl
-    other false false true b₄ b₅ b₆ b₈ b₉ b₁₁ = refl
-    other false false false true b₅ b₆ b₈ b₉ b₁₁ = refl
-    other false false false false true b₆ b₈ b₉ b₁₁ = refl
-    other false false false false false true b₈ b₉ b₁₁ = refl
-    other false false false false false false true b₉ b₁₁ = refl
-    other false false false false false false false true b₁₁ = refl
-    other false false false false false false false false true = refl
-    other false false false false false false false false false = refl
+-- ---- by its kind
 
-    go : Dec (k ≡ 10) → eqb k 10 ≡ addsJob (chosen k x v)
-    go (yes e) = rw e
-    go (no e) = rw (ne-eqb k 10 e) (other (eqb k 1) (eqb k 2) (eqb k 3) (eqb k 4) (eqb k 5) (eqb k 6) (eqb k 8) (eqb k 9) (eqb k 11))
+-- each of these of a step is seen by its kind and object
+module _ (t : Step) where
+  kind-arrives : eqb (t .kind) 5 ≡ arrivesBy (actionOf t)
+  unfolding arrivesBy knownKind
+  kind-arrives = by-action (λ k a. eqb k 5 ≡ arrivesBy a) t refl refl refl refl refl refl refl refl refl refl (unknown-differs 5 refl)
 
-kind-removes-job : (k x v : ℕ) → eqb k 11 ≡ removesJob (chosen k x v)
-unfolding removesJob
-kind-removes-job k x v = go (ℕ-discrete k 11)
-  where
-    other : (b₁ b₂ b₃ b₄ b₅ b₆ b₈ b₉ b₁₀ : Bool) → false ≡ removesJob (cond b₁ (Read x) (cond b₂ (Write x v) (cond b₃ (Acquire x) (cond b₄ (Release x) (cond b₅ Arrive (cond b₆ Want (cond b₈ (TallyAdd x v) (cond b₉ (TallyRead x) (cond b₁₀ (Enqueue v) Unknown)))))))))
-    other true b₂ b₃ b₄ b₅ b₆ b₈ b₉ b₁₀ = refl
-    other false true b₃ b₄ b₅ b₆ b₈ b₉ b₁₀ = refl
-    other false false true b₄ b₅ b₆ b₈ b₉ b₁₀ = refl
-    other false false false true b₅ b₆ b₈ b₉ b₁₀ = refl
-    other false false false false true b₆ b₈ b₉ b₁₀ = refl
-    other false false false false false true b₈ b₉ b₁₀ = refl
-    other false false false false false false true b₉ b₁₀ = refl
-    other false false false false false false false true b₁₀ = refl
-    other false false false false false false false false true = refl
-    other false false false false false false false false false = refl
+  kind-writes : (w : ℕ) → (eqb (t .kind) 2 && eqb (t .object) w) ≡ writesTo w (actionOf t)
+  unfolding writesTo knownKind
+  kind-writes w = by-action (λ k a. (eqb k 2 && eqb (t .object) w) ≡ writesTo w a) t refl refl refl refl refl refl refl refl refl refl (λ k u. rw (unknown-differs 2 refl k u))
 
-    go : Dec (k ≡ 11) → eqb k 11 ≡ removesJob (chosen k x v)
-    go (yes e) = rw e
-    go (no e) = rw (ne-eqb k 11 e) (other (eqb k 1) (eqb k 2) (eqb k 3) (eqb k 4) (eqb k 5) (eqb k 6) (eqb k 8) (eqb k 9) (eqb k 10))
+  kind-acquires : (l : ℕ) → (eqb (t .kind) 3 && eqb (t .object) l) ≡ acquiresLock l (actionOf t)
+  unfolding acquiresLock knownKind
+  kind-acquires l = by-action (λ k a. (eqb k 3 && eqb (t .object) l) ≡ acquiresLock l a) t refl refl refl refl refl refl refl refl refl refl (λ k u. rw (unknown-differs 3 refl k u))
+
+  kind-releases : (l : ℕ) → (eqb (t .kind) 4 && eqb (t .object) l) ≡ releasesLock l (actionOf t)
+  unfolding releasesLock knownKind
+  kind-releases l = by-action (λ k a. (eqb k 4 && eqb (t .object) l) ≡ releasesLock l a) t refl refl refl refl refl refl refl refl refl refl (λ k u. rw (unknown-differs 4 refl k u))
+
+  -- L9: a job is added by kind 10 and removed by kind 11
+  pub kind-adds-job : eqb (t .kind) 10 ≡ addsJob (actionOf t)
+  unfolding addsJob knownKind
+  kind-adds-job = by-action (λ k a. eqb k 10 ≡ addsJob a) t refl refl refl refl refl refl refl refl refl refl (unknown-differs 10 refl)
+
+  pub kind-removes-job : eqb (t .kind) 11 ≡ removesJob (actionOf t)
+  unfolding removesJob knownKind
+  kind-removes-job = by-action (λ k a. eqb k 11 ≡ removesJob a) t refl refl refl refl refl refl refl refl refl refl (unknown-differs 11 refl)
+
+  -- the value that a write stores is its value field
+  kind-value : (w : ℕ) → writesTo w (actionOf t) ≡ true → t .value ≡ storedBy (actionOf t)
+  unfolding writesTo storedBy
+  kind-value w =
+      by-action (λ k a. writesTo w a ≡ true → t .value ≡ storedBy a) t none (λ e. refl) none none none none none none none none (λ k u. none)
+    where
+      none : {x : ℕ} → false ≡ true → t .value ≡ x
+      none e = absurd (false≢true e)
 
 -- ---- the events
 
@@ -315,50 +205,41 @@ isAcquire (Enqueue j) = false
 isAcquire Dequeue = false
 isAcquire Unknown = false
 
--- a read, a write and a release are none
+-- a read, a write and a release are none, and a read and a write are no dequeue
 pub write-no-acquire : (x v l : ℕ) → Write x v ≡ Acquire l → ⊥
-unfolding isAcquire
-write-no-acquire x v l e = false≢true (ap isAcquire e)
+write-no-acquire x v l e = let z : _≡_ {A = ℕ} 0 1 = cc in omega arith
 
 pub read-no-acquire : (x l : ℕ) → Read x ≡ Acquire l → ⊥
-unfolding isAcquire
-read-no-acquire x l e = false≢true (ap isAcquire e)
+read-no-acquire x l e = let z : _≡_ {A = ℕ} 0 1 = cc in omega arith
 
 pub write-no-dequeue : (x v : ℕ) → Write x v ≡ Dequeue → ⊥
-unfolding removesJob
-write-no-dequeue x v e = false≢true (ap removesJob e)
+write-no-dequeue x v e = let z : _≡_ {A = ℕ} 0 1 = cc in omega arith
 
 pub read-no-dequeue : (x : ℕ) → Read x ≡ Dequeue → ⊥
-unfolding removesJob
-read-no-dequeue x e = false≢true (ap removesJob e)
+read-no-dequeue x e = let z : _≡_ {A = ℕ} 0 1 = cc in omega arith
 
 pub release-no-acquire : (x l : ℕ) → Release x ≡ Acquire l → ⊥
-unfolding isAcquire
-release-no-acquire x l e = false≢true (ap isAcquire e)
+release-no-acquire x l e = let z : _≡_ {A = ℕ} 0 1 = cc in omega arith
 
 module _ (es : List Event) (t : ℕ) where
   -- an accepted step is counted as an arrival when it is one
   pub took-arrival : (p : ℕ) (a : Action) → Took es t p a → isArrival (eventAt es t) ≡ arrivesBy a
-  unfolding isArrival actionOf
-  took-arrival p a k =
-      rw (k .accepted, ← k .action) (kind-arrives (eventAt es t .step .kind) (eventAt es t .step .object) (eventAt es t .step .value))
+  unfolding isArrival
+  took-arrival p a k = rw (k .accepted, ← k .action) (kind-arrives (eventAt es t .step))
 
   -- and as a write to w when it is one
   pub took-write : (w p : ℕ) (a : Action) → Took es t p a → isWriteTo (eventAt es t) w ≡ writesTo w a
-  unfolding isWriteTo actionOf
-  took-write w p a k =
-      rw (k .accepted, ← k .action) (kind-writes w (eventAt es t .step .kind) (eventAt es t .step .object) (eventAt es t .step .value))
+  unfolding isWriteTo
+  took-write w p a k = rw (k .accepted, ← k .action) (kind-writes (eventAt es t .step) w)
 
   -- as an acquire or a release of lock l when it is one
   pub took-acquire : (l p : ℕ) (a : Action) → Took es t p a → isAcquireOf l (eventAt es t) ≡ acquiresLock l a
-  unfolding isAcquireOf actionOf
-  took-acquire l p a k =
-      rw (k .accepted, ← k .action) (kind-acquires l (eventAt es t .step .kind) (eventAt es t .step .object) (eventAt es t .step .value))
+  unfolding isAcquireOf
+  took-acquire l p a k = rw (k .accepted, ← k .action) (kind-acquires (eventAt es t .step) l)
 
   pub took-release : (l p : ℕ) (a : Action) → Took es t p a → isReleaseOf l (eventAt es t) ≡ releasesLock l a
-  unfolding isReleaseOf actionOf
-  took-release l p a k =
-      rw (k .accepted, ← k .action) (kind-releases l (eventAt es t .step .kind) (eventAt es t .step .object) (eventAt es t .step .value))
+  unfolding isReleaseOf
+  took-release l p a k = rw (k .accepted, ← k .action) (kind-releases (eventAt es t .step) l)
 
   -- a refused step is no acquire and no release
   pub refused-acquire : (l : ℕ) → eventAt es t .accepted ≡ false → isAcquireOf l (eventAt es t) ≡ false
@@ -381,19 +262,16 @@ module _ (es : List Event) (t : ℕ) where
 
   -- the value that an accepted write stores is its value field
   pub took-value : (w p : ℕ) (a : Action) → Took es t p a → writesTo w a ≡ true → eventAt es t .step .value ≡ storedBy a
-  unfolding actionOf
-  took-value w p a k =
-      rw (← k .action) (kind-value w (eventAt es t .step .kind) (eventAt es t .step .object) (eventAt es t .step .value))
+  took-value w p a k = rw (← k .action) (kind-value (eventAt es t .step) w)
 
-module _ (es : List Event) (t : ℕ) where
   -- L9: an accepted step is counted as an enqueue or a dequeue when it is one
   pub took-enqueue : (p : ℕ) (a : Action) → Took es t p a → isEnqueue (eventAt es t) ≡ addsJob a
-  unfolding isEnqueue actionOf
-  took-enqueue p a k = rw (k .accepted, ← k .action) (kind-adds-job (eventAt es t .step .kind) (eventAt es t .step .object) (eventAt es t .step .value))
+  unfolding isEnqueue
+  took-enqueue p a k = rw (k .accepted, ← k .action) (kind-adds-job (eventAt es t .step))
 
   pub took-dequeue : (p : ℕ) (a : Action) → Took es t p a → isDequeue (eventAt es t) ≡ removesJob a
-  unfolding isDequeue actionOf
-  took-dequeue p a k = rw (k .accepted, ← k .action) (kind-removes-job (eventAt es t .step .kind) (eventAt es t .step .object) (eventAt es t .step .value))
+  unfolding isDequeue
+  took-dequeue p a k = rw (k .accepted, ← k .action) (kind-removes-job (eventAt es t .step))
 
   pub refused-enqueue : eventAt es t .accepted ≡ false → isEnqueue (eventAt es t) ≡ false
   unfolding isEnqueue
@@ -403,21 +281,9 @@ module _ (es : List Event) (t : ℕ) where
   unfolding isDequeue
   refused-dequeue e = rw e
 
-  -- what the events say
+  -- and what is counted as an enqueue is one
   pub enqueue-of : isEnqueue (eventAt es t) ≡ true → Took es t (eventAt es t .step .processor) (Enqueue (eventAt es t .step .value))
   unfolding isEnqueue actionOf
   enqueue-of e =
       let both = and-eq-true-iff (eventAt es t .accepted) (eqb (eventAt es t .step .kind) 10) .0 e in
-      made (both .0) (eqb-true (eventAt es t .step .kind) 10 (both .1))
-    where
-      made : eventAt es t .accepted ≡ true → eventAt es t .step .kind ≡ 10 → Took es t (eventAt es t .step .processor) (Enqueue (eventAt es t .step .value))
-      made x y = record { accepted = x; processor = refl; action = unfold actionOf in rw y }
-
-  pub dequeue-of : isDequeue (eventAt es t) ≡ true → Took es t (eventAt es t .step .processor) Dequeue
-  unfolding isDequeue actionOf
-  dequeue-of e =
-      let both = and-eq-true-iff (eventAt es t .accepted) (eqb (eventAt es t .step .kind) 11) .0 e in
-      made (both .0) (eqb-true (eventAt es t .step .kind) 11 (both .1))
-    where
-      made : eventAt es t .accepted ≡ true → eventAt es t .step .kind ≡ 11 → Took es t (eventAt es t .step .processor) Dequeue
-      made x y = record { accepted = x; processor = refl; action = unfold actionOf in rw y }
+      record { accepted = both .0; processor = refl; action = rw (eqb-true (eventAt es t .step .kind) 10 (both .1)) }

@@ -14,7 +14,7 @@ use Rattle.lists.proofs.Tables.{every-at, any-holds}
 use Rattle.lists.proofs.Conditions.{conjoined, conjoined-at, Given, conjoined-holds}
 use Rattle.rules.specs.Refusals.{Action, Read, Write, Acquire, Release, Arrive, Want, TallyAdd, TallyRead, Enqueue, Dequeue, Unknown, actionOf}
 use Rattle.rules.specs.Order.{Event, noEvent, eventAt, Took, isArrival, countedOff, groupsBefore, rounds, counted, isAcquireOf, isReleaseOf, Serves, Before, program, lock, round, granted, Returns, job, isEnqueue, isDequeue, chain}
-use Rattle.rules.proofs.order.ActionKinds.{arrivesBy, isAcquire, addsJob, removesJob, took-enqueue, took-dequeue, enqueue-of, dequeue-of}
+use Rattle.rules.proofs.order.ActionKinds.{arrivesBy, isAcquire, addsJob, removesJob, took-enqueue, took-dequeue}
 
 -- the five ways in which a step is before another
 pub data Edge : Type 0 where
@@ -251,11 +251,12 @@ module _ (n : ℕ) (es : List Event) (i j : ℕ) where
   cutTests inside = closedUnder noEdge n es inside ∷ inside i ∷ not (inside j) ∷ []
 
   -- place i is inside, place j is not, and no edge leads out
-  cut : (ℕ → Bool) → Bool
+  unfoldable pub cut : (ℕ → Bool) → Bool
   unfolding cutTests noEdge closedUnder conjoined
   cut inside = conjoined (cutTests inside)
 
-  cut-not-before : (inside : ℕ → Bool) → cut inside ≡ true → Before n es i j → ⊥
+  -- then the one is not before the other
+  pub cut-not-before : (inside : ℕ → Bool) → cut inside ≡ true → Before n es i j → ⊥
   unfolding cut
   cut-not-before inside h =
       not-before inside (conjoined-at (cutTests inside) 0 h) (conjoined-at (cutTests inside) 1 h) (not-true (inside j) (conjoined-at (cutTests inside) 2 h))

@@ -2,7 +2,7 @@
 -- Assumes nothing.
 use Prim.Native.Nat.{ℕ, zero, suc, _+_, _≤_, max, _-_}
 use native.Mathlib.Omega.{arith}
-use mathlib.Core.Path.{_≡_, refl, sym, _∙_}
+use mathlib.Core.Path.{_≡_, refl, sym, ap, _∙_}
 use mathlib.Core.Bool.{Bool, true, false, cond, _&&_}
 use mathlib.Core.List.{List}
 use lib.ListN.{length}
@@ -10,7 +10,7 @@ use lib.Dec.{eqb, ltb}
 use borrow.Author.Tests.{eqb-false, ne-eqb}
 use Rattle.rules.specs.State.{Limits, Counts, Holder, Processor, Lock, Barrier, Applied, Interval, Job, State, holder}
 use Rattle.rules.specs.Lines.{firstInLine}
-use Rattle.rules.specs.Steps.{atBarrier, allArrived, wantsCollection}
+use Rattle.rules.specs.Steps.{atBarrier, allArrived, wantsCollection, freePlace}
 use Rattle.rules.specs.Refusals.{Action, Read, Write, Acquire, Release, Arrive, Want, TallyAdd, TallyRead, Enqueue, Dequeue, Unknown, actionOf}
 use Rattle.rules.specs.Order.{Event, eventAt, Took}
 use Rattle.rules.specs.Demand.{valueField}
@@ -75,6 +75,11 @@ grantedNumbers f q l = cond (eqb q 0) f (learnedNumbers f (Processor q) (Lock l)
 -- the free place of the queue, by the clocks of its places
 unfoldable pub ghostPlace : State → ℕ
 ghostPlace s = let k = s .marks .first + s .marks .jobs in cond (ltb k (length (s .clocks .jobs))) k (k - length (s .clocks .jobs))
+
+-- it is that of the rules where the table of clocks has its size
+pub ghost-place : (lim : Limits) (s : State) → length (s .clocks .jobs) ≡ lim .jobs → ghostPlace s ≡ freePlace lim s
+unfolding ghostPlace freePlace
+ghost-place lim s e = ap (λ (m : ℕ). cond (ltb (s .marks .first + s .marks .jobs) m) (s .marks .first + s .marks .jobs) (s .marks .first + s .marks .jobs - m)) e
 
 -- what an accepted step of processor p, taken in the state s, does to the counts for the word w
 unfoldable pub ghostAfter : ℕ → State → ℕ → Action → Ghost → Ghost

@@ -1,71 +1,29 @@
 -- L9: the queue told from the list alone is the state's: its jobs are those added less those removed, and the oldest one's place is that of the
 -- number of those removed; so what an enqueue leaves at its place stands there until the dequeue that returns its job. Rests on Ring and Numbers.
 -- Assumes nothing.
-use Prim.Native.Nat.{ℕ, zero, suc, _+_, _-_, _≤_, _<_, max}
+use Prim.Native.Nat.{ℕ, zero, suc, _+_, _-_, _≤_, _<_}
 use native.Mathlib.Omega.{arith}
-use native.Mathlib.Decide.{ℕ-discrete}
 use mathlib.Core.Path.{_≡_, refl, sym, ap, _∙_}
-use mathlib.Core.Bool.{Bool, true, false, cond, not, _&&_, false≢true}
-use mathlib.Core.Logic.{_⊎_, inl, inr}
-use mathlib.Core.List.{List, [], _∷_}
-use lib.ListN.{length, getD}
+use mathlib.Core.Bool.{Bool, true, false, cond, false≢true}
+use mathlib.Core.List.{List}
+use lib.ListN.{getD}
 use lib.Dec.{eqb, ltb}
-use borrow.Author.Tests.{eqb-true, eq-eqb, ne-eqb, lt-ltb}
-use Rattle.rules.specs.State.{Limits, Counts, Holder, Processor, Lock, Barrier, Applied, Interval, Job, Marks, withHolder, State, holder}
-use Rattle.rules.specs.Lines.{inLine, withWaiter, lockAsked, lockHanded, withoutWaiter, firstInLine}
+use borrow.Author.Tests.{ne-eqb}
+use Rattle.rules.specs.State.{Limits, Counts, Holder, Processor, Lock, Job, State, own, holder}
+use Rattle.rules.specs.Lines.{firstInLine}
 use Rattle.rules.specs.Opening.{opened, zeroMarks}
-use Rattle.rules.specs.Close.{closed}
-use Rattle.rules.specs.Fetch.{fetched}
-use Rattle.rules.specs.Steps.{read, write, acquire, release, want, arrive, placeBehind, freePlace, enqueue, dequeue}
-use Rattle.rules.specs.Refusals.{Action, Read, Write, Acquire, Release, Arrive, Want, TallyAdd, TallyRead, Enqueue, Dequeue, Unknown, effect}
+use Rattle.rules.specs.Steps.{placeBehind, freePlace}
+use Rattle.rules.specs.Refusals.{Action, Read, Write, Acquire, Release, Arrive, Want, TallyAdd, TallyRead, Enqueue, Dequeue, Unknown}
 use Rattle.rules.specs.Order.{Event, eventAt, Took, counted, isEnqueue, isDequeue, Returns}
 use Rattle.rules.proofs.state.Holders.{sameHolder}
-use Rattle.rules.proofs.inorder.Facts.{InOrder}
-use Rattle.rules.proofs.inorder.Accepted.{Accepted, late-enqueue, late-dequeue}
-use Rattle.rules.proofs.order.Timeline.{Timeline, Moment, Refused, Taken, moment, course-of, effect-of, took-accepted}
-use Rattle.rules.proofs.order.Counted.{counted-passes, counted-fails, counted-never-falls}
+use Rattle.rules.proofs.inorder.Accepted.{late-enqueue, late-dequeue}
+use Rattle.rules.proofs.order.Timeline.{Timeline, Moment, Refused, Taken, moment, took-accepted}
+use Rattle.rules.proofs.order.Counted.{flag, counted-passes, counted-fails, counted-on, counted-never-falls}
+use Rattle.rules.proofs.order.QueueAfter.{queueOf, queueAfter, queue-after}
 use Rattle.rules.proofs.order.ActionKinds.{addsJob, removesJob, took-enqueue, took-dequeue, refused-enqueue, refused-dequeue, enqueue-of}
-use Rattle.rules.proofs.order.MarksAfter.{arrive-keeps}
-use Rattle.rules.proofs.order.Ghosts.{Ghost, withNumber, learnedNumbers, roundNumbers, arrivedNumbers, freedNumbers, grantedNumbers, ghostPlace, completes, ghostAfter, ghostAt, ghost-refused, ghost-taken}
+use Rattle.rules.proofs.order.Ghosts.{Ghost, withNumber, learnedNumbers, roundNumbers, arrivedNumbers, freedNumbers, grantedNumbers, ghostPlace, ghost-place, completes, ghostAfter, ghostAt, ghost-refused, ghost-taken}
 use Rattle.rules.proofs.order.NumbersAfter.{with-number-same, with-number-other, learner-knows}
-use Rattle.rules.proofs.order.Ring.{ring, wrapped, ring-ahead, ring-below, Queue, Stays, keeps-its-place}
-use Rattle.rules.specs.State.{own}
-
--- the two marks of the queue
-abbrev queueOf : Marks → List ℕ
-queueOf m = m .first ∷ m .jobs ∷ []
-
--- after a step
-unfoldable queueAfter : Limits → State → Action → List ℕ
-queueAfter lim s (Read x) = queueOf (s .marks)
-queueAfter lim s (Write x v) = queueOf (s .marks)
-queueAfter lim s (Acquire l) = queueOf (s .marks)
-queueAfter lim s (Release l) = queueOf (s .marks)
-queueAfter lim s Arrive = queueOf (s .marks)
-queueAfter lim s Want = queueOf (s .marks)
-queueAfter lim s (TallyAdd j x) = queueOf (s .marks)
-queueAfter lim s (TallyRead j) = queueOf (s .marks)
-queueAfter lim s (Enqueue v) = s .marks .first ∷ (s .marks .jobs + 1) ∷ []
-queueAfter lim s Dequeue = placeBehind lim (s .marks .first) ∷ (s .marks .jobs - 1) ∷ []
-queueAfter lim s Unknown = queueOf (s .marks)
-
-queue-after : (lim : Limits) (s : State) (p : ℕ) (a : Action) → queueOf (effect lim s p a .after .marks) ≡ queueAfter lim s a
-unfolding effect read write acquire release want enqueue dequeue closed fetched queueAfter
-queue-after lim s p (Read x) = refl
-queue-after lim s p (Write x v) = refl
-queue-after lim s p (Acquire l) = unfold lockAsked in go (eqb (getD (s .marks .holders) l 0) 0)
-  where
-    go : (b : Bool) → queueOf (cond b (withHolder (s .marks) l p) (withWaiter (s .marks) l p (inLine (s .counts .processors) (s .marks) l))) ≡ queueOf (s .marks)
-    go true = unfold withHolder in refl
-    go false = unfold withWaiter in refl
-queue-after lim s p (Release l) = unfold lockHanded withHolder withoutWaiter in refl
-queue-after lim s p Arrive = arrive-keeps queueOf (λ m l. refl) (λ m w. refl) lim s p
-queue-after lim s p Want = refl
-queue-after lim s p (TallyAdd j x) = refl
-queue-after lim s p (TallyRead j) = refl
-queue-after lim s p (Enqueue v) = refl
-queue-after lim s p Dequeue = refl
-queue-after lim s p Unknown = refl
+use Rattle.rules.proofs.order.Ring.{ring, wrapped, ring-ahead, Queue, Stays, keeps-its-place}
 
 -- the number of a place stays, but where a job is added at it
 job-kept : (w : ℕ) (s : State) (p : ℕ) (γ : Ghost) (k : ℕ) (a : Action) → addsJob a ≡ false → ghostAfter w s p a γ .known (Job k) ≡ γ .known (Job k)
@@ -119,74 +77,52 @@ module _ (lim : Limits) (c : Counts) (es : List Event) (r : Timeline lim c es) w
   pub finds-job : (t p : ℕ) → Took es t p Dequeue → r .state t .marks .jobs ≡ 0 → ⊥
   finds-job t p took = late-dequeue lim (r .state t) (own (r .state t) (eventAt es t .step .processor)) (eventAt es t .step .processor) (rw (took .action) at (took-accepted lim c es r t p Dequeue took .not-late))
 
-  counts-on : (test : Event → Bool) (t : ℕ) (b : Bool) → test (eventAt es t) ≡ b → counted test es (suc t) ≡ counted test es t + cond b 1 0
-  counts-on test t true e = counted-passes test es t e
-  counts-on test t false e = counted-fails test es t e ∙ omega arith
+  -- the marks of the queue by what a step does to the counts
+  record Marked (l : List ℕ) (gone come : ℕ) : Type 0 where
+    jobs : getD l 1 0 + gone ≡ come
+    first : getD l 0 0 ≡ ring (lim .jobs) gone
 
-  first-of : (l : List ℕ) → ℕ
-  first-of l = getD l 0 0
+  marked : (t p : ℕ) (a : Action) → Took es t p a → Counting t → Marked (queueAfter lim (r .state t .marks) a) (removed t + flag (removesJob a)) (added t + flag (addsJob a))
+  unfolding queueAfter addsJob removesJob
+  marked t p a took ih = go a took
+    where
+      plus-zero : (k : ℕ) → k ≡ k + 0
+      plus-zero k = omega arith
 
-  second-of : (l : List ℕ) → ℕ
-  second-of l = getD l 1 0
-
-  stepped : (t p : ℕ) (a : Action) → Took es t p a → Counting t
-      → (second-of (queueAfter lim (r .state t) a) + (removed t + cond (removesJob a) 1 0) ≡ added t + cond (addsJob a) 1 0) × (first-of (queueAfter lim (r .state t) a) ≡ ring (lim .jobs) (removed t + cond (removesJob a) 1 0))
-  unfolding queueAfter addsJob removesJob first-of second-of
-  stepped t p (Read x) took ih = (omega (arith, ih .jobs), ih .first ∙ ap (ring (lim .jobs)) (plus-zero (removed t)))
-    where
-      plus-zero : (k : ℕ) → k ≡ k + 0
-      plus-zero k = omega arith
-  stepped t p (Write x v) took ih = (omega (arith, ih .jobs), ih .first ∙ ap (ring (lim .jobs)) (plus-zero (removed t)))
-    where
-      plus-zero : (k : ℕ) → k ≡ k + 0
-      plus-zero k = omega arith
-  stepped t p (Acquire l) took ih = (omega (arith, ih .jobs), ih .first ∙ ap (ring (lim .jobs)) (plus-zero (removed t)))
-    where
-      plus-zero : (k : ℕ) → k ≡ k + 0
-      plus-zero k = omega arith
-  stepped t p (Release l) took ih = (omega (arith, ih .jobs), ih .first ∙ ap (ring (lim .jobs)) (plus-zero (removed t)))
-    where
-      plus-zero : (k : ℕ) → k ≡ k + 0
-      plus-zero k = omega arith
-  stepped t p Arrive took ih = (omega (arith, ih .jobs), ih .first ∙ ap (ring (lim .jobs)) (plus-zero (removed t)))
-    where
-      plus-zero : (k : ℕ) → k ≡ k + 0
-      plus-zero k = omega arith
-  stepped t p Want took ih = (omega (arith, ih .jobs), ih .first ∙ ap (ring (lim .jobs)) (plus-zero (removed t)))
-    where
-      plus-zero : (k : ℕ) → k ≡ k + 0
-      plus-zero k = omega arith
-  stepped t p (TallyAdd j x) took ih = (omega (arith, ih .jobs), ih .first ∙ ap (ring (lim .jobs)) (plus-zero (removed t)))
-    where
-      plus-zero : (k : ℕ) → k ≡ k + 0
-      plus-zero k = omega arith
-  stepped t p (TallyRead j) took ih = (omega (arith, ih .jobs), ih .first ∙ ap (ring (lim .jobs)) (plus-zero (removed t)))
-    where
-      plus-zero : (k : ℕ) → k ≡ k + 0
-      plus-zero k = omega arith
-  stepped t p (Enqueue v) took ih = (omega (arith, ih .jobs), ih .first ∙ ap (ring (lim .jobs)) (plus-zero (removed t)))
-    where
-      plus-zero : (k : ℕ) → k ≡ k + 0
-      plus-zero k = omega arith
-  stepped t p Dequeue took ih = (omega (arith, ih .jobs, finds-job t p took), next (ih .first))
-    where
       one-more : (k : ℕ) → suc k ≡ k + 1
       one-more k = omega arith
 
-      same : placeBehind lim (ring (lim .jobs) (removed t)) ≡ ring (lim .jobs) (suc (removed t))
-      same = unfold placeBehind ring in refl
+      behind : placeBehind lim (ring (lim .jobs) (removed t)) ≡ ring (lim .jobs) (suc (removed t))
+      behind = unfold placeBehind ring in refl
 
-      next : r .state t .marks .first ≡ ring (lim .jobs) (removed t) → placeBehind lim (r .state t .marks .first) ≡ ring (lim .jobs) (removed t + 1)
-      next e = ap (placeBehind lim) e ∙ same ∙ ap (ring (lim .jobs)) (one-more (removed t))
-  stepped t p Unknown took ih = (omega (arith, ih .jobs), ih .first ∙ ap (ring (lim .jobs)) (plus-zero (removed t)))
-    where
-      plus-zero : (k : ℕ) → k ≡ k + 0
-      plus-zero k = omega arith
+      still : Marked (queueOf (r .state t .marks)) (removed t + 0) (added t + 0)
+      still = record { jobs = omega (arith, ih .jobs); first = ih .first ∙ ap (ring (lim .jobs)) (plus-zero (removed t)) }
+
+      go : (a : Action) → Took es t p a → Marked (queueAfter lim (r .state t .marks) a) (removed t + flag (removesJob a)) (added t + flag (addsJob a))
+      go (Read x) took = still
+      go (Write x v) took = still
+      go (Acquire l) took = still
+      go (Release l) took = still
+      go Arrive took = still
+      go Want took = still
+      go (TallyAdd j x) took = still
+      go (TallyRead j) took = still
+      go (Enqueue v) took = record { jobs = omega (arith, ih .jobs); first = ih .first ∙ ap (ring (lim .jobs)) (plus-zero (removed t)) }
+      go Dequeue took =
+          record {
+            jobs = omega (arith, ih .jobs, finds-job t p took);
+            first = ap (placeBehind lim) (ih .first) ∙ behind ∙ ap (ring (lim .jobs)) (one-more (removed t));
+          }
+      go Unknown took = still
 
   -- always
   pub counting : (t : ℕ) → Counting t
-  unfolding counted first-of second-of
-  counting zero = unfold ring in record { jobs = ap (λ (s : State). s .marks .jobs + 0) (r .starts) ∙ (unfold opened zeroMarks in refl); first = ap (λ (s : State). s .marks .first) (r .starts) ∙ (unfold opened zeroMarks in refl) }
+  unfolding counted
+  counting zero =
+      record {
+        jobs = ap (λ (s : State). s .marks .jobs + 0) (r .starts) ∙ (unfold opened zeroMarks in refl);
+        first = ap (λ (s : State). s .marks .first) (r .starts) ∙ (unfold opened zeroMarks ring in refl);
+      }
   counting (suc t) = go (moment lim c es r t) (counting t)
     where
       go : Moment lim es t (r .state t) (r .state (suc t)) → Counting t → Counting (suc t)
@@ -195,13 +131,13 @@ module _ (lim : Limits) (c : Counts) (es : List Event) (r : Timeline lim c es) w
           let d = counted-fails isDequeue es t (refused-dequeue es t e) in
           record { jobs = omega (arith, ih .jobs, a, d, ap (λ (s : State). s .marks .jobs) k); first = ap (λ (s : State). s .marks .first) k ∙ ih .first ∙ ap (ring (lim .jobs)) (sym d) }
       go (Taken p a took acc k) ih =
-          let now = stepped t p a took ih in
+          let now = marked t p a took ih in
           let q = ap (λ (s : State). queueOf (s .marks)) k ∙ queue-after lim (r .state t) p a in
-          let e = counts-on isEnqueue t (addsJob a) (took-enqueue es t p a took) in
-          let d = counts-on isDequeue t (removesJob a) (took-dequeue es t p a took) in
+          let e = counted-on isEnqueue es t (addsJob a) (took-enqueue es t p a took) in
+          let d = counted-on isDequeue es t (removesJob a) (took-dequeue es t p a took) in
           record {
-            jobs = omega (arith, now .0, e, d, ap second-of q);
-            first = ap first-of q ∙ now .1 ∙ ap (ring (lim .jobs)) (sym d);
+            jobs = omega (arith, now .jobs, e, d, ap (λ (l : List ℕ). getD l 1 0) q);
+            first = ap (λ (l : List ℕ). getD l 0 0) q ∙ now .first ∙ ap (ring (lim .jobs)) (sym d);
           }
 
   -- the place of a job that is added
@@ -218,6 +154,10 @@ module _ (lim : Limits) (c : Counts) (es : List Event) (r : Timeline lim c es) w
 
       swap : (a b : ℕ) → a + b ≡ b + a
       swap a b = omega arith
+
+  -- which is the free place
+  pub free-is : (t p v : ℕ) → Took es t p (Enqueue v) → freePlace lim (r .state t) ≡ ring (lim .jobs) (added t)
+  free-is t p v took = sym (ghost-place lim (r .state t) (r .ordered t .sized .jobs)) ∙ adds-at t p v took
 
   -- the queue as Ring speaks of it
   pub queue : 0 < lim .jobs → Queue (lim .jobs) added removed (λ t. isEnqueue (eventAt es t))

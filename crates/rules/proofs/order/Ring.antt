@@ -73,6 +73,27 @@ ring-apart m e k some h z = go (decLt (ring m e + k) m)
     go (yes b) = omega (arith, z, some, ring-ahead m e k h, wrapped-below m (ring m e + k) b)
     go (no b) = omega (arith, z, h, b, ring-ahead m e k h, wrapped-above m (ring m e + k) (omega (arith, b)))
 
+-- the same of places counted from one of them
+pub wrapped-apart : (m f j k : ℕ) → f < m → k < j → j < m → wrapped m (f + k) ≡ wrapped m (f + j) → ⊥
+wrapped-apart m f j k l less few z = go (decLt (f + k) m) (decLt (f + j) m)
+  where
+    go : Dec (f + k < m) → Dec (f + j < m) → ⊥
+    go (yes a) (yes b) = omega (arith, z, less, wrapped-below m (f + k) a, wrapped-below m (f + j) b)
+    go (yes a) (no b) = omega (arith, z, less, few, l, wrapped-below m (f + k) a, wrapped-above m (f + j) (omega (arith, b)))
+    go (no a) (yes b) = omega (arith, less, a, b)
+    go (no a) (no b) = omega (arith, z, less, a, b, wrapped-above m (f + k) (omega (arith, a)), wrapped-above m (f + j) (omega (arith, b)))
+
+-- k places behind the next place are k + 1 behind the place
+pub wrapped-next : (m f k : ℕ) → f < m → k < m → wrapped m (cond (eqb (suc f) m) 0 (suc f) + k) ≡ wrapped m (f + suc k)
+wrapped-next m f k l few = go (ℕ-discrete (suc f) m)
+  where
+    go : Dec (suc f ≡ m) → wrapped m (cond (eqb (suc f) m) 0 (suc f) + k) ≡ wrapped m (f + suc k)
+    go (yes e) = rw (eq-eqb (suc f) m e) (omega (arith, e, wrapped-below m (0 + k) (omega (arith, few)), wrapped-above m (f + suc k) (omega (arith, e))))
+    go (no e) = rw (ne-eqb (suc f) m e) (ap (wrapped m) (swap f k))
+      where
+        swap : (x y : ℕ) → suc x + y ≡ x + suc y
+        swap x y = omega arith
+
 -- ---- a job keeps its place
 
 -- a queue over time: how many jobs were added and removed before a time, and whether the step at a time adds one

@@ -1,11 +1,9 @@
 -- What each kind of step leaves of the tallies, and what it adds to one. Rests on Fetches, KeptShared and Ghosts. Assumes nothing.
 use Prim.Native.Nat.{ℕ, _+_, _%_, _<_}
-use native.Mathlib.Decide.{ℕ-discrete}
 use mathlib.Core.Path.{_≡_, refl}
 use mathlib.Core.Bool.{Bool, true, false, cond, _&&_}
 use lib.ListN.{length}
 use lib.Dec.{eqb}
-use borrow.Author.Tests.{ne-eqb}
 use Rattle.lists.proofs.Tables.{cell-put}
 use Rattle.lists.proofs.Tabulated.{get-tabulate}
 use Rattle.limits.specs.Limits.{wordValues}
@@ -14,10 +12,10 @@ use Rattle.rules.specs.Tallies.{tallyAdded, totalAfter, posting}
 use Rattle.rules.specs.Close.{closed}
 use Rattle.rules.specs.Fetch.{fetched}
 use Rattle.rules.specs.Steps.{read, write, acquire, release, atBarrier, allArrived, roundDone, noneFetched, emptied, collected, wantsCollection, arrive, want, enqueue, dequeue}
-use Rattle.rules.specs.Refusals.{Step, Action, Read, Write, Acquire, Release, Arrive, Want, TallyAdd, TallyRead, Enqueue, Dequeue, Unknown, actionOf, objectBound, effect}
+use Rattle.rules.specs.Refusals.{Step, Action, Read, Write, Acquire, Release, Arrive, Want, TallyAdd, TallyRead, Enqueue, Dequeue, Unknown, actionOf, knownKind, objectBound, effect}
 use Rattle.rules.specs.Demand.{valueField}
 use Rattle.rules.proofs.state.Fetches.{all-fetched-shared}
-use Rattle.rules.proofs.inorder.KindsOfSteps.{objectIn}
+use Rattle.rules.proofs.inorder.KindsOfSteps.{unknown-differs, by-action, objectIn}
 use Rattle.rules.proofs.inorder.KeptShared.{no-adds-left}
 use Rattle.rules.proofs.inorder.Accepted.{Accepted, object-there}
 use Rattle.rules.proofs.order.Ghosts.{completes}
@@ -104,26 +102,9 @@ addsBy t Unknown = 0
 
 -- it is the value field of a step of kind 8 with that object
 pub kind-adds : (t : ℕ) (s : Step) → cond (eqb (s .kind) 8 && eqb (s .object) t) (valueField (s .value)) 0 ≡ addsBy t (actionOf s)
-unfolding actionOf addsBy
-kind-adds t s = go (ℕ-discrete (s .kind) 8)
-  where
-    other : (b₁ b₂ b₃ b₄ b₅ b₆ b₉ b₁₀ b₁₁ : Bool)
-        → 0
-        ≡ addsBy t (cond b₁ (Read (s .object)) (cond b₂ (Write (s .object) (s .value)) (cond b₃ (Acquire (s .object)) (cond b₄ (Release (s .object)) (cond b₅ Arrive (cond b₆ Want (cond b₉ (TallyRead (s .object)) (cond b₁₀ (Enqueue (s .value)) (cond b₁₁ Dequeue Unknown)))))))))
-    other true b₂ b₃ b₄ b₅ b₆ b₉ b₁₀ b₁₁ = refl
-    other false true b₃ b₄ b₅ b₆ b₉ b₁₀ b₁₁ = refl
-    other false false true b₄ b₅ b₆ b₉ b₁₀ b₁₁ = refl
-    other false false false true b₅ b₆ b₉ b₁₀ b₁₁ = refl
-    other false false false false true b₆ b₉ b₁₀ b₁₁ = refl
-    other false false false false false true b₉ b₁₀ b₁₁ = refl
-    other false false false false false false true b₁₀ b₁₁ = refl
-    other false false false false false false false true b₁₁ = refl
-    other false false false false false false false false true = refl
-    other false false false false false false false false false = refl
-
-    go : Dec (s .kind ≡ 8) → cond (eqb (s .kind) 8 && eqb (s .object) t) (valueField (s .value)) 0 ≡ addsBy t (actionOf s)
-    go (yes e) = rw e
-    go (no e) = rw (ne-eqb (s .kind) 8 e) (other (eqb (s .kind) 1) (eqb (s .kind) 2) (eqb (s .kind) 3) (eqb (s .kind) 4) (eqb (s .kind) 5) (eqb (s .kind) 6) (eqb (s .kind) 9) (eqb (s .kind) 10) (eqb (s .kind) 11))
+unfolding addsBy knownKind
+kind-adds t s =
+    by-action (λ k a. cond (eqb k 8 && eqb (s .object) t) (valueField (s .value)) 0 ≡ addsBy t a) s refl refl refl refl refl refl refl refl refl refl (λ k u. rw (unknown-differs 8 refl k u))
 
 -- the tally of a read that was accepted is present
 pub total-there : (lim : Limits) (s : State) (t : Step) (x : ℕ) → actionOf t ≡ TallyRead x → Accepted lim s t → x < lim .tallies

@@ -10,7 +10,7 @@ use Rattle.rules.specs.Opening.{opened}
 use Rattle.rules.specs.Fetch.{withCopy, fetched}
 use Rattle.rules.specs.Refusals.{Step, Answer}
 use Rattle.rules.specs.Runs.{answersInOrder, stateInOrder}
-use Rattle.rules.proofs.runs.Listing.{reads, writes, acquires, releases, arrives, wants, start, moving, answering}
+use Rattle.rules.proofs.runs.Listing.{reads, writes, acquires, releases, arrives, wants, enqueues, dequeues, start, moving, answering}
 
 -- an accepted step with no value and no count
 abbrev fine : Answer
@@ -111,6 +111,17 @@ pub answers-of-store-then-acquire : answersInOrder mainframe (start 3 1 1) store
     ≡ fine ∷ fine ∷ fine ∷ fine ∷ fine ∷ fine ∷ fine ∷ answering 0 5 1 ∷ []
 unfolding start storeThenAcquire
 answers-of-store-then-acquire = refl
+
+-- The same at a dequeue (L9: "closes, removes the oldest job, learns its clock"): 2 stores 2 in word 0 and enqueues; 1 stores 1 there, dequeues 2's job and
+-- enqueues another; 3 dequeues that and reads the word
+unfoldable pub storeThenDequeue : List Step
+storeThenDequeue = writes 2 0 2 ∷ enqueues 2 1 ∷ writes 1 0 1 ∷ dequeues 1 ∷ enqueues 1 9 ∷ dequeues 3 ∷ reads 3 0 ∷ []
+
+-- 1's interval closes before 1 learns of 2's, so the two have equal sums, 2's record replaces 1's, and 3 reads 2. Had 1 learned first, 3 would read 1
+pub answers-of-store-then-dequeue : answersInOrder mainframe (start 3 1 1) storeThenDequeue
+    ≡ fine ∷ fine ∷ fine ∷ answering 0 1 0 ∷ fine ∷ answering 0 9 0 ∷ answering 0 2 1 ∷ []
+unfolding start storeThenDequeue
+answers-of-store-then-dequeue = refl
 
 -- ---- "If collection is wanted, each card upwards fetches each page upwards"
 

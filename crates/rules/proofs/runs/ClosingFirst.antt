@@ -15,7 +15,7 @@ use Rattle.diff.specs.Reading.{wordAt, wordsAt}
 use Rattle.diff.proofs.Words.{words-read, below-cons}
 use Rattle.rules.specs.State.{mainframe, Clocks, copyOf, twinOf, dirtyAt, Records, appended, State, withClocks, withPages, withRecords, own}
 use Rattle.rules.specs.Close.{anyDirty, ticked, newRecord, recorded, cleaned, closed}
-use Rattle.rules.specs.Steps.{acquire, release, atBarrier, arrive}
+use Rattle.rules.specs.Steps.{acquire, release, atBarrier, arrive, enqueue, dequeue}
 use Rattle.rules.specs.Refusals.{Step, Action, Read, Write, Acquire, Release, Arrive, Want, TallyAdd, TallyRead, Enqueue, Dequeue, Unknown, actionOf, fits, refusalInOrder, effect, answerInOrder, nextInOrder}
 use Rattle.rules.specs.Runs.{answersInOrder}
 use Rattle.rules.specs.Demand.{valueField}
@@ -80,7 +80,7 @@ close-of-one-word s p k x twin copy f h =
 
 -- ---- the steps that close
 
--- "Close (part of other steps)": acquire, release and arrive
+-- "Close (part of other steps)": acquire, release, arrive, and L9's enqueue and dequeue
 unfoldable pub closes : Action → Bool
 closes (Read w) = false
 closes (Write w v) = false
@@ -90,13 +90,13 @@ closes Arrive = true
 closes Want = false
 closes (TallyAdd j x) = false
 closes (TallyRead j) = false
-closes (Enqueue j) = false
-closes Dequeue = false
+closes (Enqueue j) = true
+closes Dequeue = true
 closes Unknown = false
 
 -- their effect comes from the closed state
 effect-of-closed : (s s' : State) (p : ℕ) (a : Action) → closes a ≡ true → closed s p ≡ closed s' p → effect mainframe s p a ≡ effect mainframe s' p a
-unfolding closes effect acquire release arrive atBarrier
+unfolding closes effect acquire release arrive atBarrier enqueue dequeue
 effect-of-closed s s' p (Read w) c e = absurd (false≢true c)
 effect-of-closed s s' p (Write w v) c e = absurd (false≢true c)
 effect-of-closed s s' p (Acquire l) c e = rw e
@@ -105,8 +105,8 @@ effect-of-closed s s' p Arrive c e = rw e
 effect-of-closed s s' p Want c e = absurd (false≢true c)
 effect-of-closed s s' p (TallyAdd j x) c e = absurd (false≢true c)
 effect-of-closed s s' p (TallyRead j) c e = absurd (false≢true c)
-effect-of-closed s s' p (Enqueue j) c e = absurd (false≢true c)
-effect-of-closed s s' p Dequeue c e = absurd (false≢true c)
+effect-of-closed s s' p (Enqueue j) c e = rw e
+effect-of-closed s s' p Dequeue c e = rw e
 effect-of-closed s s' p Unknown c e = absurd (false≢true c)
 
 -- a step that closes answers, and the steps after it too, as if the processor had closed before it; that the step is accepted and that a

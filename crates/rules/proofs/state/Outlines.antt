@@ -5,7 +5,6 @@ use mathlib.Core.Path.{_≡_, refl, sym, ap, _∙_}
 use mathlib.Core.Bool.{Bool, true, false, cond}
 use mathlib.Core.List.{[]}
 use lib.Dec.{eqb}
-use borrow.Author.Tests.{eqb-true}
 use Rattle.lists.specs.Tables.{put}
 use Rattle.rules.specs.State.{Limits, Processor, Lock, Barrier, withArrived, Pages, dirtyAt, appended, State, withClocks, withPages, withMarks, clock, own, holder, hasArrived, Job, clockOf, withClock, withQueue}
 use Rattle.rules.specs.InOrder.{present, dirtyPages}

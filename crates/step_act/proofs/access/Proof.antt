@@ -1,5 +1,5 @@
 -- `access` meets its contract. Assumes nothing.
-use Rattle.step_act.proofs.Acting.{acting-laws}
+use Rattle.step_act.proofs.ActingOnShared.{acting-laws}
 use Rattle.step_act.proofs.access.Statement.{statement}
 use Rattle.step_act.proofs.access.Tie as tie
 

@@ -1,5 +1,5 @@
 -- `lock` meets its contract. Assumes nothing.
-use Rattle.step_act.proofs.Acting.{acting-laws}
+use Rattle.step_act.proofs.ActingOnShared.{acting-laws}
 use Rattle.step_act.proofs.lock.Statement.{statement}
 use Rattle.step_act.proofs.lock.Tie as tie
 

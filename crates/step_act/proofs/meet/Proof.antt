@@ -1,5 +1,5 @@
 -- `meet` meets its contract. Assumes nothing.
-use Rattle.step_act.proofs.Acting.{acting-laws}
+use Rattle.step_act.proofs.ActingOnShared.{acting-laws}
 use Rattle.step_act.proofs.meet.Statement.{statement}
 use Rattle.step_act.proofs.meet.Tie as tie
 

@@ -1,5 +1,5 @@
 -- `tally` meets its contract. Assumes nothing.
-use Rattle.step_act.proofs.Acting.{acting-laws}
+use Rattle.step_act.proofs.ActingOnShared.{acting-laws}
 use Rattle.step_act.proofs.tally.Statement.{statement}
 use Rattle.step_act.proofs.tally.Tie as tie
 

@@ -57,6 +57,11 @@ pub record Tallying (w : List ℕ) (kind p object : ℕ) : Type 0 where
   pub tally : TallyIn w p object
   pub kinds : (kind ≡ 8) ⊎ (kind ≡ 9)
 
+-- for an enqueue or a dequeue
+pub record Queueing (c w r m : List ℕ) (kind p object value : ℕ) : Type 0 where
+  pub acting : Acting c w r m kind p object value
+  pub first : 10 ≤ kind
+
 -- the outcome is that of an accepted step with the effect e, and the areas hold the state that e leaves
 pub record DoneAs (e : Effect) (o : Outcome) (c w r m : List ℕ) : Type 0 where
   pub outcome : Tells o (acceptedAs e)

@@ -13,4 +13,4 @@ abbrev μ-loop : tie.MeasureT-loop
 pub clear-clocks-spec : {M : Type 1} → statement M
 clear-clocks-spec =
     tie.close
-    (tie.spec Inv-loop μ-loop (λ c. search clear-laws) (λ c. search clear-laws) (λ c κs. search clear-laws) (λ c. search clear-laws) (λ c. search clear-laws) (λ c. search clear-laws) (λ c. search clear-laws) (λ c. search clear-laws) (λ c. search clear-laws) (λ c. search clear-laws) (λ c κs. search clear-laws) (λ c. search clear-laws) (λ c. search clear-laws))
+    (tie.spec Inv-loop μ-loop (λ c. search clear-laws) (λ c. search clear-laws) (λ c κs. search clear-laws) (λ c. search clear-laws) (λ c. search clear-laws) (λ c. search clear-laws) (λ c κs. search clear-laws) (λ c. search clear-laws) (λ c. search clear-laws) (λ c. search clear-laws) (λ c. search clear-laws) (λ c κs. search clear-laws) (λ c. search clear-laws) (λ c. search clear-laws))

@@ -4,7 +4,7 @@ use mathlib.Core.Path.{_≡_}
 use mathlib.Core.List.{List}
 use lib.ListN.{length, getD}
 use Rattle.limits.specs.Limits.{tallyLimit}
-use Rattle.limits.specs.inner.Sizes.{firstTally, wordArea}
+use Rattle.limits.specs.inner.Sizes.{firstJobValue, firstTally, wordArea}
 use Rattle.rules.specs.State.{mainframe, withShared}
 use Rattle.rules.specs.Tallies.{tallyAdded, totalAfter, posting}
 use Rattle.layout.specs.Areas.{tallyPlace, sharedIn, stateIn}
@@ -19,12 +19,14 @@ pub record TotalsPosted (w w′ : List ℕ) (n : ℕ) : Type 0 where
   pub words : length w′ ≡ wordArea
   pub posted : (t : ℕ) → t < tallyLimit → getD w′ (tallyPlace mainframe 0 t) 0 ≡ totalAfter (sharedIn mainframe w) n t
   pub pages : (i : ℕ) → i < firstTally → getD w′ i 0 ≡ getD w i 0
+  pub values : (i : ℕ) → firstJobValue ≤ i → getD w′ i 0 ≡ getD w i 0
 
--- the adds are 0, all before them is as it was
+-- the adds are 0, all before and behind them is as it was
 pub record AddsCleared (w w′ : List ℕ) : Type 0 where
   pub words : length w′ ≡ wordArea
-  pub clear : (i : ℕ) → firstTally + tallyLimit ≤ i → i < wordArea → getD w′ i 0 ≡ 0
+  pub clear : (i : ℕ) → firstTally + tallyLimit ≤ i → i < firstJobValue → getD w′ i 0 ≡ 0
   pub kept : (i : ℕ) → i < firstTally + tallyLimit → getD w′ i 0 ≡ getD w i 0
+  pub values : (i : ℕ) → firstJobValue ≤ i → getD w′ i 0 ≡ getD w i 0
 
 -- a round of n processors was posted
 pub record Posted (w w′ : List ℕ) (n : ℕ) : Type 0 where

@@ -9,6 +9,7 @@ use crate::steps::areas::Areas;
 use crate::steps::ledger::Ledger;
 use crate::steps::progress::Progress;
 use crate::steps::proved;
+use crate::steps::state;
 use crate::steps::walk::Walk;
 
 /// Files that were opened, each with the number of a record to look behind: the
@@ -63,6 +64,7 @@ fn areas_are_the_models() {
         locks_agree(&name, &areas, &model);
         records_agree(&name, &areas, &model);
         tallies_agree(&name, &areas, &model);
+        jobs_agree(&name, &areas, &model);
         assert_eq!(areas.is_wanted(), model.barrier.wanted, "{name}");
         assert_eq!(
             areas.barrier_clock(),
@@ -160,7 +162,16 @@ fn tallies_agree(name: &str, areas: &Areas, model: &Model) {
     }
 }
 
-/// What the explanation says of holders, waiters and space is what the engine
+fn jobs_agree(name: &str, areas: &Areas, model: &Model) {
+    let mine = areas.jobs();
+    assert_eq!(mine.len(), model.queue.jobs.len(), "{name}");
+    for (mine, theirs) in mine.iter().zip(&model.queue.jobs) {
+        assert_eq!(mine.value, theirs.value, "{name}");
+        assert_eq!(mine.clock, entries(&theirs.clock, areas.cards()), "{name}");
+    }
+}
+
+/// What the explanation says of holders, waiters, jobs and space is what the engine
 /// has.
 #[test]
 fn ledgers_are_the_engines() {
@@ -202,5 +213,47 @@ fn ledgers_are_the_engines() {
             );
         }
         assert_eq!(ledger.wanted, areas.is_wanted(), "{name}");
+        let values = areas.jobs().into_iter().map(|job| job.value);
+        assert!(values.eq(ledger.jobs.iter().map(|job| job.value)), "{name}");
     });
+}
+
+/// Where the clocks, words, records and marks begin and end in the bytes of the
+/// areas.
+const WORDS_AT: usize = 5000;
+const RECORDS_AT: usize = WORDS_AT + 4 * 4272;
+const MARKS_AT: usize = RECORDS_AT + 17280;
+const END: usize = MARKS_AT + 112;
+
+/// Two cards, one page, one lock, and three jobs from the last place of the ring
+/// on, each with its value and its clock.
+#[test]
+fn jobs_lie_in_a_ring() {
+    let mut bytes = vec![0; END];
+    bytes[MARKS_AT..MARKS_AT + 3].copy_from_slice(&[2, 1, 1]);
+    bytes[MARKS_AT + 110..].copy_from_slice(&[31, 3]);
+    for (nth, place) in [31, 0, 1].into_iter().enumerate() {
+        bytes[WORDS_AT + 4 * (4240 + place)] = 70 + nth as u8;
+        bytes[8 * (593 + place) + 1] = nth as u8;
+    }
+    // What is left in the place of a job that was removed.
+    bytes[WORDS_AT + 4 * (4240 + 30)] = 99;
+    let areas = Areas::from_bytes(&bytes).expect("areas of the right sizes");
+    let jobs: Vec<(u32, &[u8])> = areas
+        .jobs()
+        .into_iter()
+        .map(|job| (job.value, job.clock))
+        .collect();
+    assert_eq!(jobs, [(70, &[0, 0][..]), (71, &[0, 1]), (72, &[0, 2])]);
+    let text = state::text(&areas);
+    let due = "job, the oldest first   value   its clock
+job 1                   70      0, 0
+job 2                   71      0, 1
+job 3                   72      0, 2
+";
+    assert!(text.ends_with(due), "{text}");
+    bytes[MARKS_AT + 111] = 0;
+    let areas = Areas::from_bytes(&bytes).expect("areas of the right sizes");
+    assert!(state::text(&areas).ends_with("\nno jobs wait\n"));
+    assert!(Areas::from_bytes(&bytes[1..]).is_err());
 }

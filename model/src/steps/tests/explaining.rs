@@ -150,7 +150,10 @@ fn what_is_missing_is_missing() {
             }
         }
     }
-    assert!(looked_at > 5_000, "{looked_at} releases and arrivals");
+    assert!(
+        looked_at > 5_000,
+        "{looked_at} releases, arrivals and enqueues"
+    );
 }
 
 fn handed_on_in_vain(order: &Order, ties: &Ties, write: usize, step: usize) -> usize {

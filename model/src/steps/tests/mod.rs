@@ -4,6 +4,7 @@
 mod areas;
 mod corpus;
 mod explaining;
+mod jobs;
 mod packing;
 mod pictures;
 mod refusals;

@@ -36,7 +36,7 @@ fn random_records_pack_back() {
         let byte = |rng: &mut Rng, most: usize| rng.below(most + 1) as u8;
         let mut file = Vec::new();
         while file.len() < length {
-            file.extend([byte(&mut rng, 11), byte(&mut rng, 9)]);
+            file.extend([byte(&mut rng, 13), byte(&mut rng, 9)]);
             for _ in 2..8 {
                 let most = rng.pick(&[0, 0, 1, 255]);
                 file.push(byte(&mut rng, most));
@@ -58,6 +58,9 @@ card 255 arrives
 card 1 wants collection
 card 1 adds 5 to tally 3
 card 1 reads tally 15
+card 1 enqueues 77
+card 2 dequeues
+raw 0b 02 00 00 01 00 00 00
 raw 07 01 00 00 00 00 00 ff
 raw 01 02 03
 ";
@@ -71,6 +74,9 @@ raw 01 02 03
         &[6, 1, 0, 0, 0, 0, 0, 0],
         &[8, 1, 3, 0, 5, 0, 0, 0],
         &[9, 1, 15, 0, 0, 0, 0, 0],
+        &[10, 1, 0, 0, 77, 0, 0, 0],
+        &[11, 2, 0, 0, 0, 0, 0, 0],
+        &[11, 2, 0, 0, 1, 0, 0, 0],
         &[7, 1, 0, 0, 0, 0, 0, 255],
         &[1, 2, 3],
     ];
@@ -96,7 +102,7 @@ fn mistakes(text: &str) -> Vec<String> {
 
 #[test]
 fn mistakes_have_their_places() {
-    let verbs = "`reads` or `writes` or `acquires` or `releases` or `arrives` or `wants` or `adds`";
+    let verbs = "`reads` or `writes` or `acquires` or `releases` or `arrives` or `wants` or `adds` or `enqueues` or `dequeues`";
     let cases = [
         ("card 1 arrives", "f:1:1: expected `open` or `raw`, found `card`".to_string()),
         ("open", "f:1:5: expected a number of cards, 0 to 255, found the end of the line".to_string()),
@@ -153,6 +159,14 @@ fn mistakes_in_steps_have_their_places() {
             "18: expected `tally`, found `word`",
         ),
         ("card 1 acquires 0", "17: expected `lock`, found `0`"),
+        (
+            "card 1 enqueues",
+            "16: expected a value, 0 to 4294967295, found the end of the line",
+        ),
+        (
+            "card 1 dequeues 77",
+            "17: expected the end of the line, found `77`",
+        ),
         (
             "card 1 wants",
             "13: expected `collection`, found the end of the line",

@@ -91,11 +91,13 @@ fn the_barrier() {
 #[test]
 fn fields() {
     let cases = [
-        (3, "raw 07 01 00 00 00 00 00 00", "7 is no kind of step: they are 1 to 6, 8 and 9"),
+        (3, "raw 07 01 00 00 00 00 00 00", "7 is no kind of step: they are 1 to 6 and 8 to 11"),
         (4, "card 3 arrives", "there is no card 3: the opening has cards 1 to 2"),
         (5, "card 1 reads word 32", "there is no word 32: they are 0 to 31"),
         (5, "card 1 acquires lock 2", "there is no lock 2: they are 0 to 1"),
         (5, "card 1 reads tally 16", "there is no tally 16: they are 0 to 15"),
+        (5, "raw 0a 01 01 00 02 00 00 00", "its object is 1, and must be 0: it is not used"),
+        (5, "raw 0b 01 00 00 02 00 00 00", "its value is 2, and must be 0: it is not used"),
         (5, "raw 05 01 01 00 02 00 00 00", "its object is 1, and must be 0: it is not used; its value is 2, and must be 0: it is not used"),
     ];
     for (refusal, step, due) in cases {
@@ -109,6 +111,15 @@ fn the_space() {
     let due = "1 record (1 of card 2) and 1 dirty page (0 of card 1) fill the 128 places since the opening";
     assert!(said(10, &text).starts_with(due));
     assert!(said(9, &text).starts_with("card 2 has made 1 of 63 intervals since the opening"));
+}
+
+#[test]
+fn the_queue() {
+    let jobs = "card 2 enqueues 5\n".repeat(32);
+    let due = "32 jobs wait, the oldest of card 2, since 1; a card would have to dequeue one first";
+    assert_eq!(said(19, &format!("{TWO}{jobs}card 1 enqueues 6")), due);
+    let due = "no job waits; a card would have to enqueue one first";
+    assert_eq!(said(20, &format!("{TWO}card 1 dequeues")), due);
 }
 
 #[test]
@@ -129,7 +140,7 @@ fn a_text_in_the_place_of_a_step_file() {
 /// Each number that a line may have is known.
 #[test]
 fn every_refusal_has_its_words() {
-    for refusal in [2, 3, 4, 5, 6, 7, 8, 9, 10, 15, 16, 17, 18] {
+    for refusal in (2..=10).chain(15..=20) {
         assert_ne!(in_short(refusal), "unknown");
     }
 }
@@ -155,7 +166,7 @@ fn refusals_are_as_the_ledger_has_it() {
         }
     });
     let met = met.into_inner().expect("no panic");
-    let due = BTreeSet::from([0, 3, 4, 5, 6, 7, 8, 9, 10, 16, 17, 18]);
+    let due = BTreeSet::from([0, 3, 4, 5, 6, 7, 8, 9, 10, 16, 17, 18, 19, 20]);
     assert!(met.is_superset(&due), "{met:?}");
 }
 
@@ -175,6 +186,8 @@ fn holds(refusal: u32, step: &Step, ledger: &Ledger) -> bool {
         10 => ledger.standing() + ledger.dirty.len() == 128,
         17 => ledger.awaited_by(step.card).is_some(),
         18 => !ledger.held_by(step.card).is_empty(),
+        19 => ledger.jobs.len() == 32,
+        20 => ledger.jobs.is_empty(),
         _ => true,
     }
 }

@@ -1,0 +1,9 @@
+-- `take_job` meets its contract. Assumes nothing.
+use Rattle.step_queue.proofs.Queueing.{queue-laws}
+use Rattle.step_queue.proofs.take_job.Statement.{statement}
+use Rattle.step_queue.proofs.take_job.Tie as tie
+
+pub take-job-spec : {M : Type 1} → statement M
+take-job-spec =
+    tie.close
+    (tie.spec (λ c κs. search queue-laws) (λ c κs. search queue-laws) (λ c κs. search queue-laws) (λ c κs. search queue-laws) (λ c. search queue-laws) (λ c. search queue-laws) (λ c. search queue-laws) (λ c. search queue-laws) (λ c. search queue-laws) (λ c. search queue-laws))
