@@ -8,7 +8,7 @@ processorLimit = 8
 
 -- "Pages 1 to 8"
 abbrev pub pageLimit : ℕ
-pageLimit = 8
+pageLimit = 16
 
 -- "A page is 32 words"
 abbrev pub pageWidth : ℕ
@@ -24,7 +24,7 @@ lockLimit = 16
 
 -- "At most 128 [records] stand"
 abbrev pub recordLimit : ℕ
-recordLimit = 128
+recordLimit = 256
 
 -- "an interval number 1 to 63"
 abbrev pub intervalLimit : ℕ
