@@ -12,16 +12,16 @@ use crate::model::{TALLY_ADD, TALLY_READ};
 use crate::space_fault::SpaceFault;
 use std::collections::VecDeque;
 
-/// "Cards 1 to 8", "Pages 1 to 8, locks 1 to 16"
-const MOST_OF_EACH: [u8; 3] = [8, 8, 16];
+/// "Cards 1 to 8", "locks 1 to 16"; L10: "Pages go up to 16"
+const MOST_OF_EACH: [u8; 3] = [8, 16, 16];
 /// "A page is 32 words"
 const PAGE_WORDS: usize = 32;
 /// L4: "there are 16 tallies"
 const TALLIES: usize = 16;
 /// "an interval number 1 to 63"
 const INTERVALS: usize = 63;
-/// "At most 128 stand."
-const ROOM: usize = 128;
+/// L10: "records to 256"
+const ROOM: usize = 256;
 /// L9: "One queue holds up to 32 jobs"
 const JOBS: usize = 32;
 
@@ -166,7 +166,7 @@ impl Space {
     }
 
     /// "Write, clean page 9: own entry is 63", "10: records plus dirty pages
-    /// are 128"
+    /// are 128", which are 256 by L10
     fn refusal_of_store(&self, card: u8, page: usize) -> u32 {
         let card = &self.cards[usize::from(card) - 1];
         if card.dirty[page] {
