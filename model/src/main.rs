@@ -71,6 +71,7 @@ mod triggers;
 mod wait_cases;
 #[cfg(test)]
 mod wait_tests;
+mod wide_cases;
 mod words_cases;
 #[cfg(test)]
 mod words_tests;

@@ -215,6 +215,7 @@ impl Model {
         record: [u8; 8],
         fault: Option<Fault>,
     ) -> Result<Model, Answer> {
+        let limits = limits.faulty(fault);
         let [first, cards, pages, locks, rest @ ..] = record;
         let counts = (1..=8).contains(&cards) && (1..=limits.pages).contains(&pages);
         let counts = counts && (1..=16).contains(&locks);

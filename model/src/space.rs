@@ -60,6 +60,9 @@ impl Space {
         if !in_range.all(|(count, most)| (1..=most).contains(count)) {
             return None;
         }
+        if fault == Some(SpaceFault::PagesTo8) && counts[1] > 8 {
+            return None;
+        }
         let [cards, pages, locks] = counts.map(usize::from);
         let card = || Card {
             own: 0,
@@ -177,7 +180,11 @@ impl Space {
             false => records + dirty,
             true => records,
         };
-        let mut rows = [(9, card.own == INTERVALS), (10, used == ROOM)];
+        let room = match self.has(SpaceFault::TenAt128) {
+            false => ROOM,
+            true => 128,
+        };
+        let mut rows = [(9, card.own == INTERVALS), (10, used == room)];
         if self.has(SpaceFault::TenFirst) {
             rows.reverse();
         }
