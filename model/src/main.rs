@@ -38,6 +38,8 @@ mod limits;
 mod model;
 mod moved;
 mod older;
+#[cfg(test)]
+mod older_tests;
 mod options;
 mod plan;
 mod program;

@@ -84,7 +84,11 @@ fn pages_eight_apart() -> Case {
     for card in [3, 2] {
         for (word, value) in stores.into_iter().rev() {
             let of_page_0 = if card == 3 { 2 } else { 1 };
-            c.gives(read(card, word), value, if word == 0 { of_page_0 } else { 1 });
+            c.gives(
+                read(card, word),
+                value,
+                if word == 0 { of_page_0 } else { 1 },
+            );
             c.gives(read(card, word), value, 0);
         }
     }
@@ -199,7 +203,8 @@ fn card_2_fills(c: &mut Case, closings: u32, lock: u16) {
 }
 
 fn nine_before_ten_at_256() -> Case {
-    let shows = "Card 1 has made its 63 intervals and 256 records stand: 9 before 10, and 5 before both.";
+    let shows =
+        "Card 1 has made its 63 intervals and 256 records stand: 9 before 10, and 5 before both.";
     let mut c = Case::open("nine-before-ten", [2, 16, 2], shows);
     make_intervals(&mut c, 62);
     for page in 0..PAGES {

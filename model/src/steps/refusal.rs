@@ -18,7 +18,11 @@ pub fn of_opening(bytes: &[u8]) -> String {
         wrong.push(format!("its first byte is {first}, and must be 0"));
     }
     let most_pages = MAINFRAME.pages;
-    for (count, most, what) in [(cards, 8, "card"), (pages, most_pages, "page"), (locks, 16, "lock")] {
+    for (count, most, what) in [
+        (cards, 8, "card"),
+        (pages, most_pages, "page"),
+        (locks, 16, "lock"),
+    ] {
         if !(1..=most).contains(&count) {
             wrong.push(format!(
                 "{}, and there can be 1 to {most}",
