@@ -7,7 +7,7 @@ use crate::random::Random;
 pub fn fair_opening(random: &mut Random) -> [u8; 8] {
     let few = random.percent(40);
     let mut count = |most| random.within(1, if few { 2 } else { most }) as u8;
-    [0, count(8), count(8), count(16), 0, 0, 0, 0]
+    [0, count(8), count(16), count(16), 0, 0, 0, 0]
 }
 
 /// A fair opening, or one with a byte or a length that should not be.
