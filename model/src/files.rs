@@ -62,13 +62,15 @@ const README_HEAD: &str = "# Step files and their lines
 
 NAME.steps is a step file, NAME.lines what the run program prints for it,
 NAME.forecast what the forecast prints, where it is stored, NAME.txt the file in
-words. The last line of a run, `words` and a total, is there unless the run
+words, NAME.older what the run program printed before document 02's request L10,
+where that was something else: the lines are the same up to the first one where 10,
+or 2 for 9 to 16 pages, used to stand. The last line of a run, `words` and a total, is there unless the run
 stopped at 2, 15 or 16; that of a forecast, `most` and a number, always. The
 texts are written by `tests/steps/store`, the others by `model make-files`; each
 line was set down by hand from documents 01 and 02 (model/src/cases.rs,
 wait_cases.rs, equal_cases.rs, tally_cases.rs, skip_cases.rs, words_cases.rs,
-holder_cases.rs, space_cases.rs, queue_cases.rs, queue_refusal_cases.rs, and
-space_figures.rs for the forecasts) and agrees with the second model.
+holder_cases.rs, space_cases.rs, queue_cases.rs, queue_refusal_cases.rs,
+wide_cases.rs, and space_figures.rs for the forecasts) and agrees with the second model.
 
 ";
 

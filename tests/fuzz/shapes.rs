@@ -22,8 +22,14 @@ pub fn any_opening(random: &mut Random) -> Vec<u8> {
     opening
 }
 
+/// The lengths of the firmware of eight pages and 128 records.
+const OLDER: [usize; 4] = [5000, 4272, 17280, 112];
+
 /// Lengths of which at least one is wrong.
 pub fn any_lengths(random: &mut Random) -> [usize; 4] {
+    if random.percent(10) {
+        return OLDER;
+    }
     let mut lengths = LENGTHS;
     while lengths == LENGTHS {
         let area = random.below(4);
