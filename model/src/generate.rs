@@ -345,6 +345,7 @@ fn cut_within_record(rng: &mut Rng, file: &mut Vec<u8>) {
     file.truncate(8 * rng.below(records) + rng.within(1, 7));
 }
 
+/// A page too many is picked more often than the rest.
 fn spoil_opening(rng: &mut Rng, file: &mut [u8]) {
     let spoilt = [
         (0, 1),

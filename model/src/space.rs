@@ -4,9 +4,11 @@
 //! alters it.
 //!
 //! Written from the documents alone and apart from `model.rs`, as a second
-//! opinion on it too: shared are the fields of a step and the names of its kinds.
+//! opinion on it too: shared are the fields of a step and the names of its kinds, and
+//! for faults the limits of before L10.
 
 use crate::forecast_lines::Figures;
+use crate::limits::OLDER;
 use crate::model::{Step, ACQUIRE, ARRIVE, DEQUEUE, ENQUEUE, READ, RELEASE, WANT, WRITE};
 use crate::model::{TALLY_ADD, TALLY_READ};
 use crate::space_fault::SpaceFault;
@@ -60,7 +62,7 @@ impl Space {
         if !in_range.all(|(count, most)| (1..=most).contains(count)) {
             return None;
         }
-        if fault == Some(SpaceFault::PagesTo8) && counts[1] > 8 {
+        if fault == Some(SpaceFault::PagesTo8) && counts[1] > OLDER.pages {
             return None;
         }
         let [cards, pages, locks] = counts.map(usize::from);
@@ -182,7 +184,7 @@ impl Space {
         };
         let room = match self.has(SpaceFault::TenAt128) {
             false => ROOM,
-            true => 128,
+            true => OLDER.records,
         };
         let mut rows = [(9, card.own == INTERVALS), (10, used == room)];
         if self.has(SpaceFault::TenFirst) {
