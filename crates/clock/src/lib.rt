@@ -6,19 +6,19 @@ ghost use Rattle.clock.specs.Clocks.{joined, covered, entry_of, sum_of};
 use limits::{CLOCK_WIDTH, PROCESSOR_LIMIT};
 
 // A processor, 1 to 8; 0 is nobody. Document 01 calls a processor a card.
-#[derive(Drop)]
+#[derive(Clone, Copy)]
 pub struct ProcessorId(pub usize);
 
 // An interval of one processor, 1 to 63.
-#[derive(Drop)]
+#[derive(Clone, Copy)]
 pub struct IntervalId(pub usize);
 
 // A page, numbered from 0.
-#[derive(Drop)]
+#[derive(Clone, Copy)]
 pub struct PageId(pub usize);
 
 // How many intervals of each processor are known: the entry of processor p is at place p - 1.
-#[derive(Drop)]
+#[derive(Clone, Copy)]
 pub struct Clock {
     pub entries: [u8; CLOCK_WIDTH],
 }

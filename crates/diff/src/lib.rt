@@ -11,7 +11,7 @@ ghost use Rattle.diff.specs.inner.Needed.{PairsThere, PairOnPage, Applicable, Ne
 use limits::{PAGE_WIDTH, RUN_LIMIT};
 
 // What applying a diff answers: the number of a refusal, or 0, and how many words were set.
-#[derive(Drop)]
+#[derive(Clone, Copy)]
 pub struct Applied {
     pub refusal: u8,
     pub words: u32,

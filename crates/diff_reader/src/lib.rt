@@ -8,7 +8,7 @@ ghost use Rattle.diff_reader.specs.Pairs.{said, pair_among, pair_at, words_of, p
 use diff::check;
 
 // What stands at a place of a diff: a run's offset and length in words, where its words stand, and the next pair's place.
-#[derive(Drop)]
+#[derive(Clone, Copy)]
 pub enum Pair {
     At {
         offset: usize,

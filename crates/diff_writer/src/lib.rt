@@ -13,7 +13,7 @@ ghost use Rattle.diff.specs.inner.Mask.{mask_of};
 use limits::PAGE_WIDTH;
 
 // What writing a diff answers: how many bytes it has, or the number of a refusal.
-#[derive(Drop)]
+#[derive(Clone, Copy)]
 pub enum Written {
     Length(usize),
     Refused(u8),
@@ -49,7 +49,7 @@ fn write_all(old: &[u32], new: &[u32], out: &mut [u8], bytes: usize)
 }
 
 // How many runs a diff has, and how many words they have together.
-#[derive(Drop)]
+#[derive(Clone, Copy)]
 struct Size {
     runs: usize,
     words: usize,
@@ -153,7 +153,7 @@ fn put_pairs(old: &[u32], new: &[u32], mask: u32, out: &mut [u8]) -> usize
 }
 
 // The first run of a mask: how many words are kept before it, how many it has, and the mask behind it.
-#[derive(Drop)]
+#[derive(Clone, Copy)]
 struct FirstRun {
     kept: usize,
     len: usize,

@@ -6,7 +6,7 @@ use file_record::Stand;
 use limits::FILE_RECORD_WIDTH;
 
 // What stands behind the last whole record of a chunk, and the place in the chunk behind it.
-#[derive(Drop)]
+#[derive(Clone, Copy)]
 pub struct Passed {
     pub stand: Stand,
     pub next: usize,

@@ -4,7 +4,7 @@ ghost use Rattle.file_held.specs.inner.Needed.{ZerosBehind, Holdable, HeldAll};
 use limits::FILE_RECORD_WIDTH;
 
 // Bytes held, how many, and the place in the chunk behind the last of them.
-#[derive(Drop)]
+#[derive(Clone, Copy)]
 pub struct Held {
     pub count: usize,
     pub bytes: [u8; FILE_RECORD_WIDTH],

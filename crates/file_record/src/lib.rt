@@ -13,7 +13,7 @@ use step_act::Outcome;
 
 // What stands between two records: the number of the next, whether the run has stopped, whether the areas are in order, how many
 // bytes of lines are written, and how many words have moved.
-#[derive(Drop)]
+#[derive(Clone, Copy)]
 pub struct Stand {
     pub number: u32,
     pub stopped: bool,

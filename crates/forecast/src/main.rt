@@ -13,14 +13,14 @@ const BUFFER_BYTES: usize = 65536;
 const LINES_ROOM: usize = LINE_LIMIT * (BUFFER_BYTES / FILE_RECORD_WIDTH + 2);
 
 // Where the program stands between two turns: its reads and writes, and its forecast.
-#[derive(Drop)]
+#[derive(Clone, Copy)]
 pub struct Work {
     pub flow: Flow,
     pub reach: Reach,
 }
 
 // Where it halts: its reads and writes, and how many turns are left.
-#[derive(Drop)]
+#[derive(Clone, Copy)]
 pub struct Halt {
     pub flow: Flow,
     pub turns: u64,

@@ -9,14 +9,14 @@ ghost use Rattle.forecast_file.specs.inner.Needed.{MemorySound, PartTakeable, Fi
 use limits::FILE_RECORD_WIDTH;
 
 // How far a file has been forecast: the number of the next record, and the largest sum of records and dirty pages so far.
-#[derive(Drop)]
+#[derive(Clone, Copy)]
 pub struct Reach {
     pub number: u32,
     pub most: u32,
 }
 
 // What taking a part of a file answers: how far it has been forecast, how many bytes of lines were made, and whether the last line is among them.
-#[derive(Drop)]
+#[derive(Clone, Copy)]
 pub struct PartTaken {
     pub reach: Reach,
     pub made: usize,
@@ -25,7 +25,7 @@ pub struct PartTaken {
 
 // What stands behind some records of a part: whether the forecast has stopped, the place in the part behind them, and how many bytes of lines are
 // written.
-#[derive(Drop)]
+#[derive(Clone, Copy)]
 pub struct PartWay {
     pub reach: Reach,
     pub stopped: bool,
@@ -34,7 +34,7 @@ pub struct PartWay {
 }
 
 // What a step leaves: the place behind its line, and the sum of records and dirty pages.
-#[derive(Drop)]
+#[derive(Clone, Copy)]
 pub struct Stepped {
     pub at: usize,
     pub sum: u32,

@@ -26,7 +26,7 @@ use layout::{clear, flag, wide};
 use limits::{PAGE_LIMIT, PAGE_WIDTH};
 
 // What a line says of a forecast: how many records stand, and how many pages are dirty.
-#[derive(Drop)]
+#[derive(Clone, Copy)]
 pub struct Figures {
     pub standing: u32,
     pub dirty: u32,

@@ -10,7 +10,7 @@ ghost use Rattle.lines.specs.inner.Needed.{Room, DigitsFit, PairFits, Put, digit
 use limits::LINE_LIMIT;
 
 // What writing a line answers: the place behind it, or that the longest line would not fit.
-#[derive(Drop)]
+#[derive(Clone, Copy)]
 pub enum Placed {
     End(usize),
     NoRoom,

@@ -8,7 +8,7 @@ ghost use Rattle.run_loop.specs.inner.Needed.{Feeds, Ends, ReadAs, WroteAs, Fail
 use stepfile::{Progress, Taken};
 
 // What went wrong: a read, a write, or a chunk that was not fed.
-#[derive(Drop)]
+#[derive(Clone, Copy)]
 pub enum Fault {
     Nothing,
     Reading,
@@ -17,7 +17,7 @@ pub enum Fault {
 }
 
 // What the program does next.
-#[derive(Drop)]
+#[derive(Clone, Copy)]
 pub enum Action {
     Read,
     Write,
@@ -25,7 +25,7 @@ pub enum Action {
 }
 
 // Where a run stands.
-#[derive(Drop)]
+#[derive(Clone, Copy)]
 pub struct Run {
     // How far the file has been fed.
     pub progress: Progress,

@@ -15,7 +15,7 @@ use layout::{copy_page, copy_row, twin_row};
 use limits::PAGE_WIDTH;
 
 // What a read or a write answers: the word that was read or 0, how many records its fetch applied, and how many words those set.
-#[derive(Drop)]
+#[derive(Clone, Copy)]
 pub struct Answered {
     pub value: u32,
     pub count: u32,

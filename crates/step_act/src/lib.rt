@@ -9,7 +9,7 @@ ghost use Rattle.step_act.specs.inner.Needed.{ActingKept, AccessingKept, Locking
 use clock::ProcessorId;
 
 // What a step answers: its value, its count and how many words it moved where it was done, else its refusal.
-#[derive(Drop)]
+#[derive(Clone, Copy)]
 pub enum Outcome {
     Done { value: u32, count: u32, words: u32 },
     Refused(u8),

@@ -18,7 +18,7 @@ use layout::{clear, own_entry, wide};
 use limits::{CLOCK_AREA, CLOCK_WIDTH, FIRST_INTERVAL_ROW, FIRST_JOB_ROW, INTERVAL_LIMIT};
 
 // How many records fetches applied, and how many words those set.
-#[derive(Drop)]
+#[derive(Clone, Copy)]
 pub struct Moved {
     pub count: u32,
     pub words: u32,

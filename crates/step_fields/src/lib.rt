@@ -4,7 +4,7 @@ ghost use Rattle.limits.specs.Files.{file_record_width};
 ghost use Rattle.step_fields.specs.inner.Needed.{FieldsAre};
 
 // The four fields of a step.
-#[derive(Drop)]
+#[derive(Clone, Copy)]
 pub struct Fields {
     pub kind: u32,
     pub processor: u32,

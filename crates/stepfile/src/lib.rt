@@ -15,7 +15,7 @@ use file_record::Stand;
 use limits::{FILE_RECORD_LIMIT, FILE_RECORD_WIDTH, LINE_LIMIT, WORD_VALUES};
 
 // How far a file has been fed.
-#[derive(Drop)]
+#[derive(Clone, Copy)]
 pub struct Progress {
     // The number of the next record.
     pub number: u32,
@@ -29,7 +29,7 @@ pub struct Progress {
 }
 
 // What feeding a chunk answers: how far the file has been fed, whether the chunk was fed, and how many bytes of lines were written.
-#[derive(Drop)]
+#[derive(Clone, Copy)]
 pub struct Taken {
     pub progress: Progress,
     pub fed: bool,

@@ -6,7 +6,7 @@ ghost use Rattle.whole_reads.specs.Promises.{is_fine, left_to_write, filled_flow
 ghost use Rattle.whole_reads.specs.inner.Needed.{WritingOn, FailureNoted};
 
 // What went wrong: a read or a write.
-#[derive(Drop)]
+#[derive(Clone, Copy)]
 pub enum Failure {
     Nothing,
     Reading,
@@ -14,7 +14,7 @@ pub enum Failure {
 }
 
 // What the program does next.
-#[derive(Drop)]
+#[derive(Clone, Copy)]
 pub enum Next {
     Read,
     Take,
@@ -23,7 +23,7 @@ pub enum Next {
 }
 
 // Where a program stands between two calls.
-#[derive(Drop)]
+#[derive(Clone, Copy)]
 pub struct Flow {
     // How many bytes stand at the start of the buffer, read and not yet taken.
     pub have: usize,

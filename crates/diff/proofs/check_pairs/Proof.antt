@@ -3,10 +3,10 @@ use Rattle.diff.proofs.Checking.{Checking, check_laws}
 use Rattle.diff.proofs.check_pairs.Statement.{statement}
 use Rattle.diff.proofs.check_pairs.Tie as tie
 
-abbrev invariant-loop : tie.invariant-loop
+abbrev invariant-loop : tie.invariant-loop-left
 invariant-loop bytes n at₀ left₀ from₀ end₀ at left from end = Checking bytes n at left from end
 
-abbrev decreases-loop : tie.decreases-loop
+abbrev decreases-loop : tie.decreases-loop-left
 decreases-loop bytes n at₀ left₀ from₀ end₀ at left from end = left
 
 pub check_pairs_spec : {M : Type 1} → statement M

@@ -3,10 +3,10 @@ use Rattle.diff.proofs.Applying.{LayingRuns, apply_laws}
 use Rattle.diff.proofs.lay_runs.Statement.{statement}
 use Rattle.diff.proofs.lay_runs.Tie as tie
 
-abbrev invariant-loop : tie.invariant-loop
+abbrev invariant-loop : tie.invariant-loop-left
 invariant-loop bytes page₀ n at₀ left₀ words₀ page at left words = LayingRuns bytes page₀ page n at left words
 
-abbrev decreases-loop : tie.decreases-loop
+abbrev decreases-loop : tie.decreases-loop-left
 decreases-loop bytes page₀ n at₀ left₀ words₀ page at left words = left
 
 pub lay_runs_spec : {M : Type 1} → statement M

@@ -3,10 +3,10 @@ use Rattle.diff.proofs.Applying.{LayingRun, apply_laws}
 use Rattle.diff.proofs.lay_words.Statement.{statement}
 use Rattle.diff.proofs.lay_words.Tie as tie
 
-abbrev invariant-loop : tie.invariant-loop
+abbrev invariant-loop : tie.invariant-loop-left
 invariant-loop bytes words len page₀ offset from₀ to₀ left₀ page from to left = LayingRun bytes page₀ page words len offset from to left
 
-abbrev decreases-loop : tie.decreases-loop
+abbrev decreases-loop : tie.decreases-loop-left
 decreases-loop bytes words len page₀ offset from₀ to₀ left₀ page from to left = left
 
 pub lay_words_spec : {M : Type 1} → statement M

@@ -3,10 +3,10 @@ use Rattle.diff.proofs.Masking.{MaskingRuns, mask_laws}
 use Rattle.diff.proofs.mask.Statement.{statement}
 use Rattle.diff.proofs.mask.Tie as tie
 
-abbrev invariant-loop : tie.invariant-loop
+abbrev invariant-loop : tie.invariant-loop-left
 invariant-loop bytes n at₀ left₀ mask₀ at left mask = MaskingRuns bytes n at left mask
 
-abbrev decreases-loop : tie.decreases-loop
+abbrev decreases-loop : tie.decreases-loop-left
 decreases-loop bytes n at₀ left₀ mask₀ at left mask = left
 
 pub mask_spec : {M : Type 1} → statement M

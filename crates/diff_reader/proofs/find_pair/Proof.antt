@@ -3,10 +3,10 @@ use Rattle.diff_reader.proofs.Pairs.{Finding, pair_laws}
 use Rattle.diff_reader.proofs.find_pair.Statement.{statement}
 use Rattle.diff_reader.proofs.find_pair.Tie as tie
 
-abbrev invariant-loop : tie.invariant-loop
+abbrev invariant-loop : tie.invariant-loop-left
 invariant-loop bytes at n first₀ left₀ words₀ first left words = Finding bytes at n first left words
 
-abbrev decreases-loop : tie.decreases-loop
+abbrev decreases-loop : tie.decreases-loop-left
 decreases-loop bytes at n first₀ left₀ words₀ first left words = left
 
 pub find_pair_spec : {M : Type 1} → statement M

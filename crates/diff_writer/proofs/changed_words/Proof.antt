@@ -5,10 +5,10 @@ use Rattle.diff_writer.proofs.WriteLoops.{Masking, write_laws}
 use Rattle.diff_writer.proofs.changed_words.Statement.{statement}
 use Rattle.diff_writer.proofs.changed_words.Tie as tie
 
-abbrev invariant-loop : tie.invariant-loop
+abbrev invariant-loop : tie.invariant-loop-i
 invariant-loop old new mask₀ i₀ mask i = Masking old new mask i
 
-abbrev decreases-loop : tie.decreases-loop
+abbrev decreases-loop : tie.decreases-loop-i
 decreases-loop old new mask₀ i₀ mask i = page_width - i
 
 pub changed_words_spec : {M : Type 1} → statement M

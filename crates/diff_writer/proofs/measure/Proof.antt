@@ -6,10 +6,10 @@ use Rattle.diff_writer.proofs.WriteLoops.{write_laws}
 use Rattle.diff_writer.proofs.measure.Statement.{statement}
 use Rattle.diff_writer.proofs.measure.Tie as tie
 
-abbrev invariant-loop : tie.invariant-loop
+abbrev invariant-loop : tie.invariant-loop-i
 invariant-loop old new runs₀ words₀ before₀ i₀ runs words before i = Measuring old new runs words before i
 
-abbrev decreases-loop : tie.decreases-loop
+abbrev decreases-loop : tie.decreases-loop-i
 decreases-loop old new runs₀ words₀ before₀ i₀ runs words before i = page_width - i
 
 pub measure_spec : {M : Type 1} → statement M

@@ -3,10 +3,10 @@ use Rattle.diff_writer.proofs.WriteLoops.{PuttingWords, write_laws}
 use Rattle.diff_writer.proofs.put_words.Statement.{statement}
 use Rattle.diff_writer.proofs.put_words.Tie as tie
 
-abbrev invariant-loop : tie.invariant-loop
+abbrev invariant-loop : tie.invariant-loop-left
 invariant-loop old new mask out₀ from left₀ to₀ out left to = PuttingWords old new out₀ out left from to
 
-abbrev decreases-loop : tie.decreases-loop
+abbrev decreases-loop : tie.decreases-loop-left
 decreases-loop old new mask out₀ from left₀ to₀ out left to = left
 
 pub put_words_spec : {M : Type 1} → statement M

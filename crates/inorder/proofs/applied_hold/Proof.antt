@@ -10,10 +10,10 @@ use Rattle.inorder.proofs.ClockTests.{clocks_checked}
 use Rattle.inorder.proofs.applied_hold.Statement.{statement}
 use Rattle.inorder.proofs.applied_hold.Tie as tie
 
-abbrev invariant-loop : tie.invariant-loop
+abbrev invariant-loop : tie.invariant-loop-k
 invariant-loop clocks processors pages k₀ k = (Passed processor_limit (applied_hold clocks processors pages) k) × (length clocks ≡ clock_area) × (pages ≤ page_limit)
 
-abbrev decreases-loop : tie.decreases-loop
+abbrev decreases-loop : tie.decreases-loop-k
 decreases-loop clocks processors pages k₀ k = processor_limit - k
 
 pub applied_hold_spec : {M : Type 1} → statement M

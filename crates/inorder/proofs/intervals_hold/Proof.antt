@@ -12,10 +12,10 @@ use Rattle.inorder.proofs.ClockTests.{clocks_checked}
 use Rattle.inorder.proofs.intervals_hold.Statement.{statement}
 use Rattle.inorder.proofs.intervals_hold.Tie as tie
 
-abbrev invariant-loop : tie.invariant-loop
+abbrev invariant-loop : tie.invariant-loop-k
 invariant-loop clocks own k₀ k = (Passed processor_limit (intervals_hold own clocks) k) × (length clocks ≡ clock_area) × (OwnFit own)
 
-abbrev decreases-loop : tie.decreases-loop
+abbrev decreases-loop : tie.decreases-loop-k
 decreases-loop clocks own k₀ k = processor_limit - k
 
 pub intervals_hold_spec : {M : Type 1} → statement M

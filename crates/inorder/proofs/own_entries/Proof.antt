@@ -5,10 +5,10 @@ use Rattle.inorder.proofs.ClockTests.{OwnRead, clocks_checked}
 use Rattle.inorder.proofs.own_entries.Statement.{statement}
 use Rattle.inorder.proofs.own_entries.Tie as tie
 
-abbrev invariant-loop : tie.invariant-loop
+abbrev invariant-loop : tie.invariant-loop-k
 invariant-loop clocks own₀ k₀ own k = OwnRead clocks own k
 
-abbrev decreases-loop : tie.decreases-loop
+abbrev decreases-loop : tie.decreases-loop-k
 decreases-loop clocks own₀ k₀ own k = processor_limit - k
 
 pub own_entries_spec : {M : Type 1} → statement M

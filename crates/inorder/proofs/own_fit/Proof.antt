@@ -11,10 +11,10 @@ use Rattle.inorder.proofs.ClockTests.{clocks_checked}
 use Rattle.inorder.proofs.own_fit.Statement.{statement}
 use Rattle.inorder.proofs.own_fit.Tie as tie
 
-abbrev invariant-loop : tie.invariant-loop
+abbrev invariant-loop : tie.invariant-loop-k
 invariant-loop own k₀ k = (Passed processor_limit (own_fits own) k) × (length own ≡ clock_width)
 
-abbrev decreases-loop : tie.decreases-loop
+abbrev decreases-loop : tie.decreases-loop-k
 decreases-loop own k₀ k = processor_limit - k
 
 pub own_fit_spec : {M : Type 1} → statement M

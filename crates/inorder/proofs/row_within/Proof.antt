@@ -11,10 +11,10 @@ use Rattle.inorder.proofs.ClockTests.{clocks_checked}
 use Rattle.inorder.proofs.row_within.Statement.{statement}
 use Rattle.inorder.proofs.row_within.Tie as tie
 
-abbrev invariant-loop : tie.invariant-loop
+abbrev invariant-loop : tie.invariant-loop-i
 invariant-loop clocks at most all₀ i₀ all i = (Kept processor_limit (entry_within most clocks at) i all) × (PlacesThere clocks at clock_width) × (length most ≡ clock_width)
 
-abbrev decreases-loop : tie.decreases-loop
+abbrev decreases-loop : tie.decreases-loop-i
 decreases-loop clocks at most all₀ i₀ all i = clock_width - i
 
 pub row_within_spec : {M : Type 1} → statement M

@@ -8,10 +8,10 @@ use Rattle.inorder.proofs.ClockTests.{clocks_checked}
 use Rattle.inorder.proofs.rows_within.Statement.{statement}
 use Rattle.inorder.proofs.rows_within.Tie as tie
 
-abbrev invariant-loop : tie.invariant-loop
+abbrev invariant-loop : tie.invariant-loop-i
 invariant-loop clocks most first n i₀ i = (Passed n (is_row_within most clocks first) i) × (PlacesThere clocks (clock_width * first) (clock_width * n))
 
-abbrev decreases-loop : tie.decreases-loop
+abbrev decreases-loop : tie.decreases-loop-i
 decreases-loop clocks most first n i₀ i = n - i
 
 pub rows_within_spec : {M : Type 1} → statement M

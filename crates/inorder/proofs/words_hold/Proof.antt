@@ -10,10 +10,10 @@ use Rattle.inorder.proofs.WordTests.{words_checked}
 use Rattle.inorder.proofs.words_hold.Statement.{statement}
 use Rattle.inorder.proofs.words_hold.Tie as tie
 
-abbrev invariant-loop : tie.invariant-loop
+abbrev invariant-loop : tie.invariant-loop-k
 invariant-loop words first processors pages k₀ k = (Passed processor_limit (words_hold words first processors pages) k) × (length words ≡ word_area) × (first ≤ copy_limit) × (pages ≤ page_limit)
 
-abbrev decreases-loop : tie.decreases-loop
+abbrev decreases-loop : tie.decreases-loop-k
 decreases-loop words first processors pages k₀ k = processor_limit - k
 
 pub words_hold_spec : {M : Type 1} → statement M

@@ -7,10 +7,10 @@ use Rattle.inorder.proofs.WordTests.{words_checked}
 use Rattle.inorder.proofs.words_zero.Statement.{statement}
 use Rattle.inorder.proofs.words_zero.Tie as tie
 
-abbrev invariant-loop : tie.invariant-loop
+abbrev invariant-loop : tie.invariant-loop-i
 invariant-loop words at n all₀ i₀ all i = (Kept n (zero_at words at) i all) × (PlacesThere words at n)
 
-abbrev decreases-loop : tie.decreases-loop
+abbrev decreases-loop : tie.decreases-loop-i
 decreases-loop words at n all₀ i₀ all i = n - i
 
 pub words_zero_spec : {M : Type 1} → statement M

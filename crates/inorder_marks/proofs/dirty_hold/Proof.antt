@@ -10,10 +10,10 @@ use Rattle.inorder_marks.proofs.MarkTests.{marks_checked}
 use Rattle.inorder_marks.proofs.dirty_hold.Statement.{statement}
 use Rattle.inorder_marks.proofs.dirty_hold.Tie as tie
 
-abbrev invariant-loop : tie.invariant-loop
+abbrev invariant-loop : tie.invariant-loop-k
 invariant-loop marks own processors pages k₀ k = (Passed processor_limit (dirty_hold own marks processors pages) k) × (length marks ≡ mark_area) × (pages ≤ page_limit)
 
-abbrev decreases-loop : tie.decreases-loop
+abbrev decreases-loop : tie.decreases-loop-k
 decreases-loop marks own processors pages k₀ k = processor_limit - k
 
 pub dirty_hold_spec : {M : Type 1} → statement M

@@ -8,10 +8,10 @@ use Rattle.inorder_marks.proofs.MarkTests.{Summed, marks_checked}
 use Rattle.inorder_marks.proofs.dirty_pages.Statement.{statement}
 use Rattle.inorder_marks.proofs.dirty_pages.Tie as tie
 
-abbrev invariant-loop : tie.invariant-loop
+abbrev invariant-loop : tie.invariant-loop-k
 invariant-loop marks processors pages n₀ k₀ n k = (Summed marks processors pages k n) × (length marks ≡ mark_area) × (processors ≤ processor_limit) × (pages ≤ page_limit)
 
-abbrev decreases-loop : tie.decreases-loop
+abbrev decreases-loop : tie.decreases-loop-k
 decreases-loop marks processors pages n₀ k₀ n k = processors - k
 
 pub dirty_pages_spec : {M : Type 1} → statement M

@@ -8,10 +8,10 @@ use Rattle.inorder_marks.proofs.MarkTests.{DirtyCounted, marks_checked}
 use Rattle.inorder_marks.proofs.dirty_pages_of.Statement.{statement}
 use Rattle.inorder_marks.proofs.dirty_pages_of.Tie as tie
 
-abbrev invariant-loop : tie.invariant-loop
+abbrev invariant-loop : tie.invariant-loop-g
 invariant-loop marks pages k at n₀ g₀ n g = (DirtyCounted marks at pages g n) × (MarksOne marks pages k) × (at ≡ first_dirty + page_limit * k)
 
-abbrev decreases-loop : tie.decreases-loop
+abbrev decreases-loop : tie.decreases-loop-g
 decreases-loop marks pages k at n₀ g₀ n g = pages - g
 
 pub dirty_pages_of_spec : {M : Type 1} → statement M

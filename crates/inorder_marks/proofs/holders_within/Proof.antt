@@ -7,10 +7,10 @@ use Rattle.inorder_marks.proofs.MarkTests.{marks_checked}
 use Rattle.inorder_marks.proofs.holders_within.Statement.{statement}
 use Rattle.inorder_marks.proofs.holders_within.Tie as tie
 
-abbrev invariant-loop : tie.invariant-loop
+abbrev invariant-loop : tie.invariant-loop-l
 invariant-loop marks processors locks l₀ l = Passed locks (holder_within marks processors) l × HoldersThere marks processors locks
 
-abbrev decreases-loop : tie.decreases-loop
+abbrev decreases-loop : tie.decreases-loop-l
 decreases-loop marks processors locks l₀ l = locks - l
 
 pub holders_within_spec : {M : Type 1} → statement M

@@ -8,10 +8,10 @@ use Rattle.inorder_marks.proofs.MarkTests.{AllArrived, marks_checked}
 use Rattle.inorder_marks.proofs.someone_missing.Statement.{statement}
 use Rattle.inorder_marks.proofs.someone_missing.Tie as tie
 
-abbrev invariant-loop : tie.invariant-loop
+abbrev invariant-loop : tie.invariant-loop-k
 invariant-loop marks processors k₀ k = (AllArrived marks processors k) × (length marks ≡ mark_area) × (processors ≤ processor_limit)
 
-abbrev decreases-loop : tie.decreases-loop
+abbrev decreases-loop : tie.decreases-loop-k
 decreases-loop marks processors k₀ k = processors - k
 
 pub someone_missing_spec : {M : Type 1} → statement M

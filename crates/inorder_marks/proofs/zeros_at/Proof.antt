@@ -7,10 +7,10 @@ use Rattle.inorder_marks.proofs.MarkTests.{marks_checked}
 use Rattle.inorder_marks.proofs.zeros_at.Statement.{statement}
 use Rattle.inorder_marks.proofs.zeros_at.Tie as tie
 
-abbrev invariant-loop : tie.invariant-loop
+abbrev invariant-loop : tie.invariant-loop-i
 invariant-loop bytes at n all₀ i₀ all i = (Kept n (zero_at bytes at) i all) × (PlacesThere bytes at n)
 
-abbrev decreases-loop : tie.decreases-loop
+abbrev decreases-loop : tie.decreases-loop-i
 decreases-loop bytes at n all₀ i₀ all i = n - i
 
 pub zeros_at_spec : {M : Type 1} → statement M

@@ -8,10 +8,10 @@ use Rattle.inorder_records.proofs.RecordTests.{records_checked}
 use Rattle.inorder_records.proofs.records_sound.Statement.{statement}
 use Rattle.inorder_records.proofs.records_sound.Tie as tie
 
-abbrev invariant-loop : tie.invariant-loop
+abbrev invariant-loop : tie.invariant-loop-i
 invariant-loop records own processors pages standing i₀ i = (Passed standing (record_holds own records processors pages) i) × (SlotsThere records standing) × (processors ≤ processor_limit)
 
-abbrev decreases-loop : tie.decreases-loop
+abbrev decreases-loop : tie.decreases-loop-i
 decreases-loop records own processors pages standing i₀ i = standing - i
 
 pub records_sound_spec : {M : Type 1} → statement M

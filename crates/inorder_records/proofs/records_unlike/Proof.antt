@@ -5,10 +5,10 @@ use Rattle.inorder_records.proofs.Notices.{Seen, notices_checked}
 use Rattle.inorder_records.proofs.records_unlike.Statement.{statement}
 use Rattle.inorder_records.proofs.records_unlike.Tie as tie
 
-abbrev invariant-loop : tie.invariant-loop
+abbrev invariant-loop : tie.invariant-loop-i
 invariant-loop records standing seen₀ i₀ seen i = (Seen records standing seen i) × (SlotsThere records standing) × (NoticesFit records standing)
 
-abbrev decreases-loop : tie.decreases-loop
+abbrev decreases-loop : tie.decreases-loop-i
 decreases-loop records standing seen₀ i₀ seen i = standing - i
 
 pub records_unlike_spec : {M : Type 1} → statement M

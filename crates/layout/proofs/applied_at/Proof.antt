@@ -5,10 +5,10 @@ use Rattle.layout.proofs.Rows.{AppliedRead, row_laws}
 use Rattle.layout.proofs.applied_at.Statement.{statement}
 use Rattle.layout.proofs.applied_at.Tie as tie
 
-abbrev invariant-loop : tie.invariant-loop
+abbrev invariant-loop : tie.invariant-loop-g
 invariant-loop clocks p rows₀ g₀ rows g = AppliedRead clocks p.0 rows g
 
-abbrev decreases-loop : tie.decreases-loop
+abbrev decreases-loop : tie.decreases-loop-g
 decreases-loop clocks p rows₀ g₀ rows g = page_limit - g
 
 pub applied_at_spec : {M : Type 1} → statement M

@@ -5,10 +5,10 @@ use Rattle.layout.proofs.Rows.{RowRead, row_laws}
 use Rattle.layout.proofs.clock_at.Statement.{statement}
 use Rattle.layout.proofs.clock_at.Tie as tie
 
-abbrev invariant-loop : tie.invariant-loop
+abbrev invariant-loop : tie.invariant-loop-i
 invariant-loop clocks row at entries₀ i₀ entries i = RowRead clock_width clocks entries row at i
 
-abbrev decreases-loop : tie.decreases-loop
+abbrev decreases-loop : tie.decreases-loop-i
 decreases-loop clocks row at entries₀ i₀ entries i = clock_width - i
 
 pub clock_at_spec : {M : Type 1} → statement M

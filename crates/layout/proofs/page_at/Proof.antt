@@ -5,10 +5,10 @@ use Rattle.layout.proofs.Rows.{RowRead, row_laws}
 use Rattle.layout.proofs.page_at.Statement.{statement}
 use Rattle.layout.proofs.page_at.Tie as tie
 
-abbrev invariant-loop : tie.invariant-loop
+abbrev invariant-loop : tie.invariant-loop-i
 invariant-loop words row at page₀ i₀ page i = RowRead page_width words page row at i
 
-abbrev decreases-loop : tie.decreases-loop
+abbrev decreases-loop : tie.decreases-loop-i
 decreases-loop words row at page₀ i₀ page i = page_width - i
 
 pub page_at_spec : {M : Type 1} → statement M

@@ -5,10 +5,10 @@ use Rattle.layout.proofs.Rows.{RowWritten, row_laws}
 use Rattle.layout.proofs.put_clock.Statement.{statement}
 use Rattle.layout.proofs.put_clock.Tie as tie
 
-abbrev invariant-loop : tie.invariant-loop
+abbrev invariant-loop : tie.invariant-loop-i
 invariant-loop clocks₀ row entries at i₀ clocks i = RowWritten clock_width clocks₀ clocks entries row at i
 
-abbrev decreases-loop : tie.decreases-loop
+abbrev decreases-loop : tie.decreases-loop-i
 decreases-loop clocks₀ row entries at i₀ clocks i = clock_width - i
 
 pub put_clock_spec : {M : Type 1} → statement M

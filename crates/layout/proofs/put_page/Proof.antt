@@ -5,10 +5,10 @@ use Rattle.layout.proofs.Rows.{RowWritten, row_laws}
 use Rattle.layout.proofs.put_page.Statement.{statement}
 use Rattle.layout.proofs.put_page.Tie as tie
 
-abbrev invariant-loop : tie.invariant-loop
+abbrev invariant-loop : tie.invariant-loop-i
 invariant-loop words₀ row page at i₀ words i = RowWritten page_width words₀ words page row at i
 
-abbrev decreases-loop : tie.decreases-loop
+abbrev decreases-loop : tie.decreases-loop-i
 decreases-loop words₀ row page at i₀ words i = page_width - i
 
 pub put_page_spec : {M : Type 1} → statement M

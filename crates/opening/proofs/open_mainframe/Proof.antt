@@ -4,7 +4,7 @@ use Rattle.opening.proofs.Opening.{opening_refused, opening_untouched, openable,
 use Rattle.opening.proofs.open_mainframe.Statement.{statement}
 use Rattle.opening.proofs.open_mainframe.Tie as tie
 
-returns_2 : tie.Need-returns-2
+returns_2 : tie.Goal-returns-then-not-opening_fits
 returns_2 c = (
   opening_refused _ _ _ _ _ _ c.before.before.before.right-sizes.ensures c.before.before.if1.false _ c.before.opening-fits.ensures c.if2.true,
   opening_untouched _ _ _ _ _ _ c.before.before.before.right-sizes.ensures c.before.before.if1.false _ c.before.opening-fits.ensures c.if2.true,
@@ -13,7 +13,7 @@ returns_2 c = (
 lay_opened_requires : tie.Need-lay-opened-requires
 lay_opened_requires c κs = openable _ _ _ _ _ _ c.before.before.before.before.before.before.before.right-sizes.ensures c.before.before.before.before.before.before.if1.false _ c.before.before.before.before.before.opening-fits.ensures c.before.before.before.before.if2.false
 
-returns_3 : tie.Need-returns-3
+returns_3 : tie.Goal-returns
 returns_3 c = (
   opening_accepted _ _ _ _ _ _ c.before.before.before.before.before.before.before.before.before.before.before.before.before.before.before.before.right-sizes.ensures c.before.before.before.before.before.before.before.before.before.before.before.before.before.before.before.if1.false _ c.before.before.before.before.before.before.before.before.before.before.before.before.before.before.opening-fits.ensures c.before.before.before.before.before.before.before.before.before.before.before.before.before.if2.false,
   opening_done _ _ _ _ _ _ c.before.before.before.before.before.before.before.before.before.before.before.before.before.before.before.before.right-sizes.ensures c.before.before.before.before.before.before.before.before.before.before.before.before.before.before.before.if1.false _ c.before.before.before.before.before.before.before.before.before.before.before.before.before.before.opening-fits.ensures _ _ _ _ c.before.before.before.before.before.before.before.before.before.before.before.before.before.if2.false c.before.before.before.before.before.before.before.before.lay-opened.ensures,

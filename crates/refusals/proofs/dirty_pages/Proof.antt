@@ -6,10 +6,10 @@ use Rattle.refusals.proofs.Refusing.{refusal_laws}
 use Rattle.refusals.proofs.dirty_pages.Statement.{statement}
 use Rattle.refusals.proofs.dirty_pages.Tie as tie
 
-abbrev invariant-loop : tie.invariant-loop
+abbrev invariant-loop : tie.invariant-loop-k
 invariant-loop marks sum₀ k₀ sum k = MarksCounted marks sum k
 
-abbrev decreases-loop : tie.decreases-loop
+abbrev decreases-loop : tie.decreases-loop-k
 decreases-loop marks sum₀ k₀ sum k = copy_limit - k
 
 pub dirty_pages_spec : {M : Type 1} → statement M

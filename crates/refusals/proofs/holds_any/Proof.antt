@@ -6,10 +6,10 @@ use Rattle.refusals.proofs.Refusing.{refusal_laws}
 use Rattle.refusals.proofs.holds_any.Statement.{statement}
 use Rattle.refusals.proofs.holds_any.Tie as tie
 
-abbrev invariant-loop : tie.invariant-loop
+abbrev invariant-loop : tie.invariant-loop-l
 invariant-loop marks own held₀ l₀ held l = HeldAmong marks own held l
 
-abbrev decreases-loop : tie.decreases-loop
+abbrev decreases-loop : tie.decreases-loop-l
 decreases-loop marks own held₀ l₀ held l = lock_limit - l
 
 pub holds_any_spec : {M : Type 1} → statement M

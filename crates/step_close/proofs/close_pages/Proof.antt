@@ -4,10 +4,10 @@ use Rattle.step_close.proofs.AllPages.{ClosingPages, all_pages_laws}
 use Rattle.step_close.proofs.close_pages.Statement.{statement}
 use Rattle.step_close.proofs.close_pages.Tie as tie
 
-abbrev invariant-loop : tie.invariant-loop
+abbrev invariant-loop : tie.invariant-loop-g
 invariant-loop p clocks words records₀ marks₀ n g₀ records marks g = ClosingPages clocks words records₀ marks₀ records marks p.0 n g
 
-abbrev decreases-loop : tie.decreases-loop
+abbrev decreases-loop : tie.decreases-loop-g
 decreases-loop p clocks words records₀ marks₀ n g₀ records marks g = n - g
 
 pub close_pages_spec : {M : Type 1} → statement M

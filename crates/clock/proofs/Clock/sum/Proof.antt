@@ -8,10 +8,10 @@ use Rattle.clock.proofs.Methods.{clock_laws}
 use Rattle.clock.proofs.Clock.sum.Statement.{statement}
 use Rattle.clock.proofs.Clock.sum.Tie as tie
 
-abbrev invariant-loop : tie.invariant-loop
+abbrev invariant-loop : tie.invariant-loop-i
 invariant-loop entries total₀ i₀ total i = (i ≤ clock_width) × (length entries ≡ clock_width) × (total ≤ 255 * i) × (total + sum_of (drop i entries) ≡ sum_of entries)
 
-abbrev decreases-loop : tie.decreases-loop
+abbrev decreases-loop : tie.decreases-loop-i
 decreases-loop entries total₀ i₀ total i = clock_width - i
 
 pub sum_spec : {M : Type 1} → statement M

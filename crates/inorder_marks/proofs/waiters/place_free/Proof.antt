@@ -10,10 +10,10 @@ use Rattle.inorder_marks.proofs.LineTests.{lines_checked}
 use Rattle.inorder_marks.proofs.waiters.place_free.Statement.{statement}
 use Rattle.inorder_marks.proofs.waiters.place_free.Tie as tie
 
-abbrev invariant-loop : tie.invariant-loop
+abbrev invariant-loop : tie.invariant-loop-j
 invariant-loop marks k j₀ j = (Passed k (is_apart marks k) j) × (length marks ≡ mark_area) × (k < processor_limit)
 
-abbrev decreases-loop : tie.decreases-loop
+abbrev decreases-loop : tie.decreases-loop-j
 decreases-loop marks k j₀ j = k - j
 
 pub place_free_spec : {M : Type 1} → statement M

@@ -8,10 +8,10 @@ use Rattle.inorder_marks.proofs.LineTests.{BeforeCounted, lines_checked}
 use Rattle.inorder_marks.proofs.waiters.stand_before.Statement.{statement}
 use Rattle.inorder_marks.proofs.waiters.stand_before.Tie as tie
 
-abbrev invariant-loop : tie.invariant-loop
+abbrev invariant-loop : tie.invariant-loop-j
 invariant-loop marks processors k n₀ j₀ n j = (BeforeCounted marks processors k j n) × (length marks ≡ mark_area) × (processors ≤ processor_limit) × (k < processor_limit)
 
-abbrev decreases-loop : tie.decreases-loop
+abbrev decreases-loop : tie.decreases-loop-j
 decreases-loop marks processors k n₀ j₀ n j = processors - j
 
 pub stand_before_spec : {M : Type 1} → statement M

@@ -10,10 +10,10 @@ use Rattle.inorder_marks.proofs.LineTests.{lines_checked}
 use Rattle.inorder_marks.proofs.waiters.waiters_hold.Statement.{statement}
 use Rattle.inorder_marks.proofs.waiters.waiters_hold.Tie as tie
 
-abbrev invariant-loop : tie.invariant-loop
+abbrev invariant-loop : tie.invariant-loop-k
 invariant-loop marks processors locks k₀ k = (Passed processors (waiter_holds marks processors locks) k) × (length marks ≡ mark_area) × (processors ≤ processor_limit) × (locks ≤ lock_limit)
 
-abbrev decreases-loop : tie.decreases-loop
+abbrev decreases-loop : tie.decreases-loop-k
 decreases-loop marks processors locks k₀ k = processors - k
 
 pub waiters_hold_spec : {M : Type 1} → statement M

@@ -1,4 +1,0 @@
-pub mod Limits
-pub mod Places
-pub mod Files
-pub mod inner
