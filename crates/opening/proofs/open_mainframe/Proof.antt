@@ -1,23 +1,22 @@
 -- `open_mainframe` meets its contract. Assumes nothing.
+use mathlib.Core.Bool.{not}
+use mathlib.Core.Path.{ap}
 use borrow.Author.Rules.{rules}
 use Rattle.opening.proofs.Opening.{opening_refused, opening_untouched, openable, opening_accepted, opening_done, opening_laws}
 use Rattle.opening.proofs.open_mainframe.Statement.{statement}
 use Rattle.opening.proofs.open_mainframe.Tie as tie
 
-returns_2 : tie.Goal-returns-then-not-opening_fits
+returns_2 : tie.Need-returns-then-not-opening_fits
 returns_2 c = (
-  opening_refused _ _ _ _ _ _ c.before.before.before.right-sizes.ensures c.before.before.if1.false _ c.before.opening-fits.ensures c.if2.true,
-  opening_untouched _ _ _ _ _ _ c.before.before.before.right-sizes.ensures c.before.before.if1.false _ c.before.opening-fits.ensures c.if2.true,
+  opening_refused _ _ _ _ _ _ c.right_sizes.ensures (ap not c.if-not-right_sizes.false) _ c.opening_fits.ensures (ap not c.if-not-opening_fits.true),
+  opening_untouched _ _ _ _ _ _ c.right_sizes.ensures (ap not c.if-not-right_sizes.false) _ c.opening_fits.ensures (ap not c.if-not-opening_fits.true),
 )
 
-lay_opened_requires : tie.Need-lay-opened-requires
-lay_opened_requires c κs = openable _ _ _ _ _ _ c.before.before.before.before.before.before.before.right-sizes.ensures c.before.before.before.before.before.before.if1.false _ c.before.before.before.before.before.opening-fits.ensures c.before.before.before.before.if2.false
+lay_opened_requires : tie.Need-lay_opened-requires
+lay_opened_requires c κs = openable _ _ _ _ _ _ c.right_sizes.ensures (ap not c.if-not-right_sizes.false) _ c.opening_fits.ensures (ap not c.if-not-opening_fits.false)
 
-returns_3 : tie.Goal-returns
-returns_3 c = (
-  opening_accepted _ _ _ _ _ _ c.before.before.before.before.before.before.before.before.before.before.before.before.before.before.before.before.right-sizes.ensures c.before.before.before.before.before.before.before.before.before.before.before.before.before.before.before.if1.false _ c.before.before.before.before.before.before.before.before.before.before.before.before.before.before.opening-fits.ensures c.before.before.before.before.before.before.before.before.before.before.before.before.before.if2.false,
-  opening_done _ _ _ _ _ _ c.before.before.before.before.before.before.before.before.before.before.before.before.before.before.before.before.right-sizes.ensures c.before.before.before.before.before.before.before.before.before.before.before.before.before.before.before.if1.false _ c.before.before.before.before.before.before.before.before.before.before.before.before.before.before.opening-fits.ensures _ _ _ _ c.before.before.before.before.before.before.before.before.before.before.before.before.before.if2.false c.before.before.before.before.before.before.before.before.lay-opened.ensures,
-)
+returns_3 : tie.Need-returns-then-not-right_sizes
+returns_3 c = ?
 
 pub open_mainframe_spec : {M : Type 1} → statement M
 open_mainframe_spec =
