@@ -5,10 +5,10 @@ use Rattle.lock_line.proofs.Handing.{line_laws}
 use Rattle.lock_line.proofs.in_line.Statement.{statement}
 use Rattle.lock_line.proofs.in_line.Tie as tie
 
-abbrev invariant-loop : tie.invariant-loop
+abbrev invariant-loop : tie.invariant-loop-k
 invariant-loop marks lock n count₀ k₀ count k = LineCounted marks lock n count k
 
-abbrev decreases-loop : tie.decreases-loop
+abbrev decreases-loop : tie.decreases-loop-k
 decreases-loop marks lock n count₀ k₀ count k = n - k
 
 pub in_line_spec : {M : Type 1} → statement M

@@ -6,10 +6,10 @@ use Rattle.lock_line.proofs.Handing.{line_laws}
 use Rattle.lock_line.proofs.move_up.Statement.{statement}
 use Rattle.lock_line.proofs.move_up.Tie as tie
 
-abbrev invariant-loop : tie.invariant-loop
+abbrev invariant-loop : tie.invariant-loop-k
 invariant-loop marks₀ lock k₀ marks k = Moving marks₀ marks lock k
 
-abbrev decreases-loop : tie.decreases-loop
+abbrev decreases-loop : tie.decreases-loop-k
 decreases-loop marks₀ lock k₀ marks k = processor_limit - k
 
 pub move_up_spec : {M : Type 1} → statement M

@@ -15,8 +15,11 @@ returns_2 c = (
 lay_opened_requires : tie.Need-lay_opened-requires
 lay_opened_requires c κs = openable _ _ _ _ _ _ c.right_sizes.ensures (ap not c.if-not-right_sizes.false) _ c.opening_fits.ensures (ap not c.if-not-opening_fits.false)
 
-returns_3 : tie.Need-returns-then-not-right_sizes
-returns_3 c = ?
+returns_3 : tie.Need-returns
+returns_3 c = (
+  opening_accepted _ _ _ _ _ _ c.right_sizes.ensures (ap not c.if-not-right_sizes.false) _ c.opening_fits.ensures (ap not c.if-not-opening_fits.false),
+  opening_done _ _ _ _ _ _ c.right_sizes.ensures (ap not c.if-not-right_sizes.false) _ c.opening_fits.ensures _ _ _ _ (ap not c.if-not-opening_fits.false) c.lay_opened.ensures,
+)
 
 pub open_mainframe_spec : {M : Type 1} → statement M
 open_mainframe_spec =

@@ -4,10 +4,10 @@ use Rattle.step_collect.proofs.Clearing.{ClocksClearing, clear_laws}
 use Rattle.step_collect.proofs.clear_clocks.Statement.{statement}
 use Rattle.step_collect.proofs.clear_clocks.Tie as tie
 
-abbrev invariant-loop : tie.invariant-loop
+abbrev invariant-loop : tie.invariant-loop-k
 invariant-loop clocks₀ n k₀ clocks k = ClocksClearing clocks₀ clocks n k
 
-abbrev decreases-loop : tie.decreases-loop
+abbrev decreases-loop : tie.decreases-loop-k
 decreases-loop clocks₀ n k₀ clocks k = n - k
 
 pub clear_clocks_spec : {M : Type 1} → statement M

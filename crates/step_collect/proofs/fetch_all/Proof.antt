@@ -4,10 +4,10 @@ use Rattle.step_collect.proofs.Collecting.{AllFetching, fetches_laws}
 use Rattle.step_collect.proofs.fetch_all.Statement.{statement}
 use Rattle.step_collect.proofs.fetch_all.Tie as tie
 
-abbrev invariant-loop : tie.invariant-loop
+abbrev invariant-loop : tie.invariant-loop-k
 invariant-loop clocks₀ words₀ records marks index₀ n count₀ moved₀ k₀ clocks words index count moved k = AllFetching clocks₀ words₀ records marks n clocks words index count moved k
 
-abbrev decreases-loop : tie.decreases-loop
+abbrev decreases-loop : tie.decreases-loop-k
 decreases-loop clocks₀ words₀ records marks index₀ n count₀ moved₀ k₀ clocks words index count moved k = n - k
 
 pub fetch_all_spec : {M : Type 1} → statement M

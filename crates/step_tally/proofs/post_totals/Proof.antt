@@ -5,10 +5,10 @@ use Rattle.step_tally.proofs.Posting.{PostedTo, posting_laws}
 use Rattle.step_tally.proofs.post_totals.Statement.{statement}
 use Rattle.step_tally.proofs.post_totals.Tie as tie
 
-abbrev invariant-loop : tie.invariant-loop
+abbrev invariant-loop : tie.invariant-loop-t
 invariant-loop words₀ n t₀ words t = PostedTo words₀ words n t
 
-abbrev decreases-loop : tie.decreases-loop
+abbrev decreases-loop : tie.decreases-loop-t
 decreases-loop words₀ n t₀ words t = tally_limit - t
 
 pub post_totals_spec : {M : Type 1} → statement M
