@@ -6,4 +6,4 @@ use Rattle.engine.proofs.step.Tie as tie
 pub step_spec : {M : Type 1} → statement M
 step_spec =
     tie.close
-    (tie.spec (λ c κs. search answering_laws) (λ c. search answering_laws) (λ c. search answering_laws) (λ c. search answering_laws) (λ c. search answering_laws) (λ c. (search answering_laws, search answering_laws)) (λ c κs. ready_when_fine _ _ _ _ _ c.before.before.before.before.before.in_order.ensures c.before.before.before.before.if1.false) (λ c. search answering_laws) (λ c. search answering_laws) (λ c. search answering_laws) (λ c. search answering_laws) (λ c. (search answering_laws, search answering_laws)))
+    (tie.spec (λ c κs. search answering_laws) (λ c. search answering_laws) (λ c. search answering_laws) (λ c. search answering_laws) (λ c. search answering_laws) (λ c. (search answering_laws, search answering_laws)) (λ c κs. ready_when_fine _ _ _ _ _ c.in_order.ensures c.if1.false) (λ c. search answering_laws) (λ c. search answering_laws) (λ c. search answering_laws) (λ c. search answering_laws) (λ c. (search answering_laws, search answering_laws)))

@@ -15,11 +15,11 @@ decreases-loop chunk from end lines₀ clocks₀ words₀ records₀ marks₀ nu
     end - i
 
 add_i : tie.Need-overflow-add-i invariant-loop decreases-loop
-add_i c = let e = next_place _ _ _ _ _ _ _ _ _ _ _ _ _ _ _ _ _ _ _ _ _ c.before.before.before.before.before.before.before.before.before.before.before.before.before.before.before.before.before.before.before.before.before.before.before.before.loop.invariant.0 (search rules) c.before.before.before.before.before.before.before.before.before.before.before.before.before.before.before.before.before.before.before.before.before.before.before.before.before.before.before.before.before.before.before.before.before.before.before.before.ranges.end in search (e, rules)
+add_i c = let e = next_place _ _ _ _ _ _ _ _ _ _ _ _ _ _ _ _ _ _ _ _ _ c.loop.invariant.0 (search rules) c.ranges.end in search (e, rules)
 
 loop_again : tie.Need-loop-preserved invariant-loop decreases-loop
 loop_again c =
-    (running_more _ _ _ _ _ _ _ _ _ _ _ _ _ _ _ _ _ _ _ _ _ c.before.before.before.before.before.before.before.before.before.before.before.before.before.before.before.before.before.before.before.before.before.before.before.before.loop.invariant.0 (search rules) _ _ _ _ _ _ _ _ _ c.before.before.before.before.before.before.before.before.before.before.before.before.before.before.before.before.before.step_record.ensures c.before.before.before.before.before.before.before.add_words.ensures c.before.before.before.before.before.put_next.ensures (search rules) (search rules) (search rules) (search rules), c.before.count-on.ensures.0)
+    (running_more _ _ _ _ _ _ _ _ _ _ _ _ _ _ _ _ _ _ _ _ _ c.loop.invariant.0 (search rules) _ _ _ _ _ _ _ _ _ c.step_record.ensures c.add_words.ensures c.put_next.ensures (search rules) (search rules) (search rules) (search rules), c.count-on.ensures.0)
 
 pub take_steps_spec : {M : Type 1} → statement M
 take_steps_spec =

@@ -6,10 +6,10 @@ use Rattle.file_held.proofs.HeldBytes.{holding_laws}
 use Rattle.file_held.proofs.hold.Statement.{statement}
 use Rattle.file_held.proofs.hold.Tie as tie
 
-abbrev invariant-loop : tie.invariant-loop
+abbrev invariant-loop : tie.invariant-loop-i
 invariant-loop held chunk from kept₀ count₀ i₀ kept count i = HeldTogether held kept₀ chunk from count kept i
 
-abbrev decreases-loop : tie.decreases-loop
+abbrev decreases-loop : tie.decreases-loop-i
 decreases-loop held chunk from kept₀ count₀ i₀ kept count i = length chunk - i
 
 pub hold_spec : {M : Type 1} → statement M

@@ -5,10 +5,10 @@ use Rattle.file_held.proofs.HeldBytes.{ZerosTo, holding_laws}
 use Rattle.file_held.proofs.zeros_behind.Statement.{statement}
 use Rattle.file_held.proofs.zeros_behind.Tie as tie
 
-abbrev invariant-loop : tie.invariant-loop
+abbrev invariant-loop : tie.invariant-loop-i
 invariant-loop held bytes i₀ i = ZerosTo held bytes i
 
-abbrev decreases-loop : tie.decreases-loop
+abbrev decreases-loop : tie.decreases-loop-i
 decreases-loop held bytes i₀ i = file_record_width - i
 
 pub zeros_behind_spec : {M : Type 1} → statement M

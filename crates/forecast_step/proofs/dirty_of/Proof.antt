@@ -5,10 +5,10 @@ use Rattle.forecast_step.proofs.Closing.{PageMarksCounted, count_laws}
 use Rattle.forecast_step.proofs.dirty_of.Statement.{statement}
 use Rattle.forecast_step.proofs.dirty_of.Tie as tie
 
-abbrev invariant-loop : tie.invariant-loop
+abbrev invariant-loop : tie.invariant-loop-g
 invariant-loop marks from sum₀ g₀ sum g = PageMarksCounted marks from sum g
 
-abbrev decreases-loop : tie.decreases-loop
+abbrev decreases-loop : tie.decreases-loop-g
 decreases-loop marks from sum₀ g₀ sum g = page_limit - g
 
 pub dirty_of_spec : {M : Type 1} → statement M

@@ -3,10 +3,10 @@ use Rattle.lines.proofs.Writing.{Storing, line_laws}
 use Rattle.lines.proofs.put_digits.Statement.{statement}
 use Rattle.lines.proofs.put_digits.Tie as tie
 
-abbrev invariant-loop : tie.invariant-loop
+abbrev invariant-loop : tie.invariant-loop-rest
 invariant-loop out₀ at len n i₀ rest₀ out i rest = Storing out₀ out at n i rest
 
-abbrev decreases-loop : tie.decreases-loop
+abbrev decreases-loop : tie.decreases-loop-rest
 decreases-loop out₀ at len n i₀ rest₀ out i rest = rest
 
 pub put_digits_spec : {M : Type 1} → statement M

@@ -4,10 +4,10 @@ use Rattle.lines.proofs.CountedLines.{Laying, counted_laws}
 use Rattle.lines.proofs.put_eight.Statement.{statement}
 use Rattle.lines.proofs.put_eight.Tie as tie
 
-abbrev invariant-loop : tie.invariant-loop
+abbrev invariant-loop : tie.invariant-loop-i
 invariant-loop out₀ at digits i₀ out i = Laying out₀ out at digits i
 
-abbrev decreases-loop : tie.decreases-loop
+abbrev decreases-loop : tie.decreases-loop-i
 decreases-loop out₀ at digits i₀ out i = 8 - i
 
 pub put_eight_spec : {M : Type 1} → statement M

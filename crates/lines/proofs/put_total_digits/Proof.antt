@@ -4,10 +4,10 @@ use Rattle.lines.proofs.Totals.{total_laws}
 use Rattle.lines.proofs.put_total_digits.Statement.{statement}
 use Rattle.lines.proofs.put_total_digits.Tie as tie
 
-abbrev invariant-loop : tie.invariant-loop
+abbrev invariant-loop : tie.invariant-loop-rest
 invariant-loop out₀ at len total i₀ rest₀ out i rest = Storing out₀ out at total i rest
 
-abbrev decreases-loop : tie.decreases-loop
+abbrev decreases-loop : tie.decreases-loop-rest
 decreases-loop out₀ at len total i₀ rest₀ out i rest = rest
 
 pub put_total_digits_spec : {M : Type 1} → statement M

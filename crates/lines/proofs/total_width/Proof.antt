@@ -3,10 +3,10 @@ use Rattle.lines.proofs.Totals.{Widening, total_laws}
 use Rattle.lines.proofs.total_width.Statement.{statement}
 use Rattle.lines.proofs.total_width.Tie as tie
 
-abbrev invariant-loop : tie.invariant-loop
+abbrev invariant-loop : tie.invariant-loop-rest
 invariant-loop total len₀ rest₀ len rest = Widening total len rest
 
-abbrev decreases-loop : tie.decreases-loop
+abbrev decreases-loop : tie.decreases-loop-rest
 decreases-loop total len₀ rest₀ len rest = rest
 
 pub total_width_spec : {M : Type 1} → statement M

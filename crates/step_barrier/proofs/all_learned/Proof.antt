@@ -4,10 +4,10 @@ use Rattle.step_barrier.proofs.Learning.{AllLearning, learn_laws}
 use Rattle.step_barrier.proofs.all_learned.Statement.{statement}
 use Rattle.step_barrier.proofs.all_learned.Tie as tie
 
-abbrev invariant-loop : tie.invariant-loop
+abbrev invariant-loop : tie.invariant-loop-k
 invariant-loop clocks₀ n k₀ clocks k = AllLearning clocks₀ clocks n k
 
-abbrev decreases-loop : tie.decreases-loop
+abbrev decreases-loop : tie.decreases-loop-k
 decreases-loop clocks₀ n k₀ clocks k = n - k
 
 pub all_learned_spec : {M : Type 1} → statement M

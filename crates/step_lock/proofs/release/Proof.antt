@@ -6,4 +6,4 @@ use Rattle.step_lock.proofs.release.Tie as tie
 pub release_spec : {M : Type 1} → statement M
 release_spec =
     tie.close
-    (tie.spec (λ c κs. search act_laws) (λ c κs. (closed_there _ _ _ _ _ _ c.before.before.before.before.before.before.before.before.before.before.before.before.before.before.before.before.requires _ _ _ c.before.before.before.before.before.before.before.before.close.ensures, closed_hands _ _ _ _ _ _ c.before.before.before.before.before.before.before.before.before.before.before.before.before.before.before.before.requires _ _ _ c.before.before.before.before.before.before.before.before.close.ensures)) (λ c. search act_laws) (λ c. search act_laws) (λ c. search act_laws) (λ c. search act_laws))
+    (tie.spec (λ c κs. search act_laws) (λ c κs. (closed_there _ _ _ _ _ _ c.requires _ _ _ c.close.ensures, closed_hands _ _ _ _ _ _ c.requires _ _ _ c.close.ensures)) (λ c. search act_laws) (λ c. search act_laws) (λ c. search act_laws) (λ c. search act_laws))

@@ -6,4 +6,4 @@ use Rattle.step_queue.proofs.dequeue.Tie as tie
 pub dequeue_spec : {M : Type 1} → statement M
 dequeue_spec =
     tie.close
-    (tie.spec (λ c κs. search act_laws) (λ c κs. closed_job _ _ _ _ _ _ _ _ c.before.before.before.before.before.before.before.before.close.ensures c.before.before.before.before.before.before.before.before.before.before.before.before.before.before.before.before.requires) (λ c. search act_laws) (λ c. search act_laws) (λ c. search act_laws) (λ c. search act_laws))
+    (tie.spec (λ c κs. search act_laws) (λ c κs. closed_job _ _ _ _ _ _ _ _ c.close.ensures c.requires) (λ c. search act_laws) (λ c. search act_laws) (λ c. search act_laws) (λ c. search act_laws))

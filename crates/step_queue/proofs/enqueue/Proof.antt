@@ -6,4 +6,4 @@ use Rattle.step_queue.proofs.enqueue.Tie as tie
 pub enqueue_spec : {M : Type 1} → statement M
 enqueue_spec =
     tie.close
-    (tie.spec (λ c κs. search act_laws) (λ c κs. closed_room _ _ _ _ _ _ _ _ c.before.before.before.before.before.before.before.before.before.close.ensures c.before.before.before.before.before.before.before.before.before.before.before.before.before.before.before.before.before.before.requires) (λ c. search act_laws) (λ c. search act_laws) (λ c. search act_laws) (λ c. search act_laws) (λ c. search act_laws))
+    (tie.spec (λ c κs. search act_laws) (λ c κs. closed_room _ _ _ _ _ _ _ _ c.close.ensures c.requires) (λ c. search act_laws) (λ c. search act_laws) (λ c. search act_laws) (λ c. search act_laws) (λ c. search act_laws))
