@@ -6,4 +6,4 @@ use Rattle.lines.proofs.put_most_line.Tie as tie
 pub put_most_line_spec : {M : Type 1} → statement M
 put_most_line_spec =
     tie.close
-    (tie.spec (λ c. search total_laws) (λ c κs. search total_laws) (λ c. search total_laws) (λ c κs. search total_laws) (λ c. search total_laws) (λ c. search total_laws))
+    (tie.spec (λ c κs. search total_laws) (λ c. search total_laws) (λ c κs. search total_laws) (λ c. search total_laws) (λ c. search total_laws))
