@@ -4,12 +4,8 @@ use Rattle.run_list.proofs.run_records.Statement.{statement}
 use Rattle.run_list.proofs.run_records.Tie as tie
 
 -- the opening is accepted, so the steps find memory in order
-run_steps_requires : tie.Need-run-steps-requires
-run_steps_requires c κs =
-    let chosen = c.before in
-    let opened = chosen.before.before.before.before.before.before.before.before.before.before.before in
-    let start = opened.before.before.before.before.before.before.before.before.before.before.before.before in
-    steps_there _ _ _ start.requires _ _ _ _ _ _ _ _ _ _ opened.run-opening.ensures chosen.if1.false
+run_steps_requires : tie.Need-run_steps-requires
+run_steps_requires c κs = steps_there _ _ _ c.requires _ _ _ _ _ _ _ _ _ _ c.run_opening-refusal.ensures c.if-refusal-ne0.false
 
 pub run_records_spec : {M : Type 1} → statement M
 run_records_spec =

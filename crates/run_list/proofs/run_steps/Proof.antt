@@ -6,11 +6,11 @@ use Rattle.run_list.proofs.Stepping.{StepsLeft, stepping_laws}
 use Rattle.run_list.proofs.run_steps.Statement.{statement}
 use Rattle.run_list.proofs.run_steps.Tie as tie
 
-abbrev invariant-loop : tie.invariant-loop
+abbrev invariant-loop : tie.invariant-loop-i
 invariant-loop bytes n answers₀ clocks₀ words₀ records₀ marks₀ index₀ i₀ answers clocks words records marks index i =
     StepsLeft bytes n (state_in mainframe clocks₀ words₀ records₀ marks₀) answers₀ answers clocks words records marks index i
 
-abbrev decreases-loop : tie.decreases-loop
+abbrev decreases-loop : tie.decreases-loop-i
 decreases-loop bytes n answers₀ clocks₀ words₀ records₀ marks₀ index₀ i₀ answers clocks words records marks index i = n - i
 
 pub run_steps_spec : {M : Type 1} → statement M
