@@ -4,11 +4,11 @@ use Rattle.file_chunk.proofs.Runs.{Refusing, run_laws}
 use Rattle.file_chunk.proofs.refuse_steps.Statement.{statement}
 use Rattle.file_chunk.proofs.refuse_steps.Tie as tie
 
-abbrev invariant-loop : tie.invariant-loop
+abbrev invariant-loop : tie.invariant-loop-i
 invariant-loop stand from end lines₀ number₀ at₀ i₀ lines number at i =
     Refusing number₀ at₀ stand.words from end lines₀ number at i lines
 
-abbrev decreases-loop : tie.decreases-loop
+abbrev decreases-loop : tie.decreases-loop-i
 decreases-loop stand from end lines₀ number₀ at₀ i₀ lines number at i = end - i
 
 pub refuse_steps_spec : {M : Type 1} → statement M

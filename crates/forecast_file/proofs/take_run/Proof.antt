@@ -5,11 +5,11 @@ use Rattle.forecast_file.proofs.Steps.{StepsGoing, run_laws}
 use Rattle.forecast_file.proofs.take_run.Statement.{statement}
 use Rattle.forecast_file.proofs.take_run.Tie as tie
 
-abbrev invariant-loop : tie.invariant-loop
+abbrev invariant-loop : tie.invariant-loop-i
 invariant-loop part end lines₀ own₀ marks₀ number₀ most₀ at₀ i₀ digits₀ len₀ lines own marks number most at i digits len =
     StepsGoing number₀ most₀ at₀ i₀ part end lines₀ own₀ marks₀ number most at i lines own marks × Counted digits len number
 
-abbrev decreases-loop : tie.decreases-loop
+abbrev decreases-loop : tie.decreases-loop-i
 decreases-loop part end lines₀ own₀ marks₀ number₀ most₀ at₀ i₀ digits₀ len₀ lines own marks number most at i digits len =
     end - i
 
