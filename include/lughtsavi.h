@@ -1,7 +1,7 @@
 /*
  * The Lughtsavi engine and its diffs, for callers in C, C++ and Rust.
  *
- * Link target/staticlib/liblughtsavi.a (written by `rt staticlib lughtsavi`; x86-64 Linux). It allocates nothing and keeps nothing
+ * Link target/staticlib/liblughtsavi.a (written by `tools/built library`; x86-64 Linux). It allocates nothing and keeps nothing
  * between calls: the whole state of a mainframe lies in four areas that the caller lends to each call. The code is proved to answer
  * and to leave in the lent memory exactly what document 01 says, for every content and every length of what is lent; the contracts
  * are in crates/lughtsavi/src/lib.rt.

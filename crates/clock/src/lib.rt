@@ -1,5 +1,7 @@
 // Vector clocks and the three kinds of number that name a processor, an interval and a page.
 // A clock's contract is one equation with a definition of specs/Clocks.antt.
+#![tactic(auto)]
+
 ghost use Rattle.std.specs.Prelude.{◌≡◌, max};
 ghost use Rattle.clock.specs.Clocks.{joined, covered, entry_of, sum_of};
 

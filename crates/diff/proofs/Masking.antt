@@ -1,6 +1,6 @@
 -- The laws by which `mask` meets its contract: a diff's runs, each as a block of ones, are the words that it sets. Assumes nothing.
 use Prim.Native.Nat.{ℕ, zero, suc, ◌+◌, ◌-◌, ◌*◌, ◌^◌, ◌%◌, ◌≤◌, ◌<◌}
-use native.Mathlib.Nat.{le_of_eq, zero-add, mod-eq_of_lt, pow-suc, mul_assoc, mul_comm, mul-add, mul-one, one-mul, zero-mul, mul-zero}
+use native.Mathlib.Nat.{le_of_eq, zero-add, mod-eq_of_lt, pow-suc, mul_assoc, mul_comm, mul-add, mul-one, one-mul, mul-zero}
 use native.Mathlib.Omega.{arith}
 use mathlib.Core.Path.{◌≡◌, refl, sym, ap, ◌∙◌}
 use mathlib.Core.Bool.{true}

@@ -1,5 +1,7 @@
 // The changes of a page as bytes: which bytes are a diff, and a diff carried out on a page of 32 words. Document 01 calls a diff a change.
 // Every contract is an equation with a definition of specs/. Of the public functions only `lay`, `words_set` and `mask` have a `requires`; the others refuse instead.
+#![tactic(auto)]
+
 ghost use Rattle.std.specs.Prelude.{◌≡◌, ◌+◌, ◌-◌, ◌*◌, ◌^◌, ◌<◌, ◌≤◌, length, get_or};
 ghost use Rattle.std.proofs.lemmas.List.Edits.{sets};
 ghost use Rattle.limits.specs.Limits.{page_width};

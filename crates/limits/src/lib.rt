@@ -1,5 +1,6 @@
 // The numbers of one mainframe, each with one name: what document 01 limits, and the sizes and places that follow. Definitions have the same
 // names without capitals (specs/Limits.antt).
+#![tactic(auto)]
 
 // What there can be.
 pub const PROCESSOR_LIMIT: usize = 8;

@@ -1,1 +1,3 @@
+#![tactic(auto)]
+
 // Lists as tables and the laws on them that many crates cite. No code of its own.

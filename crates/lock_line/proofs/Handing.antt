@@ -29,8 +29,8 @@ use Rattle.lock_line.proofs.Moving.{turn_ends, turn_less, turn_stays, turn_moved
 
 -- ---- the lock has a holder
 
-pub line_of : (m : List ℕ) (l p : ℕ) → InLine m l p → LineThere m l
-line_of m l p h = h.line
+pub line_of_waiter : (m : List ℕ) (l p : ℕ) → InLine m l p → LineThere m l
+line_of_waiter m l p h = h.line
 
 pub line_of_handed : (m : List ℕ) (l : ℕ) → Hands m l → LineThere m l
 line_of_handed m l h = h.line
@@ -137,4 +137,4 @@ module _ (m : List ℕ) (l q : ℕ) (h : Hands m l) (e : q ≡ first_in_line (pr
                 ∙ ap (λ (s : State). with_marks s (with_holder s.marks l q)) (left.is c w r);
           })
 
-pub ruleset line_laws = (marks_in_line, lock_above, waits_is, not_in_line, turn_decides, next_in_line, next_fits, counted_none, counted_there, counted_all, counted_fits, counted_more, counted_whole, few_counted, none_first_yet, none_first_there, none_first_all, first_found, first_has_marks, none_first_more, nobody_found, turn_ends, turn_less, turn_stays, turn_moved, moving_begins, moving_in_line, moving_fits, moving_more, moving_whole, leaving_in_line, line_left_lem, line_of, line_of_handed, lock_of_line, free_asked, asker_holds, held_asked, asker_waits, asker_marked, lock_number, nobody_first, nobody_holds, first_in_it, left_lock, first_holds, rules)
+pub ruleset line_laws = (marks_in_line, lock_above, waits_is, not_in_line, turn_decides, next_in_line, next_fits, counted_none, counted_there, counted_all, counted_fits, counted_more, counted_whole, few_counted, none_first_yet, none_first_there, none_first_all, first_found, first_has_marks, none_first_more, nobody_found, turn_ends, turn_less, turn_stays, turn_moved, moving_begins, moving_in_line, moving_fits, moving_more, moving_whole, leaving_in_line, line_left_lem, line_of_waiter, line_of_handed, lock_of_line, free_asked, asker_holds, held_asked, asker_waits, asker_marked, lock_number, nobody_first, nobody_holds, first_in_it, left_lock, first_holds, rules)

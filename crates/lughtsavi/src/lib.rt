@@ -1,4 +1,5 @@
-// The engine and the diffs for callers in C and Rust: functions on numbers and slices, declared for C in include/lughtsavi.h.
+// The engine and the diffs for callers in C and Rust: functions on numbers and slices, declared for C in include/lughtsavi.h. The crate
+// lughtsavi_c exports them.
 // None has a `requires`: each refuses instead. Every contract determines the answer and what each lent slice holds afterwards,
 // by an equation with a definition of the crate that does the work, or of specs/Numbers.antt.
 ghost use Rattle.std.specs.Prelude.{◌≡◌, ◌∷◌, [], ◌<◌, length};
@@ -21,8 +22,7 @@ use step_act::Outcome;
 
 // Opens a mainframe: 1 for areas of a wrong size, 2 for an opening that is not eight bytes or does not fit, else 0, and the areas
 // are exactly the opened state, whatever they held.
-#[unsafe(no_mangle)]
-pub extern "C" fn lughtsavi_open(
+pub fn lughtsavi_open(
     opening: &[u8],
     clocks: &mut [u8],
     words: &mut [u32],
@@ -36,13 +36,7 @@ pub extern "C" fn lughtsavi_open(
 }
 
 // Whether the areas have the fixed sizes and hold a state in order.
-#[unsafe(no_mangle)]
-pub extern "C" fn lughtsavi_in_order(
-    clocks: &[u8],
-    words: &[u32],
-    records: &[u8],
-    marks: &[u8],
-) -> bool
+pub fn lughtsavi_in_order(clocks: &[u8], words: &[u32], records: &[u8], marks: &[u8]) -> bool
     ensures { result ≡ areas_in_order clocks.now words.now records.now marks.now }
 {
     inorder::in_order(clocks, words, records, marks)
@@ -50,8 +44,7 @@ pub extern "C" fn lughtsavi_in_order(
 
 // A step: the refusal, or 0, and in the four words of `answer` refusal, value, count and words. An answer that has not four words gets 1,
 // and every slice is left as it was.
-#[unsafe(no_mangle)]
-pub extern "C" fn lughtsavi_step(
+pub fn lughtsavi_step(
     kind: u32,
     processor: u32,
     object: u32,
@@ -109,8 +102,7 @@ fn lay(answer: &mut [u32], refusal: u32, value: u32, count: u32, words: u32)
 // Runs an opening and the step records behind it, eight bytes each, and writes four words for each record into `answers`: refusal, value,
 // count, words. Says how many records were run: as many whole ones as there are and as the answers have room for, the opening alone where that is
 // refused. Happens-before-1 judges every read that it answers.
-#[unsafe(no_mangle)]
-pub extern "C" fn lughtsavi_run(
+pub fn lughtsavi_run(
     bytes: &[u8],
     answers: &mut [u32],
     clocks: &mut [u8],
@@ -124,8 +116,7 @@ pub extern "C" fn lughtsavi_run(
 }
 
 // Writes what turns the page `old` into the page `new` as a diff at the start of `out`: its length in bytes, or 256 + the refusal.
-#[unsafe(no_mangle)]
-pub extern "C" fn lughtsavi_diff_write(old: &[u32], new: &[u32], out: &mut [u8]) -> u32
+pub fn lughtsavi_diff_write(old: &[u32], new: &[u32], out: &mut [u8]) -> u32
     ensures answer { result ≡ write_return (write_answer page_width old.now new.now out.old) }
     ensures memory { out.new ≡ out_after page_width old.now new.now out.old }
 {
@@ -145,16 +136,14 @@ fn number(written: Written) -> u32
 }
 
 // The refusal of a byte string that is to be read as a diff, or 0.
-#[unsafe(no_mangle)]
-pub extern "C" fn lughtsavi_diff_check(bytes: &[u8]) -> u8
+pub fn lughtsavi_diff_check(bytes: &[u8]) -> u8
     ensures { result ≡ read_refusal page_width bytes.now }
 {
     diff::check(bytes)
 }
 
 // Carries a diff out on a page: how many words it set, or 256 + the refusal.
-#[unsafe(no_mangle)]
-pub extern "C" fn lughtsavi_diff_apply(bytes: &[u8], page: &mut [u32]) -> u32
+pub fn lughtsavi_diff_apply(bytes: &[u8], page: &mut [u32]) -> u32
     ensures answer { result ≡ apply_return page_width bytes.now page.old }
     ensures memory { page.new ≡ page_after page_width bytes.now page.old }
 {
