@@ -1,5 +1,7 @@
 // The marks of the barrier in lent memory: whether one processor is missing, and the wish for collection.
 // Every contract is an equation over the state that the areas hold, with a definition of the rules (specs/Steps.antt of the crate rules).
+#![tactic(auto)]
+
 ghost use Rattle.std.specs.Prelude.{◌≡◌, length};
 ghost use Rattle.limits.specs.inner.Sizes.{mark_area};
 ghost use Rattle.barrier_marks.specs.inner.Needed.{AbsentAway};

@@ -1,5 +1,7 @@
 // A diff read run by run: what stands at a place of it, and the words of one run as a part of the caller's own bytes.
 // Every contract is an equation with a definition of specs/.
+#![tactic(auto)]
+
 ghost use Rattle.std.specs.Prelude.{◌≡◌, ◌+◌, ◌*◌, ◌<◌, ◌≤◌, length, take, drop};
 ghost use Rattle.limits.specs.Limits.{page_width};
 ghost use Rattle.diff.specs.Reading.{runs_in, words_place};

@@ -1,5 +1,7 @@
 // Writes what turns one page of 32 words into another as a diff: measured first, then its runs and words laid down in one pass.
 // Every contract is an equation with a definition of specs/, or of the format in the crate diff. `write` has no `requires`: it refuses instead.
+#![tactic(auto)]
+
 ghost use Rattle.std.specs.Prelude.{◌≡◌, cond, ◌+◌, ◌-◌, ◌*◌, ◌/◌, ◌^◌, ◌≤◌, ◌<◌, min, length, eqb};
 ghost use Rattle.std.proofs.lemmas.List.Edits.{sets};
 ghost use Rattle.std.specs.Int.Count.{count_trailing_zeros};

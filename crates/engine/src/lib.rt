@@ -1,5 +1,7 @@
 // The engine: a step on the four areas of lent memory that hold the state of one mainframe.
 // Every contract determines the answer and what each area holds afterwards, by an equation with a definition of the rules.
+#![tactic(auto)]
+
 ghost use Rattle.std.specs.Prelude.{◌≡◌};
 ghost use Rattle.rules.specs.State.{mainframe};
 ghost use Rattle.rules.specs.Refusals.{step_of};

@@ -1,4 +1,6 @@
 // The records that lie whole in a chunk of a step file, taken one after the other: the opening, the steps, one too many.
+#![tactic(auto)]
+
 ghost use Rattle.std.specs.Prelude.{true};
 ghost use Rattle.file_chunk.specs.inner.Needed.{Passable, AllPassed, FirstTaken, StepsPassable, StepsTaken, Runnable, RoomForSteps, StepsRefused, LastPassable, LastTaken};
 

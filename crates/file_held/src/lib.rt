@@ -1,4 +1,6 @@
 // The bytes held of a record that has begun, where a file is cut within it.
+#![tactic(auto)]
+
 ghost use Rattle.file_held.specs.inner.Needed.{ZerosBehind, Holdable, HeldAll};
 
 use limits::FILE_RECORD_WIDTH;

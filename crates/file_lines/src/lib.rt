@@ -1,4 +1,6 @@
 // Lines put behind one another in the bytes lent for them, and the place behind the steps of a chunk.
+#![tactic(auto)]
+
 ghost use Rattle.std.specs.Prelude.{◌≤◌};
 ghost use Rattle.limits.specs.Files.{line_limit};
 ghost use Rattle.limits.specs.inner.Sizes.{file_record_limit};

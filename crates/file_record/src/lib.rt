@@ -1,4 +1,6 @@
 // The records of a step file that are no steps, the opening and one too many, and the line of each record.
+#![tactic(auto)]
+
 ghost use Rattle.std.specs.Prelude.{◌≡◌, ◌+◌, ◌≤◌, length, take, drop};
 ghost use Rattle.limits.specs.Files.{file_record_width, line_limit};
 ghost use Rattle.layout.specs.Areas.{areas};

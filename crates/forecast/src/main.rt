@@ -1,4 +1,6 @@
 // The forecast program: a step file on standard input, its forecast on standard output. What it does between its C calls, `whole_reads` says.
+#![tactic(auto)]
+
 ghost use Rattle.whole_reads.specs.inner.Going.{FlowGoing, TakesNext};
 ghost use Rattle.forecast.specs.Promises.{ForecastTold};
 ghost use Rattle.forecast.specs.inner.Going.{ForecastAmple, Held};

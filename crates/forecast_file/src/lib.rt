@@ -1,4 +1,6 @@
 // The forecast of a step file: its records taken in parts of whole records, and their lines.
+#![tactic(auto)]
+
 ghost use Rattle.std.specs.Prelude.{◌≡◌, ◌||◌, max};
 ghost use Rattle.lines.specs.inner.Needed.{Counted, Room};
 ghost use Rattle.limits.specs.Files.{line_limit};

@@ -1,6 +1,8 @@
 // The forecast (document 02, L8) of an opening and of a step: the refusal, and what it does to the marks and to the own entries of the processors.
 // There are no clocks, no words and no records in it. The own entry of processor p lies at p - 1.
 // Every contract is an equation over the forecast that the two areas hold, with a definition of the rules (specs/Forecast.antt of the crate rules).
+#![tactic(auto)]
+
 ghost use Rattle.std.specs.Prelude.{◌≡◌, ◌≤◌, replicate};
 ghost use Rattle.std.proofs.lemmas.List.Edits.{sets};
 ghost use Rattle.limits.specs.Limits.{page_limit};

@@ -1,5 +1,7 @@
 // The tests of the records that stand: each is sound and has a legal diff, and no two are of one processor, interval and page.
 // Each contract is an equation with a definition of specs/Tests.antt.
+#![tactic(auto)]
+
 ghost use Rattle.std.specs.Prelude.{◌≡◌, ◌<◌, ◌≤◌};
 ghost use Rattle.lists.specs.Tables.{every};
 ghost use Rattle.limits.specs.Limits.{page_limit, processor_limit};

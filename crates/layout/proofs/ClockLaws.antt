@@ -11,7 +11,6 @@ use lib.Dec.{eqb}
 use Rattle.lists.specs.Tables.{put, put_cell, tabulate}
 use Rattle.limits.specs.Limits.{interval_limit, job_limit, lock_limit, page_limit, processor_limit}
 use Rattle.limits.specs.inner.Sizes.{clock_area, clock_width, first_job_row, first_lock_row}
-use Rattle.diff.specs.Reading.{applied}
 use Rattle.rules.specs.State.{mainframe, Holder, Processor, Lock, Barrier, Applied, Interval, Job, clock_of, with_clock, cleared}
 use Rattle.rules.specs.Steps.{all_cleared}
 use Rattle.rules.proofs.inorder.Facts.{Within}

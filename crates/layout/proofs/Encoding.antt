@@ -12,7 +12,6 @@ use borrow.Author.Tests.{eqb-true, eq-eqb}
 use Rattle.limits.specs.Limits.{interval_limit, job_limit, lock_limit, page_limit, page_width, processor_limit, record_limit, tally_limit}
 use Rattle.limits.specs.Places.{first_arrived, standing_high, standing_place}
 use Rattle.limits.specs.inner.Sizes.{clock_area, clock_width, copy_limit, first_awaited, first_dirty, first_holder, first_job_value, first_tally, first_turn, mark_area, queue_first, record_area, slot_width, word_area, word_limit}
-use Rattle.diff.specs.Reading.{applied}
 use Rattle.rules.specs.InOrder.{slot_size}
 use Rattle.rules.specs.State.{mainframe, Processor, Lock, Applied, Interval, Job, State, clock_of}
 use Rattle.rules.proofs.inorder.Facts.{Sized, InOrder}

@@ -14,7 +14,7 @@ use Rattle.lists.specs.Tables.{put, tabulate}
 use Rattle.limits.specs.Limits.{record_limit, slot_head}
 use Rattle.limits.specs.inner.Sizes.{diff_limit, record_area, slot_width}
 use Rattle.rules.specs.InOrder.{slot_size, record_at}
-use Rattle.rules.specs.State.{mainframe, record_in, laid_over, standing}
+use Rattle.rules.specs.State.{mainframe, record_in, laid_over}
 use Rattle.layout.specs.Layout.{row_of}
 use Rattle.layout.specs.Areas.{records_in, state_in}
 use Rattle.layout.specs.inner.Marks.{slot_diff, slot_interval, slot_length, slot_page, slot_processor}

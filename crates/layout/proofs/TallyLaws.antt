@@ -1,6 +1,6 @@
 -- The tallies of the mainframe in the area of words: where they stand, that pages and tallies leave each other alone, and what a stored add, and a round's
 -- posting, come to. Assumes nothing.
-use Prim.Native.Nat.{ℕ, ◌+◌, ◌-◌, ◌*◌, ◌≤◌, ◌<◌}
+use Prim.Native.Nat.{ℕ, ◌+◌, ◌*◌, ◌≤◌, ◌<◌}
 use native.Mathlib.Omega.{arith}
 use mathlib.Core.Path.{◌≡◌, sym, ap, ◌∙◌, fun_ext}
 use mathlib.Core.Bool.{Bool, cond, ◌&&◌}

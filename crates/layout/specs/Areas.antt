@@ -2,7 +2,7 @@
 use Rattle.std.specs.Prelude.{ℕ, suc, ◌+◌, ◌-◌, ◌*◌, ◌/◌, ◌%◌, Bool, ◌&&◌, List, [], ◌∷◌, ◌++◌, length, get_or, drop, eqb}
 use Rattle.limits.specs.Places.{processors_place, pages_place, locks_place, standing_place, standing_high, wanted_place, first_arrived}
 use Rattle.rules.specs.InOrder.{slot_size}
-use Rattle.rules.specs.State.{Limits, mainframe, Holder, Processor, Lock, Barrier, Applied, Interval, Job, Clocks, Pages, Records, Marks, Shared, State, standing}
+use Rattle.rules.specs.State.{Limits, mainframe, Holder, Processor, Lock, Barrier, Applied, Interval, Job, Clocks, Pages, Records, Marks, Shared, State}
 use Rattle.lists.specs.Tables.{tabulate}
 use Rattle.layout.specs.Layout.{row_of, per_processor, join_rows}
 

@@ -1,5 +1,7 @@
 // The state of one mainframe in lent memory: clocks and pages read and written by their rows.
 // Every contract is an equation over the lists that the areas hold; specs/Areas.antt says what state they are.
+#![tactic(auto)]
+
 pub mod marks;
 pub mod slots;
 

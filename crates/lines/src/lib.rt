@@ -1,5 +1,7 @@
 // The lines of the programs: four numbers in base ten, each with a space or the line end behind it, and the last lines: the words moved, the most
 // that stands.
+#![tactic(auto)]
+
 ghost use Rattle.std.specs.Prelude.{◌≡◌, ◌+◌, ◌≤◌, ◌<◌, length};
 ghost use Rattle.std.proofs.lemmas.List.Edits.{sets};
 ghost use Rattle.limits.specs.Files.{line_limit};

@@ -1,5 +1,7 @@
 // The line of waiters of a lock, kept with the marks of lent memory: asking for a lock, and handing it on.
 // Every contract is an equation over the marks that the area holds, with a definition of the rules (specs/Lines.antt of the crate rules).
+#![tactic(auto)]
+
 ghost use Rattle.std.specs.Prelude.{◌≡◌, ◌&&◌, ◌≤◌, ◌<◌, set, eqb};
 ghost use Rattle.limits.specs.Limits.{processor_limit};
 ghost use Rattle.rules.specs.State.{mainframe};

@@ -2,6 +2,8 @@
 // lughtsavi_c exports them.
 // None has a `requires`: each refuses instead. Every contract determines the answer and what each lent slice holds afterwards,
 // by an equation with a definition of the crate that does the work, or of specs/Numbers.antt.
+#![tactic(auto)]
+
 ghost use Rattle.std.specs.Prelude.{◌≡◌, ◌∷◌, [], ◌<◌, length};
 ghost use Rattle.limits.specs.Files.{answer_width};
 ghost use Rattle.limits.specs.Limits.{page_width};

@@ -1,5 +1,7 @@
 // The opening: the eight bytes of its record tested, and the state of the opened mainframe laid into the four areas of lent memory.
 // Every contract determines the answer and what each area holds afterwards, by an equation with a definition of the rules.
+#![tactic(auto)]
+
 ghost use Rattle.std.specs.Prelude.{◌≡◌, ◌*◌, length};
 ghost use Rattle.std.proofs.lemmas.List.Edits.{sets};
 ghost use Rattle.limits.specs.Files.{file_record_width};

@@ -1,5 +1,7 @@
 // The marks of the queue in lent memory: the place for the next job, a job added, the oldest job removed. Its places are a ring.
 // Every contract is an equation with a definition of the rules (specs/Steps.antt of the crate rules), or over the state that the areas hold.
+#![tactic(auto)]
+
 ghost use Rattle.std.specs.Prelude.{◌≡◌, ◌<◌};
 ghost use Rattle.limits.specs.Limits.{job_limit};
 ghost use Rattle.rules.specs.State.{mainframe};

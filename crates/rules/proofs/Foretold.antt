@@ -1,6 +1,6 @@
 -- Document 02, L8: a forecast is what the run itself has: of every state in order it gives each step the refusal that the rules give it, and after
 -- the step it has the rules' own entries, dirty pages, records and marks. Rests on OwnEntries and Accepted. Assumes nothing.
-use Prim.Native.Nat.{ℕ, zero, suc, ◌+◌, ◌≤◌, ◌<◌, ◌-◌}
+use Prim.Native.Nat.{ℕ, zero, suc, ◌+◌, ◌≤◌, ◌<◌}
 use native.Mathlib.Omega.{arith}
 use native.Mathlib.Decide.{ℕ_discrete}
 use mathlib.Core.Path.{◌≡◌, refl, sym, ap, ◌∙◌}

@@ -14,7 +14,7 @@ use mathlib.Core.List.{List}
 use lib.ListN.{take}
 use Rattle.rules.specs.State.{Limits, Counts, State}
 use Rattle.rules.specs.Opening.{Opening, opening_refusal, opened}
-use Rattle.rules.specs.Steps.{free_place, enqueue}
+use Rattle.rules.specs.Steps.{free_place}
 use Rattle.rules.specs.Refusals.{Step, Release, Arrive, Enqueue, Dequeue}
 use Rattle.rules.specs.Runs.{answers, state_after, answers_in_order}
 use Rattle.rules.specs.Order.{Event, event_at, Took, counted, is_enqueue, is_dequeue, Returns, Before, program, lock, round, granted, job, chain}

@@ -1,7 +1,7 @@
 -- Document 02, L9: exactly when the queue refuses. Of one step: 19 where it holds as many jobs as there are places, 20 where it holds none, 5 for a field that the
 -- kind does not use, 3 never. Of every list of steps from an accepted opening: it holds the jobs added less those removed, so space is used again after each
 -- removal (`queue_refuses`). Rests on RowsExactly and Jobs. Assumes nothing.
-use Prim.Native.Nat.{ℕ, ◌-◌, ◌<◌}
+use Prim.Native.Nat.{ℕ, ◌<◌}
 use native.Mathlib.Omega.{arith}
 use mathlib.Core.Path.{◌≡◌, refl, sym, ap, ◌∙◌}
 use mathlib.Core.Bool.{Bool, true, false, cond, ◌&&◌, ◌||◌}

@@ -1,6 +1,6 @@
 -- Document 02, L9: what each kind of step does to the queue as a list of jobs, the oldest first, in every state in order: an enqueue adds one behind the others,
 -- a dequeue removes the first, a collecting round sets the clocks to zeros, and no other step changes a job. Rests on QueueList. Assumes nothing.
-use Prim.Native.Nat.{ℕ, zero, suc, ◌-◌}
+use Prim.Native.Nat.{ℕ, zero, suc}
 use native.Mathlib.Omega.{arith}
 use mathlib.Core.Path.{◌≡◌, refl, sym, ap, ◌∙◌}
 use mathlib.Core.Bool.{Bool, true, false}

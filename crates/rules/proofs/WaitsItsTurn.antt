@@ -7,7 +7,7 @@
 -- "No steps of others change that": the steps of the list are any. Then the lines, said as document 02 says it: asking puts a processor at the end of the
 -- line, a release takes its first and makes it the holder, nothing else changes a line, and no round is completed while somebody waits.
 -- Rests on LineOf, Turns and ListRuns. Assumes nothing.
-use Prim.Native.Nat.{ℕ, zero, suc, ◌+◌, ◌-◌, ◌≤◌, ◌<◌}
+use Prim.Native.Nat.{ℕ, zero, suc, ◌-◌, ◌≤◌, ◌<◌}
 use native.Mathlib.Omega.{arith}
 use native.Mathlib.Decide.{ℕ_discrete}
 use mathlib.Core.Path.{◌≡◌, refl, sym, ap, ◌∙◌}

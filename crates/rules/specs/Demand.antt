@@ -3,8 +3,6 @@ use Rattle.std.specs.Prelude.{ℕ, zero, suc, ◌%◌, ◌<◌, ◌≡◌, Bool,
 use Rattle.limits.specs.Limits.{word_values}
 use Rattle.rules.specs.State.{Limits, Counts}
 use Rattle.rules.specs.Opening.{opened}
-use Rattle.rules.specs.Fetch.{earlier}
-use Rattle.rules.specs.Steps.{write}
 use Rattle.rules.specs.Refusals.{Step, Read, Write, Answer, refused_with}
 use Rattle.rules.specs.Runs.{answers}
 use Rattle.rules.specs.Order.{Event, events, event_at, Took, Before, Ordered}

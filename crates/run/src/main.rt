@@ -1,4 +1,6 @@
 // The run program: a step file on standard input, its lines on standard output. What it does between its C calls, `run_loop` says.
+#![tactic(auto)]
+
 ghost use Rattle.run.specs.inner.Going.{Ample, Possible, Underway, ReadsNext, Keeps};
 
 use libc::{STDERR_FILENO, STDIN_FILENO, STDOUT_FILENO};

@@ -1,4 +1,6 @@
 // The run program but for its C calls: what it does next, and where it stands after a read or a write.
+#![tactic(auto)]
+
 ghost use Rattle.std.specs.Prelude.{◌-◌, min, ◌≡◌, pos};
 ghost use Rattle.std.specs.Int.Signed.{lt_z};
 ghost use Rattle.layout.specs.Areas.{areas};

@@ -1,5 +1,7 @@
 // Reading and writing a word on lent memory that holds a state in order.
 // The contracts say in the words of the rules (specs/Steps.antt of the crate rules) what state the areas hold afterwards.
+#![tactic(auto)]
+
 ghost use Rattle.std.specs.Prelude.{◌≡◌, ◌<◌, get_or, set};
 ghost use Rattle.limits.specs.inner.Sizes.{word_area};
 ghost use Rattle.rules.specs.State.{mainframe};

@@ -1,5 +1,7 @@
 // What an accepted step does to the four areas of lent memory, by its kind, and what it answers. The index is kept by every step.
 // Every contract determines the answer and what each area holds afterwards, by the rules' effect on the state that the areas hold.
+#![tactic(auto)]
+
 ghost use Rattle.std.specs.Prelude.{◌≡◌};
 ghost use Rattle.rules.specs.State.{mainframe};
 ghost use Rattle.rules.specs.Refusals.{step_of, action_of, effect};

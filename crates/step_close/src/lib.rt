@@ -1,5 +1,7 @@
 // Closing an interval: the pages that its processor has written become records, its clock ticks, its pages become clean.
 // The contracts say so of the state that the lent areas hold, in the words of the rules (specs/Close.antt of the crate rules).
+#![tactic(auto)]
+
 ghost use Rattle.std.specs.Prelude.{◌≡◌, not, ◌||◌, ◌+◌, ◌*◌, ◌<◌, length, eqb};
 ghost use Rattle.std.proofs.lemmas.List.Edits.{sets};
 ghost use Rattle.limits.specs.Limits.{page_width};

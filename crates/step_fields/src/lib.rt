@@ -1,4 +1,6 @@
 // The step in a record of eight bytes.
+#![tactic(auto)]
+
 ghost use Rattle.std.specs.Prelude.{◌≡◌, ◌+◌, ◌*◌, ◌≤◌, length, get_or};
 ghost use Rattle.limits.specs.Files.{file_record_width};
 ghost use Rattle.step_fields.specs.inner.Needed.{FieldsAre};

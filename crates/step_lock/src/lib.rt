@@ -1,5 +1,7 @@
 // Taking and freeing a lock on lent memory that holds a state in order.
 // The contracts say in the words of the rules (specs/Steps.antt of the crate rules) what state the areas hold afterwards.
+#![tactic(auto)]
+
 ghost use Rattle.std.specs.Prelude.{◌≤◌};
 ghost use Rattle.rules.specs.State.{mainframe, Processor, Lock};
 ghost use Rattle.rules.specs.Steps.{acquire, release, learned, lock_told, waiter_told};

@@ -1,4 +1,6 @@
 // The step in a record of eight bytes, taken.
+#![tactic(auto)]
+
 ghost use Rattle.std.specs.Prelude.{drop};
 ghost use Rattle.rules.specs.State.{mainframe};
 ghost use Rattle.layout.specs.Areas.{state_in};

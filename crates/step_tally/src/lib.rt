@@ -1,5 +1,7 @@
 // Tallies: what a processor adds, what it reads, and the posting of a round's adds. Every sum wraps.
 // The contracts say so of the state that the lent areas hold, in the words of the rules (specs/Tallies.antt of the crate rules).
+#![tactic(auto)]
+
 ghost use Rattle.std.specs.Prelude.{◌≡◌, ◌<◌, length, slice_set};
 ghost use Rattle.limits.specs.inner.Sizes.{word_area};
 ghost use Rattle.rules.specs.State.{mainframe};

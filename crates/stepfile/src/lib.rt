@@ -1,4 +1,6 @@
 // A step file fed in parts, cut anywhere: the lines of its records, as for the whole file.
+#![tactic(auto)]
+
 ghost use Rattle.std.specs.Prelude.{true, length, take, drop};
 ghost use Rattle.limits.specs.Files.{file_record_width};
 ghost use Rattle.layout.specs.Areas.{areas};

@@ -1,4 +1,6 @@
 // The C calls of a program that goes by `whole_reads`: it reads standard input, writes its lines to standard output, and says what went wrong.
+#![tactic(auto)]
+
 ghost use Rattle.std.specs.Prelude.{◌≤◌, ◌≡◌, length};
 ghost use Rattle.whole_reads.specs.Promises.{comes_next};
 ghost use Rattle.whole_reads.specs.inner.Going.{ReadOn, WroteOn};

@@ -1,5 +1,7 @@
 // A program's reads and writes but for its C calls: bytes are read until the buffer is full or the input has ended, then they are taken, then the lines
 // made of them are written.
+#![tactic(auto)]
+
 ghost use Rattle.std.specs.Prelude.{◌+◌, ◌-◌, ◌^◌, ◌≤◌, ◌<◌, min, ◌≡◌, drop, pos};
 ghost use Rattle.std.specs.Int.Signed.{lt_z};
 ghost use Rattle.whole_reads.specs.Promises.{is_fine, left_to_write, filled_flow, FlowBegins, NextAs, ReadNoted, TakeNoted, WriteNoted};

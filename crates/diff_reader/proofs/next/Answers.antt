@@ -2,7 +2,6 @@
 use Rattle.std.proofs.Common.{ℕ, ap, ◌∙◌}
 use mathlib.Core.Option.{Option}
 use Rattle.diff_reader.specs.Pairs.{PairThere, place_after, moved}
-use Rattle.diff_reader.specs.declared.Reader.{Reader}
 use Rattle.diff_reader.proofs.next.Goals as goal
 
 pub returns : goal.returns

@@ -1,6 +1,6 @@
 -- What each kind of step that closes leaves of the own entries, which a forecast keeps: those that closing leaves. Rests on KeptLocks, KeptRounds and KeptQueue.
 -- Assumes nothing.
-use Prim.Native.Nat.{ℕ, ◌<◌, ◌-◌}
+use Prim.Native.Nat.{ℕ, ◌<◌}
 use native.Mathlib.Omega.{arith}
 use mathlib.Core.Path.{◌≡◌, refl}
 use mathlib.Core.Bool.{Bool, true, false, cond}

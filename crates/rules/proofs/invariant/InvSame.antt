@@ -15,7 +15,6 @@ use Rattle.rules.specs.Fetch.{sum_at}
 use Rattle.rules.proofs.state.Holders.{Knows}
 use Rattle.rules.proofs.state.Slots.{standing_at, length_standing}
 use Rattle.rules.proofs.inorder.Facts.{InOrder, slots_enough}
-use Rattle.rules.proofs.order.MarksAfter.{rests}
 use Rattle.rules.proofs.order.Ghosts.{Ghost}
 use Rattle.rules.proofs.word.WordOfRecords.{no_record, nth, FreshUp}
 use Rattle.rules.proofs.word.FetchedWord.{above}
