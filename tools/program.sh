@@ -105,6 +105,8 @@ run_program() {
     exec 3>&1
     said=$("$program" 2>&1 >&3 3>&-)
     status=$?
+    # A program meets a reader that has gone as a write that fails; the command ends by the signal for it, unless that is ignored.
+    case $said in *": Broken pipe") kill -PIPE $$ ;; esac
     [ -z "$said" ] || fail "${said#"$1: "}"
     exit "$status"
 }

@@ -1,4 +1,4 @@
-// The forecast program: a step file on standard input, its forecast on standard output. What it does between its C calls, `whole_reads` says.
+// The forecast program: a step file on standard input, its forecast on standard output. What it does between its reads and writes, `whole_reads` says.
 #![tactic(auto)]
 
 ghost use Rattle.whole_reads.specs.inner.Going.{FlowGoing, TakesNext};
@@ -7,6 +7,7 @@ ghost use Rattle.forecast.specs.inner.Going.{ForecastAmple, Held};
 
 use forecast_file::Reach;
 use limits::{FILE_RECORD_WIDTH, LINE_LIMIT, MARK_AREA, PROCESSOR_LIMIT};
+use std::io::{Error, Read, Write};
 use whole_reads::{Flow, Next};
 
 // The bytes taken at a time: whole records. Room for the lines of so many bytes, for a line of 15 or 16 and for the last line.
@@ -28,24 +29,45 @@ pub struct Halt {
     pub turns: u64,
 }
 
-fn main() {
+fn main(rt: HostRuntime) {
     let mut buffer = [0u8; BUFFER_BYTES];
     let mut lines = [0u8; LINES_ROOM];
     let mut own = [0u8; PROCESSOR_LIMIT];
     let mut marks = [0u8; MARK_AREA];
-    let halt = run_all(&mut buffer, &mut lines, &mut own, &mut marks);
+    let mut input = rt.stdin();
+    let mut output = rt.stdout();
+    let mut wrong = Error::from_raw_os_error(0);
+    let halt = run_all(
+        &mut buffer,
+        &mut lines,
+        &mut own,
+        &mut marks,
+        &mut input,
+        &mut output,
+        &mut wrong,
+    );
     let flow = halt.flow;
     let failure = flow.failure;
     whole_calls::tell(
         failure,
         b"forecast: standard input could not be read",
         b"forecast: standard output could not be written",
+        &wrong,
+        &rt.stderr(),
     );
 }
 
 // Reads, forecasts and writes as `whole_reads` says until it says to stop. A proved loop has to end, and nothing says that the input does: so it
 // counts its turns down, from a number that no file uses up.
-fn run_all(buffer: &mut [u8], lines: &mut [u8], own: &mut [u8], marks: &mut [u8]) -> Halt
+fn run_all<R: Read, W: Write>(
+    buffer: &mut [u8],
+    lines: &mut [u8],
+    own: &mut [u8],
+    marks: &mut [u8],
+    input: &mut R,
+    output: &mut W,
+    wrong: &mut Error,
+) -> Halt
     requires { ForecastAmple buffer.old lines.old own.old marks.old }
     ensures { ForecastTold result buffer.new lines.new }
 {
@@ -56,7 +78,7 @@ fn run_all(buffer: &mut [u8], lines: &mut [u8], own: &mut [u8], marks: &mut [u8]
         if whole_calls::is_over(flow, buffer.len()) {
             return Halt { flow, turns };
         }
-        let work = turn(flow, reach, buffer, lines, own, marks);
+        let work = turn(flow, reach, buffer, lines, own, marks, input, output, wrong);
         flow = work.flow;
         reach = work.reach;
         turns = turns - 1;
@@ -65,13 +87,16 @@ fn run_all(buffer: &mut [u8], lines: &mut [u8], own: &mut [u8], marks: &mut [u8]
 }
 
 // Does what comes next.
-fn turn(
+fn turn<R: Read, W: Write>(
     flow: Flow,
     reach: Reach,
     buffer: &mut [u8],
     lines: &mut [u8],
     own: &mut [u8],
     marks: &mut [u8],
+    input: &mut R,
+    output: &mut W,
+    wrong: &mut Error,
 ) -> Work
     requires { FlowGoing (Held reach own.old marks.old) flow buffer.old lines.old }
     ensures { FlowGoing (Held result.reach own.new marks.new) result.flow buffer.new lines.new }
@@ -79,12 +104,12 @@ fn turn(
     let action = whole_reads::what_next(flow, buffer.len());
     match action {
         Next::Read => {
-            let on = whole_calls::read_on(flow, buffer);
+            let on = whole_calls::read_on(flow, buffer, input, wrong);
             Work { flow: on, reach }
         }
         Next::Take => take_on(flow, reach, buffer, lines, own, marks),
         Next::Write => {
-            let on = whole_calls::write_on(flow, lines);
+            let on = whole_calls::write_on(flow, lines, output, wrong);
             Work { flow: on, reach }
         }
         Next::Stop => Work { flow, reach },

@@ -4,7 +4,6 @@ use native.Mathlib.Omega.{arith}
 use native.Mathlib.Decide.{dec_lt}
 use mathlib.Core.Path.{◌≡◌, refl, sym, ◌∙◌}
 use mathlib.Core.Bool.{true, false, ◌||◌}
-use mathlib.Core.Option.{none}
 use mathlib.Core.List.{List}
 use lib.ListN.{get_or}
 use lib.Dec.{leb, eqb}
@@ -15,7 +14,6 @@ use Rattle.limits.specs.Limits.{interval_limit, page_limit, processor_limit}
 use Rattle.limits.specs.inner.Sizes.{clock_width}
 use Rattle.clock.specs.Clocks.{entry_of}
 use Rattle.rules.specs.InOrder.{present, every_processor, every_holder, present_holder, all_zero, later_intervals_zero, entries_known, applied_known}
-use Rattle.rules.specs.Refusals.{fits}
 use Rattle.rules.specs.State.{mainframe, Holder, Processor, Applied, Interval, clock_of, clock, own}
 use Rattle.rules.proofs.inorder.Everywhere.{every_processor_holds, every_page_holds, every_interval_holds, every_holder_holds, entries_all_zero, entry_past, entries_covered}
 use Rattle.rules.proofs.inorder.Facts.{Within, Sized}

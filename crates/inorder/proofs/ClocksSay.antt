@@ -12,9 +12,7 @@ use Rattle.lists.specs.Tables.{every}
 use Rattle.lists.proofs.Tables.{every_holds}
 use Rattle.limits.specs.Limits.{interval_limit, job_limit, lock_limit, page_limit, page_width, processor_limit, tally_limit}
 use Rattle.limits.specs.inner.Sizes.{clock_width, copy_limit, first_applied_row, first_interval_row, first_job_row, first_lock_row, first_tally}
-use Rattle.clock.specs.Clocks.{zeros}
 use Rattle.rules.specs.InOrder.{present_holder}
-use Rattle.rules.specs.Refusals.{fits}
 use Rattle.rules.specs.State.{mainframe, Holder, Processor, Lock, Barrier, Applied, Interval, Job, copy_of, twin_of, clock}
 use Rattle.rules.proofs.inorder.Facts.{Within, InOrder}
 use Rattle.layout.specs.Areas.{lock_row, applied_row, interval_row, job_row, clock_row, state_in, tally_place}

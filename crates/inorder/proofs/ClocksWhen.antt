@@ -12,10 +12,8 @@ use Rattle.lists.proofs.Tables.{every_at}
 use Rattle.limits.specs.Limits.{interval_limit, job_limit, lock_limit, page_limit, processor_limit}
 use Rattle.limits.specs.inner.Sizes.{clock_width, first_applied_row, first_interval_row, first_job_row, first_lock_row}
 use Rattle.rules.specs.InOrder.{present_holder}
-use Rattle.rules.specs.Refusals.{next}
 use Rattle.rules.specs.State.{mainframe, Holder, Processor, Lock, Barrier, Applied, Interval, Job, State}
 use Rattle.rules.proofs.inorder.Facts.{Within}
-use Rattle.rules.proofs.inorder.Outside.{applied_rows, interval_rows}
 use Rattle.layout.specs.Areas.{lock_row, applied_row, interval_row, job_row, clock_row, state_in}
 use Rattle.layout.specs.Layout.{row_of}
 use Rattle.layout.specs.inner.Marks.{lock_count, page_count, processor_count}

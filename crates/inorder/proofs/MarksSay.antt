@@ -16,7 +16,6 @@ use Rattle.limits.specs.Places.{first_arrived}
 use Rattle.limits.specs.inner.Sizes.{diff_limit, first_dirty, first_holder, slot_width}
 use Rattle.diff.specs.Reading.{read_refusal}
 use Rattle.rules.specs.InOrder.{present, slot_size}
-use Rattle.rules.specs.Refusals.{fits}
 use Rattle.rules.specs.State.{mainframe, dirty_at, own, holder, has_arrived}
 use Rattle.rules.proofs.inorder.Facts.{RecordSound, InOrder}
 use Rattle.layout.specs.Areas.{records_in, marks_in, state_in, standing_count}

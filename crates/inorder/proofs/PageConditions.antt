@@ -14,7 +14,6 @@ use Rattle.lists.proofs.Tables.{every_at, every_holds, Passes, any_at, any_holds
 use Rattle.limits.specs.Limits.{interval_limit, lock_limit, page_limit, page_width, processor_limit, record_limit, tally_limit}
 use Rattle.limits.specs.Places.{first_arrived}
 use Rattle.limits.specs.inner.Sizes.{copy_limit, first_dirty, first_holder, first_tally}
-use Rattle.clock.specs.Clocks.{zeros}
 use Rattle.rules.specs.InOrder.{present, every_processor, every_page, present_holder, all_zero, dirty_pages, room_kept, dirty_have_interval, holders_present, holders_away, queue_sound, someone_missing}
 use Rattle.rules.specs.State.{mainframe, Lock, Applied, copy_of, twin_of, dirty_at, adds_of, own, holder, has_arrived}
 use Rattle.rules.proofs.inorder.Everywhere.{every_processor_holds, every_page_holds, all_zero_holds}

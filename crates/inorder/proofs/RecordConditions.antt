@@ -14,7 +14,6 @@ use Rattle.limits.specs.Limits.{page_width, processor_limit, record_limit}
 use Rattle.limits.specs.inner.Sizes.{diff_limit, slot_width}
 use Rattle.diff.specs.Reading.{read_refusal}
 use Rattle.rules.specs.InOrder.{present, slot_size, record_at, diff_legal, record_sound, same_notice, records_sound}
-use Rattle.rules.specs.Refusals.{fits}
 use Rattle.rules.specs.State.{mainframe, own}
 use Rattle.rules.proofs.inorder.Conditions.{record_tests, record_tests_lem}
 use Rattle.layout.specs.Areas.{records_in, state_in, standing_count}

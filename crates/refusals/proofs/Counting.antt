@@ -1,5 +1,5 @@
 -- The dirty pages are counted mark by mark; and a bound without counting. Assumes nothing.
-use Rattle.std.proofs.Common.{◌≡◌, ℕ, zero, suc, ◌+◌, ◌-◌, ◌*◌, ◌<◌, ◌≤◌, Bool, true, false, cond, not, eqb, ltb, leb, List, length, get_or, refl, ap, ◌∙◌, suc-mul, mul-le-mul, add-one, arith, w64, Fits, le-ltb}
+use Rattle.std.proofs.Common.{◌≡◌, ℕ, zero, suc, ◌+◌, ◌*◌, ◌<◌, ◌≤◌, Bool, true, false, cond, not, eqb, ltb, leb, List, length, get_or, refl, ap, ◌∙◌, suc-mul, mul-le-mul, add-one, arith, w64, Fits, le-ltb}
 use mathlib.Core.Bool.{and-false}
 use borrow.Author.Tests.{lt-leb}
 use Rattle.lists.specs.Tables.{total}

@@ -1,24 +1,27 @@
-// The run program: a step file on standard input, its lines on standard output. What it does between its C calls, `run_loop` says.
+// The run program: a step file on standard input, its lines on standard output. What it does between its reads and writes, `run_loop` says.
 #![tactic(auto)]
 
 ghost use Rattle.run.specs.inner.Going.{Ample, Possible, Underway, ReadsNext, Keeps};
 
-use libc::{STDERR_FILENO, STDIN_FILENO, STDOUT_FILENO};
 use limits::{CLOCK_AREA, FILE_RECORD_WIDTH, LINE_LIMIT, MARK_AREA, RECORD_AREA, WORD_AREA};
 use run_loop::{Action, Fault, Run};
+use std::io::{Error, Print, Read, Write};
 
 // The bytes read at a time, and room for the lines of so many bytes and of a record begun before.
 const CHUNK_BYTES: usize = 65536;
 
 const LINE_ROOM: usize = LINE_LIMIT * (CHUNK_BYTES / FILE_RECORD_WIDTH + 1);
 
-fn main() {
+fn main(rt: HostRuntime) {
     let mut chunk = [0u8; CHUNK_BYTES];
     let mut lines = [0u8; LINE_ROOM];
     let mut clocks = [0u8; CLOCK_AREA];
     let mut words = [0u32; WORD_AREA];
     let mut records = [0u8; RECORD_AREA];
     let mut marks = [0u8; MARK_AREA];
+    let mut input = rt.stdin();
+    let mut output = rt.stdout();
+    let mut wrong = Error::from_raw_os_error(0);
     let fault = run_all(
         &mut chunk,
         &mut lines,
@@ -26,19 +29,25 @@ fn main() {
         &mut words,
         &mut records,
         &mut marks,
+        &mut input,
+        &mut output,
+        &mut wrong,
     );
-    tell(fault);
+    tell(fault, &wrong, &rt.stderr());
 }
 
 // Reads and writes as `run_loop` says until it says to stop. A proved loop has to end, and nothing says that the input does: so it counts its
 // turns down, from a number that no run uses up.
-fn run_all(
+fn run_all<R: Read, W: Write>(
     chunk: &mut [u8],
     lines: &mut [u8],
     clocks: &mut [u8],
     words: &mut [u32],
     records: &mut [u8],
     marks: &mut [u8],
+    input: &mut R,
+    output: &mut W,
+    wrong: &mut Error,
 ) -> Fault
     requires { Ample chunk.old lines.old clocks.old words.old records.old marks.old }
     ensures { Possible result }
@@ -49,7 +58,9 @@ fn run_all(
         if is_over(run) {
             return run.fault;
         }
-        run = turn(run, chunk, lines, clocks, words, records, marks);
+        run = turn(
+            run, chunk, lines, clocks, words, records, marks, input, output, wrong,
+        );
         turns = turns - 1;
     }
     run.fault
@@ -66,7 +77,7 @@ fn is_over(run: Run) -> bool {
 }
 
 // Does what comes next.
-fn turn(
+fn turn<R: Read, W: Write>(
     run: Run,
     chunk: &mut [u8],
     lines: &mut [u8],
@@ -74,20 +85,25 @@ fn turn(
     words: &mut [u32],
     records: &mut [u8],
     marks: &mut [u8],
+    input: &mut R,
+    output: &mut W,
+    wrong: &mut Error,
 ) -> Run
     requires { Underway run chunk.old lines.old clocks.old words.old records.old marks.old }
     ensures { Underway result chunk.new lines.new clocks.new words.new records.new marks.new }
 {
     let action = run_loop::next_action(run);
     match action {
-        Action::Read => read_on(run, chunk, lines, clocks, words, records, marks),
-        Action::Write => write_on(run, lines),
+        Action::Read => read_on(
+            run, chunk, lines, clocks, words, records, marks, input, wrong,
+        ),
+        Action::Write => write_on(run, lines, output, wrong),
         Action::Stop => run,
     }
 }
 
-// Reads a chunk and takes it.
-fn read_on(
+// Reads a chunk and takes it. What went wrong, if anything, is noted.
+fn read_on<R: Read>(
     run: Run,
     chunk: &mut [u8],
     lines: &mut [u8],
@@ -95,13 +111,22 @@ fn read_on(
     words: &mut [u32],
     records: &mut [u8],
     marks: &mut [u8],
+    input: &mut R,
+    wrong: &mut Error,
 ) -> Run
     requires { ReadsNext run chunk.old lines.old clocks.old words.old records.old marks.old }
     ensures { Underway result chunk.new lines.new clocks.new words.new records.new marks.new }
 {
-    let got = libc::read(STDIN_FILENO, chunk);
-    let again = is_interrupted();
-    take_in(run, got, again, chunk, lines, clocks, words, records, marks)
+    match input.read(chunk) {
+        Ok(n) => take_in(
+            run, n as isize, false, chunk, lines, clocks, words, records, marks,
+        ),
+        Err(error) => {
+            let again = whole_calls::is_interrupted(&error);
+            *wrong = error;
+            take_in(run, -1, again, chunk, lines, clocks, words, records, marks)
+        }
+    }
 }
 
 // Takes a chunk that was read.
@@ -122,27 +147,28 @@ fn take_in(
     run_loop::after_read(run, got, again, chunk, lines, clocks, words, records, marks)
 }
 
-// Writes the lines that are left, or the first of them.
-fn write_on(run: Run, lines: &[u8]) -> Run
+// Writes the lines that are left, or the first of them. What went wrong, if anything, is noted.
+fn write_on<W: Write>(run: Run, lines: &[u8], output: &mut W, wrong: &mut Error) -> Run
     ensures { Keeps run lines.now result }
 {
-    let put = libc::write(STDOUT_FILENO, run_loop::unwritten(run, lines));
-    run_loop::after_write(run, put, is_interrupted(), lines)
+    match output.write(run_loop::unwritten(run, lines)) {
+        Ok(n) => run_loop::after_write(run, n as isize, false, lines),
+        Err(error) => {
+            let again = whole_calls::is_interrupted(&error);
+            *wrong = error;
+            run_loop::after_write(run, -1, again, lines)
+        }
+    }
 }
 
-// Whether the C call just made is to be made again, if it failed: a signal came before it bytesMoved a byte.
-fn is_interrupted() -> bool {
-    os::errno() == libc::EINTR
-}
-
-// Says on standard error what went wrong, if anything. No C call stands between the one that failed and this.
-fn tell(fault: Fault) {
+// Says what went wrong, if anything, with the words of the error that was noted last.
+fn tell<P: Print>(fault: Fault, wrong: &Error, to: &P) {
     match fault {
         Fault::Nothing => {}
-        Fault::Reading => os::fail(b"run: standard input could not be read"),
-        Fault::Writing => os::fail(b"run: standard output could not be written"),
+        Fault::Reading => whole_calls::say(b"run: standard input could not be read", wrong, to),
+        Fault::Writing => whole_calls::say(b"run: standard output could not be written", wrong, to),
         Fault::NotFed => {
-            io::write_all(STDERR_FILENO, b"run: a part of the file was not taken\n");
+            let _ = to.write_all(b"run: a part of the file was not taken\n");
         }
     }
 }

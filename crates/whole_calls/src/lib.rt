@@ -1,4 +1,5 @@
-// The C calls of a program that goes by `whole_reads`: it reads standard input, writes its lines to standard output, and says what went wrong.
+// The reads and writes of a program that goes by `whole_reads`: it fills its buffer from its input, writes its lines to its output, and says what went
+// wrong.
 #![tactic(auto)]
 
 ghost use Rattle.std.specs.Prelude.{◌≤◌, ◌≡◌, length};
@@ -6,8 +7,31 @@ ghost use Rattle.whole_reads.specs.Promises.{comes_next};
 ghost use Rattle.whole_reads.specs.inner.Going.{ReadOn, WroteOn};
 ghost use Rattle.whole_calls.specs.Promises.{is_stop};
 
-use libc::{STDIN_FILENO, STDOUT_FILENO};
+use std::fmt::{self, Write as _};
+use std::io::{Error, ErrorKind, Print, Read, Write};
 use whole_reads::{Failure, Flow, Next};
+
+// Room for the words of an error.
+const WORDS_ROOM: usize = 128;
+
+// The words of an error, as far as there is room for them.
+#[derive(Drop)]
+struct Words {
+    bytes: [u8; WORDS_ROOM],
+    len: usize,
+}
+
+impl fmt::Write for Words {
+    fn write_str(&mut self, s: &str) -> fmt::Result {
+        for byte in s.as_bytes() {
+            if self.len < WORDS_ROOM {
+                self.bytes[self.len] = *byte;
+                self.len += 1;
+            }
+        }
+        Ok(())
+    }
+}
 
 // Whether nothing is left to do, with a buffer of so many bytes.
 pub fn is_over(flow: Flow, room: usize) -> bool
@@ -22,35 +46,79 @@ pub fn is_over(flow: Flow, room: usize) -> bool
     }
 }
 
-// Reads into the buffer behind the bytes that stand in it.
-pub fn read_on(flow: Flow, buffer: &mut [u8]) -> Flow
+// Reads into the buffer behind the bytes that stand in it. What went wrong, if anything, is noted.
+pub fn read_on<R: Read>(flow: Flow, buffer: &mut [u8], input: &mut R, wrong: &mut Error) -> Flow
     requires { flow.have ≤ length buffer.old }
     ensures { ReadOn flow buffer.old result buffer.new }
 {
     let have = flow.have;
-    let got = libc::read(STDIN_FILENO, &mut buffer[have..]);
-    let again = is_interrupted();
-    whole_reads::note_read(flow, got, again, buffer)
-}
-
-// Writes the lines that are left, or the first of them.
-pub fn write_on(flow: Flow, lines: &[u8]) -> Flow
-    ensures { WroteOn flow lines.now result }
-{
-    let put = libc::write(STDOUT_FILENO, whole_reads::lines_left(flow, lines));
-    whole_reads::note_write(flow, put, is_interrupted(), lines)
-}
-
-// Says on standard error what went wrong, if anything, in the program's words. No C call may stand between the one that failed and this.
-pub fn tell(failure: Failure, reading_failed: &[u8], writing_failed: &[u8]) {
-    match failure {
-        Failure::Nothing => {}
-        Failure::Reading => os::fail(reading_failed),
-        Failure::Writing => os::fail(writing_failed),
+    match input.read(&mut buffer[have..]) {
+        Ok(n) => whole_reads::note_read(flow, n as isize, false, buffer),
+        Err(error) => {
+            let again = is_interrupted(&error);
+            *wrong = error;
+            whole_reads::note_read(flow, -1, again, buffer)
+        }
     }
 }
 
-// Whether the C call just made is to be made again, if it failed: a signal came before it moved a byte.
-fn is_interrupted() -> bool {
-    os::errno() == libc::EINTR
+// Writes the lines that are left, or the first of them. What went wrong, if anything, is noted.
+pub fn write_on<W: Write>(flow: Flow, lines: &[u8], output: &mut W, wrong: &mut Error) -> Flow
+    ensures { WroteOn flow lines.now result }
+{
+    match output.write(whole_reads::lines_left(flow, lines)) {
+        Ok(n) => whole_reads::note_write(flow, n as isize, false, lines),
+        Err(error) => {
+            let again = is_interrupted(&error);
+            *wrong = error;
+            whole_reads::note_write(flow, -1, again, lines)
+        }
+    }
+}
+
+// Says what went wrong, if anything, in the program's words and those of the error that was noted last.
+pub fn tell<P: Print>(
+    failure: Failure,
+    reading_failed: &[u8],
+    writing_failed: &[u8],
+    wrong: &Error,
+    to: &P,
+) {
+    match failure {
+        Failure::Nothing => {}
+        Failure::Reading => say(reading_failed, wrong, to),
+        Failure::Writing => say(writing_failed, wrong, to),
+    }
+}
+
+// Whether a call that failed is to be made again: a signal came before it moved a byte.
+pub fn is_interrupted(error: &Error) -> bool {
+    error.kind() == ErrorKind::Interrupted
+}
+
+// Writes a line: what failed, as the caller names it, a colon and the system's words for the error. Where it cannot be written nothing is left to do.
+pub fn say<P: Print>(what: &[u8], wrong: &Error, to: &P) {
+    let mut words = Words {
+        bytes: [0; WORDS_ROOM],
+        len: 0,
+    };
+    let _ = write!(words, "{wrong}");
+    let _ = to.write_all(what);
+    let _ = to.write_all(b": ");
+    let _ = to.write_all(message(&words).as_bytes());
+    let _ = to.write_all(b"\n");
+}
+
+// The system's words for an error, without its number, which stands behind them.
+fn message(words: &Words) -> &str {
+    if words.len > WORDS_ROOM {
+        return "";
+    }
+    match std::str::from_utf8(&words.bytes[..words.len]) {
+        Ok(text) => match text.rsplit_once(" (os error ") {
+            Some((front, _)) => front,
+            None => text,
+        },
+        Err(_) => "",
+    }
 }
