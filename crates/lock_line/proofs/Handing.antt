@@ -1,6 +1,6 @@
 -- A lock is asked for and handed on: what this leaves of holders and lines, one law for each way of the code, and `line_laws`, by which the
 -- crate's proofs search. Rests on Standing and Moving. Assumes nothing.
-use Prim.Native.Nat.{ℕ, zero, suc, ◌+◌, ◌-◌, ◌≤◌, ◌<◌}
+use Prim.Native.Nat.{ℕ, zero, suc, ◌+◌, ◌≤◌, ◌<◌}
 use native.Mathlib.Numerals.{add-one}
 use native.Mathlib.Omega.{arith}
 use mathlib.Core.Path.{◌≡◌, sym, ap, ◌∙◌}

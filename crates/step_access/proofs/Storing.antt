@@ -12,7 +12,7 @@ use borrow.Author.Rules.{rules}
 use Rattle.lists.specs.Tables.{put_cell}
 use Rattle.limits.specs.Limits.{page_limit, page_width}
 use Rattle.limits.specs.inner.Sizes.{word_area, word_row_limit, first_tally}
-use Rattle.rules.specs.State.{mainframe, Pages, copy_of, dirty_at, State, with_pages, with_shared}
+use Rattle.rules.specs.State.{mainframe, copy_of, dirty_at, State, with_pages, with_shared}
 use Rattle.rules.specs.Steps.{page_of_word, offset_of_word, new_twin, twin_taken, stored}
 use Rattle.layout.specs.Areas.{copy_row, twin_row, dirty_place, pages_in, state_in, shared_in}
 use Rattle.layout.specs.Layout.{row_of}

@@ -2,10 +2,10 @@
 use Rattle.std.proofs.Common.{◌≡◌, ℕ, ◌+◌, ◌*◌, ◌%◌, ◌^◌, ◌<◌, List, length, get_or, set, sym, ap, ◌∙◌, arith, length-set, get_or-set_other, rules}
 use Rattle.limits.specs.Limits.{tally_limit, word_values}
 use Rattle.limits.specs.inner.Sizes.{first_tally, word_area}
-use Rattle.rules.specs.State.{mainframe, Shared, posted_of, adds_of}
+use Rattle.rules.specs.State.{mainframe, posted_of, adds_of}
 use Rattle.rules.specs.Tallies.{tally_added, tally_total}
 use Rattle.layout.specs.Areas.{tally_place, shared_in}
-use Rattle.layout.proofs.TallyLaws.{tally_at, tally_there, posted_read, adds_read, shared_written, add_written}
+use Rattle.layout.proofs.TallyLaws.{tally_at, posted_read, adds_read, shared_written, add_written}
 use Rattle.step_tally.specs.inner.Needed.{OnTally, TallyIn}
 use Rattle.step_tally.specs.inner.Effects.{AddDone}
 
