@@ -1,5 +1,5 @@
 -- A number in base ten as bytes of ASCII. Assumes nothing.
-use Rattle.std.specs.Prelude.{ℕ, zero, suc, ◌+◌, ◌-◌, ◌/◌, ◌%◌, cond, List, [], ◌∷◌, ◌++◌, ltb}
+use Rattle.std.specs.Prelude.{ℕ, zero, suc, ◌+◌, ◌/◌, ◌%◌, cond, List, [], ◌∷◌, ◌++◌, ltb}
 
 -- the digits of n, the highest first, where there are at most `most` of them: a digit d is the byte 48 + d
 unfoldable pub digits_within : ℕ → ℕ → List ℕ

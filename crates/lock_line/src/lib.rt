@@ -94,6 +94,7 @@ fn waits_for(marks: &[u8], p: ProcessorId, lock: usize) -> bool
 }
 
 // Whether it waits for it and nobody stands before it.
+#[tactic(auto, using(crate::proofs::Handing::line_laws))]
 fn stands_first(marks: &[u8], p: ProcessorId, lock: usize) -> bool
     requires { InLine marks.now lock p.0 }
     ensures { result ≡ (waits_for (marks_in mainframe marks.now) p.0 lock && eqb (turn_of (marks_in mainframe marks.now) p.0) 0) }

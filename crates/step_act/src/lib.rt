@@ -90,6 +90,7 @@ fn access(
 }
 
 // Kinds 3 and 4: acquire and release.
+#[tactic(auto, using(crate::proofs::ActingOnShared::acting_laws))]
 fn lock(
     kind: u32,
     p: ProcessorId,

@@ -59,6 +59,7 @@ fn take_lock(clocks: &mut [u8], marks: &mut [u8], p: ProcessorId, l: usize)
 }
 
 // The lock's clock becomes the processor's; the lock is handed on, and its new holder learns that clock.
+#[tactic(auto, using(crate::proofs::Locking::lock_laws))]
 fn free_lock(clocks: &mut [u8], marks: &mut [u8], p: ProcessorId, l: usize)
     requires lock_there { LockThere clocks.old marks.old p.0 l }
     requires hands { Hands marks.old l }
@@ -90,6 +91,7 @@ fn tell_waiter(clocks: &mut [u8], q: ProcessorId, l: usize)
 }
 
 // The processor's clock joins the lock's.
+#[tactic(auto, using(crate::proofs::Locking::lock_laws))]
 fn join_lock(clocks: &mut [u8], p: ProcessorId, l: usize)
     requires { LockClocks clocks.old p.0 l × (1 ≤ p.0) }
     ensures { ClocksBecome clocks.new (learned (clocks_in mainframe clocks.old) (Processor p.0) (Lock l)) }

@@ -1,5 +1,5 @@
 -- What the functions of this crate ask of one another and of their callers, and what they promise. Assumes nothing.
-use Rattle.std.specs.Prelude.{◌%◌, ◌*◌, ◌+◌, ◌-◌, ◌/◌, ◌<◌, ◌≤◌, ℕ, ◌≡◌, true, List, [], ◌++◌, drop, length, take}
+use Rattle.std.specs.Prelude.{◌*◌, ◌+◌, ◌<◌, ◌≤◌, ℕ, ◌≡◌, true, List, [], length, take}
 use Rattle.limits.specs.Files.{file_record_width, line_limit}
 use Rattle.limits.specs.Limits.{word_values}
 use Rattle.limits.specs.inner.Sizes.{file_record_limit}
