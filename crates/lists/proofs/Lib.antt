@@ -7,3 +7,4 @@ pub mod Sorting
 pub mod Passing
 pub mod Stores
 pub mod Parts
+pub mod Until

@@ -113,6 +113,15 @@ by_put_cell {A} P d t p g q h v same other = rw (cell_put d t p g q h v) (go (eq
     go true false x y = other
     go false b x y = other
 
+-- two tables with the same first n places in every row have them still after the same place of both was given equal values
+pub cells_same_put : {A : Type 0} (d : A) (t u : List (List A)) (p g : ℕ) (v w : A) (n : ℕ) → v ≡ w → ((q h : ℕ) → h < n → cell d t q h ≡ cell d u q h)
+    → (q h : ℕ) → h < n → cell d (put_cell d t p g v) q h ≡ cell d (put_cell d u p g w) q h
+cells_same_put d t u p g v w n e same q h l = cell_put d t p g q h v ∙ go (eqb q p && eqb h g) ∙ sym (cell_put d u p g q h w)
+  where
+    go : (b : Bool) → cond b v (cell d t q h) ≡ cond b w (cell d u q h)
+    go true = e
+    go false = same q h l
+
 -- every other place is as it was
 pub cell_put_elsewhere : {A : Type 0} (d : A) (t : List (List A)) (p g q h : ℕ) (v : A) → (q ≡ p → h ≡ g → ⊥) → cell d (put_cell d t p g v) q h ≡ cell d t q h
 cell_put_elsewhere d t p g q h v e = by_put_cell (λ x. x ≡ cell d t q h) d t p g q h v (λ a b. absurd (e a b)) refl
@@ -170,6 +179,17 @@ any_holds (suc n) t i h e = go (ℕ_discrete i n) (any_holds n t i)
     go : Dec (i ≡ n) → (i < n → t i ≡ true → any n t ≡ true) → (any n t || t n) ≡ true
     go (yes k) r = (or-eq-true_iff (any n t) (t n)).1 (Or.inr (rw (← k) e))
     go (no k) r = (or-eq-true_iff (any n t) (t n)).1 (Or.inl (r (omega arith) e))
+
+-- tests that agree below a bound
+pub every_same : (n : ℕ) (t u : ℕ → Bool) → ((i : ℕ) → i < n → t i ≡ u i) → every n t ≡ every n u
+unfolding every
+every_same zero t u h = refl
+every_same (suc n) t u h = ap₂ ◌&&◌ (every_same n t u (λ i l. h i (omega arith))) (h n (omega arith))
+
+pub any_same : (n : ℕ) (t u : ℕ → Bool) → ((i : ℕ) → i < n → t i ≡ u i) → any n t ≡ any n u
+unfolding any
+any_same zero t u h = refl
+any_same (suc n) t u h = ap₂ ◌||◌ (any_same n t u (λ i l. h i (omega arith))) (h n (omega arith))
 
 -- a test that fails for some number below a bound
 pub every_fails : (n : ℕ) (t : ℕ → Bool) → every n t ≡ false → Passes n (λ i. not (t i))

@@ -22,6 +22,7 @@ pub mod FewWords
 pub mod Foretold
 pub mod NoValues
 pub mod ForecastCases
+pub mod OlderAnswers
 pub mod Fetching
 pub mod DemandThree
 pub mod Cases
@@ -39,3 +40,4 @@ pub mod word
 pub mod invariant
 pub mod demand
 pub mod runs
+pub mod wider

@@ -18,4 +18,5 @@ pub mod Jobs
 pub mod Moved
 pub mod LocksFree
 pub mod Forecast
+pub mod WiderLimits
 pub mod Bench

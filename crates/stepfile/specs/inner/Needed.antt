@@ -1,5 +1,5 @@
 -- What the functions of this crate ask of one another, and what the inner ones promise. Assumes nothing.
-use Rattle.std.specs.Prelude.{◌*◌, ◌+◌, ◌-◌, ◌/◌, ◌<◌, ◌≤◌, ℕ, ◌≡◌, Bool, ◌||◌, false, true, List, drop, length, take, eqb, ltb}
+use Rattle.std.specs.Prelude.{◌*◌, ◌+◌, ◌/◌, ◌<◌, ◌≤◌, ℕ, ◌≡◌, Bool, ◌||◌, false, true, List, drop, length, take, eqb, ltb}
 use Rattle.limits.specs.Files.{file_record_width, line_limit}
 use Rattle.limits.specs.Limits.{word_values}
 use Rattle.limits.specs.inner.Sizes.{file_record_limit}
