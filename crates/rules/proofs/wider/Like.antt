@@ -43,7 +43,7 @@ other s x =
     }
 
 -- tables that agree on so many pages and records
-pub record Agree (pages standing : ℕ) (x y : Tables) : Type 0 where
+pub record AgreeOnPresent (pages standing : ℕ) (x y : Tables) : Type 0 where
   pub applied : (p g : ℕ) → g < pages → cell [] y.applied p g ≡ cell [] x.applied p g
   pub copies : (p g : ℕ) → g < pages → cell [] y.copies p g ≡ cell [] x.copies p g
   pub twins : (p g : ℕ) → g < pages → cell [] y.twins p g ≡ cell [] x.twins p g
@@ -54,7 +54,7 @@ pub record Agree (pages standing : ℕ) (x y : Tables) : Type 0 where
 
 -- tables that agree with a state's on its pages and its records
 abbrev pub Fits : State → Tables → Type 0
-Fits s x = Agree s.counts.pages s.records.standing (tables_of s) x
+Fits s x = AgreeOnPresent s.counts.pages s.records.standing (tables_of s) x
 
 -- a state that is another but for such tables
 pub record Like (s u : State) : Type 0 where
