@@ -1,4 +1,4 @@
-// The run program but for its C calls: what it does next, and where it stands after a read or a write.
+// The run program but for its reads and writes: what it does next, and where it stands after a read or a write.
 #![tactic(auto)]
 
 ghost use Rattle.std.specs.Prelude.{◌-◌, min, ◌≡◌, pos};

@@ -1,4 +1,4 @@
--- What each C call comes to by the laws of whole_reads, and when nothing is left to do. `call_laws`. Assumes nothing.
+-- What each read or write comes to by the laws of whole_reads, and when nothing is left to do. `call_laws`. Assumes nothing.
 use Prim.Native.Nat.{ℕ}
 use mathlib.Core.Path.{◌≡◌, refl, ap, sym, ◌∙◌}
 use mathlib.Core.Bool.{Bool, true, false≢true}

@@ -1,4 +1,4 @@
--- After a C call has answered. One law for each way of the code, and `answered_laws`. Rests on Filling. Assumes nothing.
+-- After a read or a write has answered. One law for each way of the code, and `answered_laws`. Rests on Filling. Assumes nothing.
 use Prim.Native.Nat.{ℕ, ◌+◌, ◌-◌, ◌^◌, ◌<◌, ◌≤◌}
 use native.Mathlib.Omega.{arith}
 use mathlib.Core.Path.{◌≡◌, refl, sym, ap, ◌∙◌}

@@ -1,4 +1,4 @@
--- From turn to turn, for the program that makes the C calls: what a read, a write and the taking of the bytes keep. `turning_laws`. Rests on Coming.
+-- From turn to turn, for the program that reads and writes: what a read, a write and the taking of the bytes keep. `turning_laws`. Rests on Coming.
 -- Assumes nothing.
 use Prim.Native.Nat.{ℕ, ◌≤◌}
 use native.Mathlib.Omega.{arith}

@@ -1,4 +1,4 @@
-// A program's reads and writes but for its C calls: bytes are read until the buffer is full or the input has ended, then they are taken, then the lines
+// What a program does between its reads and writes: bytes are read until the buffer is full or the input has ended, then they are taken, then the lines
 // made of them are written.
 #![tactic(auto)]
 
