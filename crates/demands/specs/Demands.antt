@@ -2,9 +2,9 @@
 --
 -- What the code does is said by definitions: the contract of each public function says that its answer, and every byte of lent memory afterwards,
 -- are what these definitions give, for every input; that each call comes to an end is part of what the checker proves of a function.
---   `open_mainframe`   openRefusal, areasOpened          `apply`   applyRefusal, pageAfter
---   `step`             answer_of, areasAfter              `write`   writeRefusal, written, outAfter
---   `run`              runAnswers, runAreas              `feed`    feedAnswer, feedLines, feedAreas
+--   `open_mainframe`   open_refusal, areas_opened          `apply`   apply_refusal, page_after
+--   `step`             answer_of, areas_after              `write`   write_refusal, written, out_after
+--   `run`              run_answers, run_areas              `feed`    feed_answer, feed_lines, feed_areas
 -- What is demanded of these definitions stands here, in plain words above each field. proofs/Demanded.antt proves all of it. What the requests of
 -- document 02 claim beyond it stands in Requests.antt.
 -- Assumes nothing.
