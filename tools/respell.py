@@ -1,11 +1,10 @@
 #!/usr/bin/env python3
-"""Brings the definitions and lemmas of the crates to snake case: sumOf becomes sum_of, take-more becomes take_more, a prime becomes an apostrophe.
+"""Brings the definitions and lemmas of the crates to snake case: pageLimit becomes page_limit, join-all becomes join_all, a prime becomes an apostrophe.
 
 usage: tools/respell.py           at the top of the repository, once, after the kit's port.py
        tools/respell.py --list    prints the old and the new names and writes nothing
 
 A lemma whose new name is a definition's gets _lem behind it. Names of Rattle's own, of its library and of src/ keep their spelling.
-The proofs by position (Proof.antt) are named f_spec and speak of their loops by Rattle's names of today.
 """
 import collections
 import os
@@ -18,7 +17,6 @@ SIGNATURE = re.compile(r"^\s*" + MARKS + r"([^%s=]+(?:\s+[^%s=]+)*?) :(?=\s|$)" 
 NAMED = re.compile(r"^\s*" + MARKS + r"(?:ruleset|record|data)\s+([^%s=]+)" % SEP)
 USE = re.compile(r"^\s*(?:pub )?(?:ghost )?use ([^{\n]*?)\.\{([^}]*)\}", re.M)
 TOKEN = re.compile(r"[^%s]+" % SEP)
-LEMMAS = re.compile(r"^[a-z0-9→]")
 # Definitions whose name in snake case a lemma or a field has already.
 GIVEN = {
     "wordsLeft": "words_to_set",

@@ -3,13 +3,10 @@ use Prim.Native.Nat.{ℕ, ◌≤◌}
 use native.Mathlib.Omega.{arith}
 use mathlib.Core.Path.{◌≡◌, refl, sym, ap, ◌∙◌}
 use mathlib.Core.Bool.{Bool, true, false, false≢true, ◌&&◌, ◌||◌}
-use mathlib.Core.List.{List, [], ◌++◌, append_assoc}
-use lib.ListN.{length, take, replicate, length-replicate}
+use mathlib.Core.List.{List, [], append_assoc}
+use lib.ListN.{length, take}
 use lib.Dec.{leb}
 use borrow.Author.Tests.{leb-true}
-use Rattle.limits.specs.Files.{file_record_width}
-use Rattle.limits.specs.Limits.{processor_limit}
-use Rattle.limits.specs.inner.Sizes.{mark_area}
 use Rattle.whole_reads.specs.Promises.{comes_next}
 use Rattle.whole_reads.specs.inner.Going.{FlowGoing, Takes, TakesNext}
 use Rattle.whole_reads.specs.declared.Flow.{Flow}
@@ -19,22 +16,14 @@ use Rattle.whole_calls.specs.Promises.{is_stop}
 use Rattle.whole_calls.proofs.Calls.{nothing_next}
 use Rattle.forecast_file.specs.Files.{forecast_lines}
 use Rattle.forecast_file.specs.Standing.{Foresight, foreseen, nothing_foreseen, records_foreseen}
-use Rattle.forecast_file.specs.Promises.{Begun, ForeseenTo, TakenAs, foresight_at}
+use Rattle.forecast_file.specs.Promises.{Begun, TakenAs, foresight_at}
 use Rattle.forecast_file.specs.inner.Needed.{MemorySound, PartTakeable}
 use Rattle.forecast_file.specs.declared.Reach.{Reach}
 use Rattle.forecast_file.specs.declared.PartTaken.{PartTaken}
 use Rattle.forecast.specs.Promises.{ForecastTold}
-use Rattle.forecast.specs.inner.Going.{ForecastAmple, Held, FullyRoomy, buffer_bytes, lines_room}
+use Rattle.forecast.specs.inner.Going.{ForecastAmple, Held}
 
 -- ---- the start
-
--- an array of zeros is as long as it is declared
-pub blank_bytes : (n : ℕ) → length (replicate {A = ℕ} n 0) ≡ n
-blank_bytes n = length-replicate n 0
-
--- arrays of these lengths are ample
-pub forecast_ample : (buffer out own m : List ℕ) → length buffer ≡ buffer_bytes → length out ≡ lines_room → length own ≡ processor_limit → length m ≡ mark_area → ForecastAmple buffer out own m
-forecast_ample buffer out own m a b d e = record { roomy = record { whole = omega (arith, a); fits = omega (arith, a, b) }; entries = d; marks = e }
 
 -- no record has been taken
 none_taken : (s : Reach) → Begun s → s.number ≡ 0

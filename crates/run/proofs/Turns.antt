@@ -4,12 +4,11 @@ use native.Mathlib.Omega.{arith}
 use mathlib.Core.Path.{◌≡◌, sym, ◌∙◌}
 use mathlib.Core.Bool.{Bool, true, false, cond}
 use mathlib.Core.List.{List, [], ◌++◌}
-use lib.ListN.{length, length-replicate, replicate}
+use lib.ListN.{length}
 use lib.Dec.{eqb}
 use lib.IntN.{ℤ, pos}
 use lib.Signed.{lt_z}
 use borrow.Author.Rules.{rules}
-use Rattle.limits.specs.inner.Sizes.{clock_area, mark_area, record_area, word_area}
 use Rattle.layout.specs.Areas.{areas, right_sizes}
 use Rattle.layout.proofs.Encoding.{lent_right}
 use Rattle.run_loop.specs.Promises.{Begins, GotAs, NextIs, PutAs, failed_run, bytes_moved, pending, put_run, wrote_run}
@@ -18,7 +17,7 @@ use Rattle.run_loop.specs.declared.Fault.TheVariants.{Writing}
 use Rattle.run_loop.specs.declared.Action.{Action}
 use Rattle.run_loop.specs.declared.Action.TheVariants.{Read}
 use Rattle.run_loop.proofs.Coming.{reads_faultless}
-use Rattle.run.specs.inner.Going.{Ample, Underway, Keeps, Possible, ReadsNext, chunk_bytes, line_room}
+use Rattle.run.specs.inner.Going.{Ample, Underway, Keeps, Possible, ReadsNext}
 
 -- ---- faults
 
@@ -30,15 +29,6 @@ pub going_possible : (s : Run) (chunk out c w r m : List ℕ) → Underway s chu
 going_possible s chunk out c w r m g = g.possible
 
 -- ---- the start
-
--- an array of zeros is as long as it is declared
-pub zero_bytes : (n : ℕ) → length (replicate {A = ℕ} n 0) ≡ n
-zero_bytes n = length-replicate n 0
-
--- arrays of these lengths are ample
-pub ample : (chunk lines c w r m : List ℕ) → length chunk ≡ chunk_bytes → length lines ≡ line_room → length c ≡ clock_area → length w ≡ word_area → length r ≡ record_area → length m ≡ mark_area
-    → Ample chunk lines c w r m
-ample chunk lines c w r m a b d e f g = record { roomy = record { room = omega (arith, a, b) }; lent = record { clocks = d; words = e; records = f; marks = g } }
 
 pub going_begins : (s : Run) (chunk out c w r m : List ℕ) → Begins s → Ample chunk out c w r m → Underway s chunk out c w r m
 unfolding right_sizes areas

@@ -2,7 +2,8 @@
 // wrong.
 #![tactic(auto)]
 
-ghost use Rattle.std.specs.Prelude.{◌≤◌, ◌≡◌, length};
+ghost use Rattle.std.specs.Prelude.{◌≤◌, ◌≡◌, ◌↔◌, IsTrue, length};
+ghost use Rattle.std_io.specs.IoError.{error_kind};
 ghost use Rattle.whole_reads.specs.Promises.{comes_next};
 ghost use Rattle.whole_reads.specs.inner.Going.{ReadOn, WroteOn};
 ghost use Rattle.whole_calls.specs.Promises.{is_stop};
@@ -92,7 +93,9 @@ pub fn tell<P: Print>(
 }
 
 // Whether a call that failed is to be made again: a signal came before it moved a byte.
-pub fn is_interrupted(error: &Error) -> bool {
+pub fn is_interrupted(error: &Error) -> bool
+    ensures { IsTrue result ↔ error_kind error.now ≡ ErrorKind.Interrupted }
+{
     error.kind() == ErrorKind::Interrupted
 }
 

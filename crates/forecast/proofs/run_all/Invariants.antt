@@ -1,5 +1,4 @@
 -- What holds is kept by each turn, and the turns that are left fall. Assumes nothing.
-use Rattle.std.proofs.Common.{◌≡◌, length}
 use Rattle.whole_reads.specs.inner.Going.{FlowGoing}
 use Rattle.forecast.specs.inner.Going.{Held}
 use Rattle.forecast.proofs.run_all.Given as goal
