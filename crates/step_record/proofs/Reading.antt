@@ -5,7 +5,7 @@ use lib.ListN.{drop}
 use borrow.Author.Rules.{rules}
 use Rattle.rules.specs.State.{State}
 use Rattle.rules.specs.Refusals.{step_of}
-use Rattle.step_act.specs.declared.Outcome.{Outcome}
+use Rattle.step_act.specs.Telling.{Outcome}
 use Rattle.engine.specs.inner.Needed.{SteppedKept}
 use Rattle.step_fields.specs.Records.{step_from}
 use Rattle.step_fields.specs.inner.Needed.{FieldsAre}

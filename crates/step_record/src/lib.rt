@@ -9,6 +9,7 @@ ghost use Rattle.step_fields.specs.Records.{step_from};
 ghost use Rattle.step_record.specs.inner.Needed.{StepThere};
 
 use step_act::Outcome;
+use step_fields::Step;
 
 // The step in the record from a place on, taken on memory that is in order, with an index that is kept.
 pub fn step_record(
@@ -23,16 +24,6 @@ pub fn step_record(
     requires { StepThere bytes.now at clocks.old words.old records.old marks.old index.old }
     ensures { SteppedKept (state_in mainframe clocks.old words.old records.old marks.old) (step_from (drop at bytes.now)) result clocks.new words.new records.new marks.new index.new }
 {
-    let fields = step_fields::fields_at(bytes, at);
-    engine::step_on(
-        fields.kind,
-        fields.processor,
-        fields.object,
-        fields.value,
-        clocks,
-        words,
-        records,
-        marks,
-        index,
-    )
+    let step = Step::in_record(bytes, at);
+    engine::step_on(step, clocks, words, records, marks, index)
 }
