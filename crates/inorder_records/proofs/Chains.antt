@@ -1,10 +1,10 @@
--- A test of all numbers below a bound, as the library's `all` makes it over a range. Assumes nothing.
-use Prim.Native.Nat.{ℕ, ◌<◌}
+-- Tests that the library's `all` makes: of all numbers below a bound, and of all numbers of a list. Assumes nothing.
+use Prim.Native.Nat.{ℕ}
 use native.Mathlib.Omega.{arith}
 use mathlib.Core.Path.{◌≡◌, refl, ap, ◌∙◌}
 use mathlib.Core.Bool.{Bool, true, false, not}
 use mathlib.Core.List.{List}
-use lib.ListN.{get_or}
+use lib.ListN.{length, get_or}
 use denote.Param.Members.{Mut}
 use borrow.Author.Tests.{not-true}
 use Rattle.std.specs.declared.ops.Range.{Range}
@@ -21,23 +21,24 @@ use Rattle.std.proofs.lemmas.List.Folds.{list_all_at}
 use Rattle.std.proofs.lemmas.List.FromFn.{get_or-range_with_len, length-range_with_len}
 use Rattle.std.proofs.lemmas.List.Sums.{list_all-from_AllPass}
 use Rattle.lists.specs.Tables.{every}
-use Rattle.lists.proofs.Tables.{Passes, every_at, every_fails}
+use Rattle.lists.proofs.Tables.{Passes, every_at, every_fails, every_same}
 
--- the library's words for such a test, and this project's
-list_all-range : (t : ℕ → Bool) (n : ℕ) → list_all t (range_with_len 0 n) ≡ every n t
-list_all-range t n = go (every n t) refl
+-- a test of all n numbers of a list, in the library's words and in this project's
+pub list_all-places : (t : ℕ → Bool) (xs : List ℕ) (n : ℕ) → length xs ≡ n → list_all t xs ≡ every n (λ k. t (get_or xs k 0))
+list_all-places t xs n long = go (every n (λ k. t (get_or xs k 0))) refl
   where
-    there : (i : ℕ) → i < n → t (get_or (range_with_len 0 n) i 0) ≡ t i
-    there i h = ap t (omega (arith, get_or-range_with_len 0 n i 0 h))
+    fails : Passes n (λ k. not (t (get_or xs k 0))) → list_all t xs ≡ false
+    fails z = list_all_at t xs z.at 0 (omega (arith, long, z.below)) (not-true _ z.passes)
 
-    fails : Passes n (λ i. not (t i)) → list_all t (range_with_len 0 n) ≡ false
-    fails z = let h : z.at < n = z.below in list_all_at t (range_with_len 0 n) z.at 0 (omega (arith, length-range_with_len 0 n)) (there z.at h ∙ not-true _ z.passes)
+    go : (b : Bool) → every n (λ k. t (get_or xs k 0)) ≡ b → list_all t xs ≡ b
+    go true e = list_all-from_AllPass t xs (All-from_get_or (λ x. t x ≡ true) xs 0 (λ i h. every_at n (λ k. t (get_or xs k 0)) i e (omega (arith, long))))
+    go false e = fails (every_fails n (λ k. t (get_or xs k 0)) e)
 
-    go : (b : Bool) → every n t ≡ b → list_all t (range_with_len 0 n) ≡ b
-    go true e =
-        list_all-from_AllPass t (range_with_len 0 n)
-        (All-from_get_or (λ x. t x ≡ true) (range_with_len 0 n) 0 (λ i l. let h : i < n = omega (arith, length-range_with_len 0 n) in there i h ∙ every_at n t i e h))
-    go false e = fails (every_fails n t e)
+-- and of the numbers below n
+list_all-range : (t : ℕ → Bool) (n : ℕ) → list_all t (range_with_len 0 n) ≡ every n t
+list_all-range t n =
+    list_all-places t (range_with_len 0 n) n (length-range_with_len 0 n)
+    ∙ every_same n (λ k. t (get_or (range_with_len 0 n) k 0)) t (λ i h. ap t (omega (arith, get_or-range_with_len 0 n i 0 h)))
 
 -- what `(0..n).all(f)` answers, where a call of f answers as the test t does
 pub every_from_all : {F : Type 0} {g : Mut F (ℕ × Unit {0}) Bool} {f : F} {u : Range ℕ} {r : Bool} (n : ℕ) (t : ℕ → Bool)
