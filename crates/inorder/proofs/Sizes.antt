@@ -1,11 +1,13 @@
 -- What `in_order` leaves to show: an area of another size is not in order, and in areas of the fixed sizes the tests on places decide.
 -- Assumes nothing.
 use Prim.Native.Nat.{ℕ}
-use mathlib.Core.Path.{◌≡◌, refl, ◌∙◌}
-use mathlib.Core.Bool.{Bool, true, false, ◌&&◌}
+use mathlib.Core.Path.{◌≡◌, refl, sym, ◌∙◌}
+use mathlib.Core.Bool.{Bool, true, false, ◌&&◌, false≢true}
 use mathlib.Core.List.{List}
 use lib.ListN.{length}
-use borrow.Author.Rules.{rules}
+use lib.Dec.{eqb}
+use borrow.Author.Tests.{eqb-true, eq-eqb}
+use Rattle.lists.proofs.Conditions.{and_left, and_right}
 use Rattle.limits.specs.inner.Sizes.{clock_area, mark_area, record_area, word_area}
 use Rattle.rules.specs.InOrder.{is_in_order}
 use Rattle.rules.specs.State.{mainframe}
@@ -16,6 +18,19 @@ use Rattle.inorder.specs.Areas.{areas_in_order}
 use Rattle.inorder.specs.inner.Tests.{areas_hold}
 use Rattle.inorder.proofs.OrderWhen.{areas_hold_in_order}
 
+-- the sizes tested one after the other
+lent : (c w r m : List ℕ) → (eqb (length c) clock_area && eqb (length w) word_area && eqb (length r) record_area && eqb (length m) mark_area) ≡ true → Lent c w r m
+lent c w r m e =
+    let three = and_left (eqb (length c) clock_area && eqb (length w) word_area && eqb (length r) record_area) _ e in
+    let two = and_left (eqb (length c) clock_area && eqb (length w) word_area) _ three in
+    record {
+      clocks = eqb-true _ _ (and_left (eqb (length c) clock_area) _ two);
+      words = eqb-true _ _ (and_right (eqb (length c) clock_area) _ two);
+      records = eqb-true _ _ (and_right (eqb (length c) clock_area && eqb (length w) word_area) _ three);
+      marks = eqb-true _ _ (and_right (eqb (length c) clock_area && eqb (length w) word_area && eqb (length r) record_area) _ e);
+    }
+
+-- an area of another size is not in order
 wrong_size : (c w r m : List ℕ) → (Lent c w r m → ⊥) → false ≡ areas_in_order c w r m
 unfolding areas_in_order
 wrong_size c w r m h = go (sizes_right mainframe c w r m) refl
@@ -24,28 +39,14 @@ wrong_size c w r m h = go (sizes_right mainframe c w r m) refl
     go true e = absurd (h (right_lent c w r m e))
     go false e = refl
 
-module _ (c w r m : List ℕ) where
-  -- clocks of another size
-  pub clocks_of_other_size : (length c ≡ clock_area → ⊥) → false ≡ areas_in_order c w r m
-  clocks_of_other_size h = wrong_size c w r m (λ p. h p.clocks)
+-- in areas of the fixed sizes the tests on places decide
+pub order_is : (c w r m : List ℕ)
+    → areas_in_order c w r m ≡ (eqb (length c) clock_area && eqb (length w) word_area && eqb (length r) record_area && eqb (length m) mark_area && areas_hold c w r m)
+order_is c w r m = go (eqb (length c) clock_area && eqb (length w) word_area && eqb (length r) record_area && eqb (length m) mark_area) refl
+  where
+    fit : Lent c w r m → (eqb (length c) clock_area && eqb (length w) word_area && eqb (length r) record_area && eqb (length m) mark_area) ≡ true
+    fit p = rw (eq-eqb _ _ p.clocks, eq-eqb _ _ p.words, eq-eqb _ _ p.records, eq-eqb _ _ p.marks)
 
-  -- words
-  pub words_of_other_size : (length w ≡ word_area → ⊥) → false ≡ areas_in_order c w r m
-  words_of_other_size h = wrong_size c w r m (λ p. h p.words)
-
-  pub records_of_other_size : (length r ≡ record_area → ⊥) → false ≡ areas_in_order c w r m
-  records_of_other_size h = wrong_size c w r m (λ p. h p.records)
-
-  -- marks
-  pub marks_of_other_size : (length m ≡ mark_area → ⊥) → false ≡ areas_in_order c w r m
-  marks_of_other_size h = wrong_size c w r m (λ p. h p.marks)
-
-  -- all four of the fixed sizes
-  pub fixed_sizes : length c ≡ clock_area → length w ≡ word_area → length r ≡ record_area → length m ≡ mark_area → Lent c w r m
-  fixed_sizes a b d e = record { clocks = a; words = b; records = d; marks = e }
-
-  -- there the tests on places decide
-  pub places_decide : (t : Bool) → length c ≡ clock_area → length w ≡ word_area → length r ≡ record_area → length m ≡ mark_area → t ≡ areas_hold c w r m → t ≡ areas_in_order c w r m
-  places_decide t a b d e h = h ∙ areas_hold_in_order c w r m (fixed_sizes a b d e)
-
-pub ruleset order_checked = (clocks_of_other_size, words_of_other_size, records_of_other_size, marks_of_other_size, fixed_sizes, places_decide, rules)
+    go : (b : Bool) → (eqb (length c) clock_area && eqb (length w) word_area && eqb (length r) record_area && eqb (length m) mark_area) ≡ b → areas_in_order c w r m ≡ (b && areas_hold c w r m)
+    go true e = sym (areas_hold_in_order c w r m (lent c w r m e))
+    go false e = sym (wrong_size c w r m (λ p. false≢true (sym e ∙ fit p)))

@@ -1,2 +1,2 @@
-pub mod RecordTests
 pub mod Notices
+pub mod Chains
