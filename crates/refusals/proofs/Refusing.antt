@@ -2,6 +2,9 @@
 use Rattle.std.proofs.Common.{◌≡◌, ℕ, Bool, true, false, cond, not, ◌&&◌, ◌||◌, eqb, ltb, List, sym, refl, ap, ◌∙◌, arith, rules}
 use mathlib.Core.Bool.{and-eq-true_iff}
 use borrow.Author.Tests.{not-true, not-false}
+use Rattle.limits.specs.Refused.{number_of}
+use Rattle.limits.specs.declared.Refusal.{Refusal}
+use Rattle.limits.specs.declared.Refusal.TheVariants.{NotInOrder, BadOpening, UnknownKind, AbsentProcessor, BadField, HasArrived, HoldsAlready, NotHolder, NoIntervalLeft, NoRecordLeft, BadLength, BadPair, NoRoom, BadPage, EndsShort, TooManySteps, Waits, ArrivesHolding, QueueFull, QueueEmpty}
 use Rattle.rules.specs.InOrder.{present, present_holder, dirty_pages}
 use Rattle.rules.specs.Lines.{waits}
 use Rattle.rules.specs.Refusals.{Step, step_of, Action, Read, Write, Acquire, Release, Arrive, Want, TallyAdd, TallyRead, Enqueue, Dequeue, Unknown, action_of, known_kind, object_bound, uses_value, fits, holds_any, late_refusal, refusal_by, refusal_in_order}
@@ -18,6 +21,29 @@ use Rattle.refusals.proofs.Counting.{counting_begins, counting_more, counting_en
 use Rattle.refusals.proofs.ByKind.{words_fit, word_there, lock_there, page_of_word_lem, counted_of_write, dirty_takes_stores, no_interval_left, no_room_left, write_has_space, write_has_ample_space, held_begins, held_more, held_ends}
 use Rattle.refusals.proofs.LateRows.{write_of_kind, write_decides, lock_of_acquire, lock_of_release, holder_asks, other_asks, holder_releases, other_releases, holder_arrives, other_arrives, queue_full, queue_has_place, queue_empty, queue_has_job}
 use Rattle.refusals.proofs.Fitting.{object_bound_there, value_bound_there, fields_flagged, processor_place, arrived_place_there, awaited_place_there, marks_flagged, processor_flagged, fits_by_flags, bounds_long}
+
+-- no refusal has the number 0
+pub refusal_not_0 : (r : Refusal) → number_of r ≡ 0 → ⊥
+refusal_not_0 NotInOrder e = omega arith
+refusal_not_0 BadOpening e = omega arith
+refusal_not_0 UnknownKind e = omega arith
+refusal_not_0 AbsentProcessor e = omega arith
+refusal_not_0 BadField e = omega arith
+refusal_not_0 HasArrived e = omega arith
+refusal_not_0 HoldsAlready e = omega arith
+refusal_not_0 NotHolder e = omega arith
+refusal_not_0 NoIntervalLeft e = omega arith
+refusal_not_0 NoRecordLeft e = omega arith
+refusal_not_0 BadLength e = omega arith
+refusal_not_0 BadPair e = omega arith
+refusal_not_0 NoRoom e = omega arith
+refusal_not_0 BadPage e = omega arith
+refusal_not_0 EndsShort e = omega arith
+refusal_not_0 TooManySteps e = omega arith
+refusal_not_0 Waits e = omega arith
+refusal_not_0 ArrivesHolding e = omega arith
+refusal_not_0 QueueFull e = omega arith
+refusal_not_0 QueueEmpty e = omega arith
 
 -- ---- the rows 3 to 6 and 17, one after the other
 
