@@ -14,7 +14,6 @@ use Rattle.lines.specs.Lines.{line_bytes}
 use Rattle.lines.specs.inner.Needed.{Put, field_bytes, half_bytes, Counted, ShortFits, behind_number}
 use Rattle.lines.proofs.Digits.{digits_one, some_digit}
 use Rattle.lines.proofs.Lines.{length_line}
-use Rattle.lines.proofs.Writing.{copied, put_keeps_length, sets_keep_length}
 
 -- ---- the line
 
@@ -91,4 +90,4 @@ module _ (out : List ℕ) (at : ℕ) (d : List ℕ) (len n : ℕ) (q : Counted d
         ∙ ap (λ (l : List ℕ). sets out at (l ++ rest)) q.said
         ∙ ap (λ (l : List ℕ). sets out at l) (line_is_number_and_rest n refusal value count)
 
-pub ruleset counted_laws = (copied, behind_put, short_put, short_is_behind, counted_line_end, counted_line_stored, rules)
+pub ruleset counted_laws = (behind_put, short_put, short_is_behind, counted_line_end, counted_line_stored, rules)

@@ -2,9 +2,10 @@
 use Prim.Native.Nat.{ℕ, ◌+◌, ◌-◌, ◌/◌, ◌%◌, ◌≤◌, ◌<◌}
 use native.Mathlib.Omega.{arith}
 use mathlib.Core.Path.{◌≡◌, refl, sym, ap, ◌∙◌}
-use mathlib.Core.List.{List, [], ◌∷◌, ◌++◌}
+use mathlib.Core.List.{List, [], ◌∷◌, ◌++◌, append_assoc}
 use lib.ListN.{length, set, length-append, length-set}
-use lib.Seq.{sets}
+use borrow.Rule.Slice.PartMut.{put_mid}
+use lib.Seq.{drop-drop, sets-eq, sets}
 use mir.Syntax.{w64}
 use mir.Val.{Fits}
 use borrow.Author.Rules.{rules}
@@ -13,7 +14,7 @@ use Rattle.lines.specs.Decimal.{digits}
 use Rattle.lines.specs.Lines.{words_line, most_line}
 use Rattle.lines.specs.inner.Needed.{field_bytes}
 use Rattle.lines.proofs.Digits.{digits_one, digits_more, length_more, some_digit, at_most_twenty_digits}
-use Rattle.lines.proofs.Writing.{copied, Storing, room_for_first_digit, first_digit_stored, sets_keep_length}
+use Rattle.lines.proofs.Writing.{Storing, room_for_first_digit, first_digit_stored, sets_keep_length}
 
 -- ---- how many digits
 
@@ -84,6 +85,10 @@ module _ (out : List ℕ) (at total len : ℕ) (e : len ≡ length (digits total
       ∙ sym (sets_append out at (digits total) (10 ∷ []))
 
 -- ---- a text, and a total behind it
+
+-- bytes copied over as many from a place on are stored there
+pub copied : (out : List ℕ) (at k : ℕ) (vs ys : List ℕ) → ys ≡ vs → k ≡ length vs → at + length vs ≤ length out → put_mid at k out ys ≡ sets out at vs
+copied out at k vs ys e n h = rw (e, n, drop-drop (length vs) at out, sets-eq vs out at h, append_assoc)
 
 pub text_line_stored : (out out₁ out₂ : List ℕ) (at : ℕ) (text : List ℕ) (total : ℕ) → out₁ ≡ sets out at text → out₂ ≡ sets out₁ (at + length text) (field_bytes total 10)
     → out₂ ≡ sets out at (text ++ field_bytes total 10)

@@ -3,10 +3,9 @@ use Prim.Native.Nat.{ℕ, ◌+◌, ◌-◌, ◌*◌, ◌/◌, ◌%◌, ◌≤◌
 use native.Mathlib.Numerals.{add-one}
 use native.Mathlib.Omega.{arith}
 use mathlib.Core.Path.{◌≡◌, sym, ap, ◌∙◌}
-use mathlib.Core.List.{List, [], ◌∷◌, ◌++◌, append_assoc}
+use mathlib.Core.List.{List, [], ◌∷◌, ◌++◌}
 use lib.ListN.{length, set, length-append}
-use borrow.Rule.Slice.PartMut.{put_mid}
-use lib.Seq.{drop-drop, sets, sets-eq, length-sets}
+use lib.Seq.{sets, length-sets}
 use mir.Syntax.{w32}
 use mir.Val.{Fits}
 use borrow.Author.Rules.{rules}
@@ -46,12 +45,6 @@ module _ (n : ℕ) where
 
     pub width_short : Fits w32 n → 100000000 ≤ n → r ≡ length (digits (n / 100000000)) → 8 + r ≤ 10
     width_short p h e = omega (arith, width_above_eight h e, at_most_ten_digits n p.fits)
-
--- ---- bytes copied
-
--- bytes copied over as many from a place on are stored there
-pub copied : (out : List ℕ) (at k : ℕ) (vs ys : List ℕ) → ys ≡ vs → k ≡ length vs → at + length vs ≤ length out → put_mid at k out ys ≡ sets out at vs
-copied out at k vs ys e n h = rw (e, n, drop-drop (length vs) at out, sets-eq vs out at h, append_assoc)
 
 -- ---- the digits of a number
 

@@ -7,7 +7,7 @@ ghost use Rattle.std.proofs.lemmas.List.Edits.{sets};
 ghost use Rattle.limits.specs.Files.{line_limit};
 ghost use Rattle.lines.specs.Decimal.{digits};
 ghost use Rattle.lines.specs.Lines.{line_bytes, words_line, most_line, line_fits, line_answer, place_said, line_left};
-ghost use Rattle.lines.specs.inner.Needed.{Room, DigitsFit, PairFits, Put, digit_pair, field_bytes, half_bytes, Eight, Counted, Countable, EightFit, ShortFits, behind_number};
+ghost use Rattle.lines.specs.inner.Needed.{Room, DigitsFit, PairFits, Put, digit_pair, field_bytes, half_bytes, Eight, Counted, Countable, ShortFits, behind_number};
 
 use limits::LINE_LIMIT;
 
@@ -73,17 +73,8 @@ pub fn put_counted(
     ensures value { result ≡ at + length (line_bytes number refusal value count) }
     ensures out_after { out.new ≡ sets out.old at (line_bytes number refusal value count) }
 {
-    put_eight(out, at, digits);
+    put_text(out, at, &digits);
     put_behind(out, at + len, refusal, value, count)
-}
-
-// Writes eight bytes from a place on.
-#[tactic(auto, using(crate::proofs::CountedLines::counted_laws))]
-fn put_eight(out: &mut [u8], at: usize, digits: [u8; 8])
-    requires { EightFit out.old at digits }
-    ensures { out.new ≡ sets out.old at digits }
-{
-    out[at..at + 8].copy_from_slice(&digits);
 }
 
 // Writes what stands behind the number of a line, and says the place behind it. Most lines have the value 0, the count 0 and a
@@ -107,7 +98,7 @@ fn put_short(out: &mut [u8], at: usize, refusal: u32) -> usize
     ensures { Put out.old at (behind_number refusal 0 0) 7 out.new result }
 {
     let digit = b'0' + refusal as u8;
-    out[at..at + 7].copy_from_slice(&[b' ', digit, b' ', b'0', b' ', b'0', b'\n']);
+    put_text(out, at, &[b' ', digit, b' ', b'0', b' ', b'0', b'\n']);
     at + 7
 }
 
