@@ -1,0 +1,11 @@
+use Rattle.lines.proofs.Writing.{line_laws}
+use Rattle.lines.proofs.put_digits.Goals as goal
+
+pub put_pair-requires : goal.put_pair-requires
+put_pair-requires c = search line_laws
+
+pub loop-rest-preserved : goal.loop-rest-preserved
+loop-rest-preserved c = search line_laws
+
+pub returns-else-rest-lt10 : goal.returns-else-rest-lt10
+returns-else-rest-lt10 c = search line_laws
