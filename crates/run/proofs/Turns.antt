@@ -1,6 +1,5 @@
 -- From turn to turn: what `run_loop` promises of a read and of a write keeps what holds. `turn_laws`. Assumes nothing.
 use Prim.Native.Nat.{ℕ, ◌+◌, ◌-◌, min}
-use native.Mathlib.Omega.{arith}
 use mathlib.Core.Path.{◌≡◌, sym, ◌∙◌}
 use mathlib.Core.Bool.{Bool, true, false, cond}
 use mathlib.Core.List.{List, [], ◌++◌}
@@ -9,6 +8,7 @@ use lib.Dec.{eqb}
 use lib.IntN.{ℤ, pos}
 use lib.Signed.{lt_z}
 use borrow.Author.Rules.{rules}
+use Rattle.std.specs.Prelude.{Some}
 use Rattle.layout.specs.Areas.{areas, right_sizes}
 use Rattle.layout.proofs.Encoding.{lent_right}
 use Rattle.run_loop.specs.Promises.{Begins, GotAs, NextIs, PutAs, failed_run, bytes_moved, pending, put_run, wrote_run}
@@ -22,8 +22,8 @@ use Rattle.run.specs.inner.Going.{Ample, Underway, Keeps, Possible, ReadsNext}
 -- ---- faults
 
 -- a failed write is no chunk that was not fed
-writing_possible : Possible Writing
-writing_possible = record { fed = λ e. let z : ◌≡◌ {A = ℕ} 0 1 = cc in omega arith }
+writing_possible : Possible (Some Writing)
+writing_possible = record { fed = λ e. cc }
 
 pub going_possible : (s : Run) (chunk out c w r m : List ℕ) → Underway s chunk out c w r m → Possible s.fault
 going_possible s chunk out c w r m g = g.possible
@@ -39,7 +39,7 @@ going_begins s chunk out c w r m b z =
       read = [];
       written = [];
       runs = b.runs (areas c w r m) out (lent_right c w r m z.lent);
-      possible = record { fed = λ e. let y : ◌≡◌ {A = ℕ} 0 1 = cc (reads_faultless s b.reads, e) in omega arith };
+      possible = record { fed = λ e. cc (reads_faultless s b.reads, e) };
     }
 
 -- ---- a read
@@ -85,13 +85,13 @@ put_possible s put again out p = go (lt_z put (pos 0)) again (eqb (length (bytes
   where
     after : Bool → Bool → Bool → Run
     after b d n =
-        cond b (cond d s (record { progress = s.progress; from = s.from; to = s.to; ended = s.ended; fault = Writing }))
+        cond b (cond d s (record { progress = s.progress; from = s.from; to = s.to; ended = s.ended; fault = Some Writing }))
         (record {
           progress = s.progress;
           from = s.from + min (length (bytes_moved put (pending s out))) (s.to - s.from);
           to = s.to;
           ended = s.ended;
-          fault = cond n Writing s.fault;
+          fault = cond n (Some Writing) s.fault;
         })
 
     go : (b d n : Bool) → Possible (after b d n).fault

@@ -10,6 +10,7 @@ use lib.IntN.{ℤ, pos, negsuc}
 use lib.Signed.{lt_z}
 use borrow.Author.Tests.{ltb-true}
 use borrow.Author.Rules.{rules}
+use Rattle.std.specs.Prelude.{Some, None}
 use mir.Syntax.{w64}
 use mir.Val.{SFits, of_z, to_z}
 use mir.ValLaws.{to_z-of_z}
@@ -20,12 +21,12 @@ use Rattle.io.specs.Counts.{clamp_len}
 use Rattle.run_loop.specs.Promises.{GotAs, PutAs, failed_run, got_areas, got_lines, got_run, bytes_moved, pending, put_run, read_areas, read_lines, read_run, wrote_run}
 use Rattle.run_loop.specs.inner.Needed.{FailedAs, ReadAs, WroteAs}
 use Rattle.run_loop.specs.declared.Run.{Run}
-use Rattle.run_loop.specs.declared.Fault.TheVariants.{Nothing, Reading, Writing, NotFed}
+use Rattle.run_loop.specs.declared.Fault.TheVariants.{Reading, Writing, NotFed}
 use Rattle.run_loop.proofs.Coming.{reads_faultless}
 
--- ---- the bytes that were bytesMoved
+-- ---- the bytes that were moved
 
--- a call that failed bytesMoved none
+-- a call that failed moved none
 none_moved : (z : ℤ) (bytes : List ℕ) → lt_z z (pos 0) ≡ true → bytes_moved z bytes ≡ []
 unfolding bytes_moved
 none_moved (pos n) bytes e = absurd (below_none n e)
@@ -68,7 +69,7 @@ module _ (s : Run) (got : ℤ) (again : Bool) (chunk out : List ℕ) (a : Areas)
       bad : lt_z got (pos 0) ≡ true
       bad = sym asked ∙ y
 
-      possible : (d : Bool) → s.fault ≡ Nothing → s' ≡ failed_run s Reading d → s'.fault ≡ NotFed → ⊥
+      possible : (d : Bool) → s.fault ≡ None → s' ≡ failed_run s Reading d → s'.fault ≡ Some NotFed → ⊥
       possible true n r z = let y : ◌≡◌ {A = ℕ} 0 1 = cc (ap (λ (x : Run). x.fault) r) in omega arith
       possible false n r z = let y : ◌≡◌ {A = ℕ} 0 1 = cc (ap (λ (x : Run). x.fault) r) in omega arith
 

@@ -1,6 +1,6 @@
 -- The run program between its reads and writes: what it does next, and that the bytes handed to write, in order, are the lines of the file for
 -- what was read. Assumes nothing.
-use Rattle.std.specs.Prelude.{ℕ, ◌+◌, ◌-◌, ◌/◌, ◌<◌, ◌≤◌, min, ◌≡◌, Bool, true, false, cond, ◌||◌, List, [], ◌++◌, length, take, drop, ltb, eqb, ℤ, pos, negsuc}
+use Rattle.std.specs.Prelude.{ℕ, ◌+◌, ◌-◌, ◌/◌, ◌<◌, ◌≤◌, min, ◌≡◌, Bool, true, false, cond, ◌||◌, List, [], ◌++◌, length, take, drop, ltb, eqb, ℤ, pos, negsuc, Some, None, is_some}
 use Rattle.std.specs.Int.Signed.{lt_z}
 use Rattle.limits.specs.Files.{file_record_width, line_limit}
 use Rattle.layout.specs.Areas.{Areas, right_sizes}
@@ -9,19 +9,12 @@ use Rattle.stepfile.specs.Feeding.{after}
 use Rattle.stepfile.specs.Promises.{Reached, feed_answer, feed_lines, feed_areas, finish_answer, finish_lines}
 use Rattle.stepfile.specs.declared.Taken.{Taken}
 use Rattle.run_loop.specs.declared.Fault.{Fault}
-use Rattle.run_loop.specs.declared.Fault.TheVariants.{Nothing, Reading, Writing, NotFed}
+use Rattle.run_loop.specs.declared.Fault.TheVariants.{Reading, Writing, NotFed}
 use Rattle.run_loop.specs.declared.Action.{Action}
 use Rattle.run_loop.specs.declared.Action.TheVariants.{Read, Write, Stop}
 use Rattle.run_loop.specs.declared.Run.{Run}
 
 -- ---- what comes next
-
--- whether nothing went wrong
-abbrev pub is_nothing : Fault → Bool
-is_nothing Nothing = true
-is_nothing Reading = false
-is_nothing Writing = false
-is_nothing NotFed = false
 
 -- whether to read
 abbrev pub is_reading : Action → Bool
@@ -32,10 +25,9 @@ is_reading Stop = false
 -- after a fault nothing; else the lines that are left are written, then bytes are read; "After 2, 15 or 16 it stops"
 unfoldable pub next_action : Run → Action
 next_action s =
-    cond (is_nothing s.fault)
+    cond (is_some s.fault) Stop
     (cond (ltb s.from s.to) Write
     (cond (s.ended || s.progress.stopped) Stop Read))
-    Stop
 
 -- the lines that are made and not yet written, among the bytes lent for lines
 unfoldable pub pending : Run → List ℕ → List ℕ
@@ -43,11 +35,11 @@ pending s out = take (s.to - s.from) (drop s.from out)
 
 -- ---- what was read and what was written
 
--- the lines linesDue for the bytes read: those of the whole file once the input has ended
+-- the lines due for the bytes read: those of the whole file once the input has ended
 unfoldable pub lines_due : Areas → List ℕ → Bool → List ℕ
 lines_due a₀ read ended = cond ended (file_lines read) (after a₀ read).lines
 
--- from areas a₀ on these bytes have been read and those have been written: what was written and what is left to be written are the lines linesDue
+-- from areas a₀ on these bytes have been read and those have been written: what was written and what is left to be written are the lines due
 pub record Runs (a₀ : Areas) (read written : List ℕ) (s : Run) (out : List ℕ) (a : Areas) : Type 0 where
   pub sizes : right_sizes a₀ ≡ true
   pub reached : Reached a₀ read s.progress a
@@ -57,23 +49,23 @@ pub record Runs (a₀ : Areas) (read written : List ℕ) (s : Run) (out : List �
 
 -- ---- the promises
 
--- what `start` promises: nothing has been read or written, and reading comes next
+-- what `begin` promises: nothing has been read or written, and reading comes next
 pub record Begins (s : Run) : Type 0 where
   pub runs : (a₀ : Areas) (out : List ℕ) → right_sizes a₀ ≡ true → Runs a₀ [] [] s out a₀
   pub reads : next_action s ≡ Read
 
--- what `next` promises: without a fault the program stops only where all lines are written: of the whole file where the input has ended, and
+-- what `next_action` promises: without a fault the program stops only where all lines are written: of the whole file where the input has ended, and
 -- where the run has stopped, whatever bytes follow that were not read
 pub record NextIs (s : Run) (x : Action) : Type 0 where
   pub is : x ≡ next_action s
-  pub all : (a₀ : Areas) (read rest written out : List ℕ) (a : Areas) → x ≡ Stop → is_nothing s.fault ≡ true → Runs a₀ read written s out a
+  pub all : (a₀ : Areas) (read rest written out : List ℕ) (a : Areas) → x ≡ Stop → s.fault ≡ None → Runs a₀ read written s out a
       → (s.ended ≡ true → rest ≡ []) → written ≡ file_lines (read ++ rest)
 
 -- where the run stands after an answer of stepfile's; a chunk that was not fed is a fault
 unfoldable pub taken_run : Run → Taken → Bool → Run
 taken_run s t ended =
-    cond t.fed (record { progress = t.progress; from = 0; to = t.written; ended = ended; fault = Nothing })
-    (record { progress = s.progress; from = s.from; to = s.to; ended = s.ended; fault = NotFed })
+    cond t.fed (record { progress = t.progress; from = 0; to = t.written; ended = ended; fault = None })
+    (record { progress = s.progress; from = s.from; to = s.to; ended = s.ended; fault = Some NotFed })
 
 -- where it stands after bytes that were read, none at the end of the input; a run that is not to read is left as it is
 unfoldable pub read_run : Run → List ℕ → ℕ → Areas → Run
@@ -99,17 +91,17 @@ wrote_run s n =
       from = s.from + min n (s.to - s.from);
       to = s.to;
       ended = s.ended;
-      fault = cond (eqb n 0) Writing s.fault;
+      fault = cond (eqb n 0) (Some Writing) s.fault;
     }
 
 -- where it stands after a read or a write that failed; where it is made again nothing changes
 unfoldable pub failed_run : Run → Fault → Bool → Run
 failed_run s f again =
-    cond again s (record { progress = s.progress; from = s.from; to = s.to; ended = s.ended; fault = f })
+    cond again s (record { progress = s.progress; from = s.from; to = s.to; ended = s.ended; fault = Some f })
 
 -- ---- what a call of C's answered
 
--- the bytes that a read or a write bytesMoved, of those it was handed: none where it answered a number below 0, since it failed
+-- the bytes that a read or a write moved, of those it was handed: none where it answered a number below 0, since it failed
 unfoldable pub bytes_moved : ℤ → List ℕ → List ℕ
 bytes_moved (pos n) bytes = take n bytes
 bytes_moved (negsuc n) bytes = []
@@ -133,7 +125,7 @@ pub record GotAs (s : Run) (got : ℤ) (again : Bool) (chunk out : List ℕ) (a 
   pub areas : a' ≡ got_areas s got chunk (length out) a
   -- with room for the lines of a whole chunk every chunk is fed, ..
   pub fed : (a₀ : Areas) (read written : List ℕ) → next_action s ≡ Read → length chunk / file_record_width < length out / line_limit → Runs a₀ read written s out a
-      → s'.fault ≡ NotFed → ⊥
+      → s'.fault ≡ Some NotFed → ⊥
   -- .. and its bytes stand behind those read before
   pub runs : (a₀ : Areas) (read written : List ℕ) → next_action s ≡ Read → length chunk / file_record_width < length out / line_limit → Runs a₀ read written s out a
       → Runs a₀ (read ++ bytes_moved got chunk) written s' out' a'

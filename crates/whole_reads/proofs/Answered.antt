@@ -1,10 +1,10 @@
 -- After a read or a write has answered. One law for each way of the code, and `answered_laws`. Rests on Filling. Assumes nothing.
-use Prim.Native.Nat.{ℕ, ◌+◌, ◌-◌, ◌^◌, ◌<◌, ◌≤◌}
+use Prim.Native.Nat.{ℕ, ◌-◌, ◌≤◌}
 use native.Mathlib.Omega.{arith}
 use mathlib.Core.Path.{◌≡◌, refl, sym, ap, ◌∙◌}
 use mathlib.Core.Bool.{Bool, true, false, false≢true}
 use mathlib.Core.List.{List, [], append-nil}
-use lib.ListN.{length, take, drop, length-take, length-drop}
+use lib.ListN.{length, take, drop, length-take}
 use lib.Seq.{length-take-le}
 use lib.IntN.{ℤ, pos, negsuc}
 use lib.Signed.{lt_z}
@@ -60,10 +60,6 @@ module _ (z : ℤ) (b : Bool) (fits : SFits w64 z) (e : b ≡ lt_z (to_z w64 (of
 
 -- ---- a read
 
--- the bytes that stand in the buffer and those that came can be counted
-pub fill_fits : (f : Flow) (buffer part : List ℕ) (n : ℕ) → part ≡ drop f.have buffer → n ≤ length part → length buffer < 2 ^ 64 → f.have < 2 ^ 64 → f.have + n < 2 ^ 64
-fill_fits f buffer part n p l s h = omega (arith, ap length p, length-drop f.have buffer)
-
 module _ (f : Flow) (got : ℤ) (again : Bool) (buffer : List ℕ) (b : Bool) (fits : SFits w64 got) (e : b ≡ lt_z (to_z w64 (of_z w64 got)) (pos 0)) where
   pub got_failed : (f' : Flow) → b ≡ true → FailureNoted f Reading again f' → ReadNoted f got again buffer f'
   unfolding got_flow
@@ -118,4 +114,4 @@ module _ (f : Flow) (put : ℤ) (again : Bool) (out : List ℕ) (b : Bool) (fits
       m : Moves put (left_to_write f out) n
       m = moves put b fits e y part (left_to_write f out) n p c l
 
-pub ruleset answered_laws = (fill_fits, got_failed, got_some, write_within, put_failed, put_some, rules)
+pub ruleset answered_laws = (write_within, got_failed, got_some, put_failed, put_some, rules)

@@ -10,7 +10,8 @@ use lib.Seq.{length-take-le, take_at}
 use lib.IntN.{ℤ, pos}
 use lib.Signed.{lt_z}
 use borrow.Author.Rules.{rules}
-use Rattle.whole_reads.specs.Promises.{FlowBegins, ReadNoted, NextAs, WriteNoted, TakeNoted, comes_next, failed_flow, filled_flow, got_flow, is_fine, left_to_write, moved_bytes, put_flow, taken_flow, wrote_flow}
+use Rattle.std.specs.Prelude.{None}
+use Rattle.whole_reads.specs.Promises.{FlowBegins, ReadNoted, NextAs, WriteNoted, TakeNoted, comes_next, failed_flow, filled_flow, got_flow, left_to_write, moved_bytes, put_flow, taken_flow, wrote_flow}
 use Rattle.whole_reads.specs.inner.Going.{FlowGoing, InputKept, ReadOn, Standing, Takes, TakesNext, WroteOn}
 use Rattle.whole_reads.specs.declared.Flow.{Flow}
 use Rattle.whole_reads.specs.declared.Failure.{Failure}
@@ -144,7 +145,7 @@ going_took S S' f n done buffer out f' out' h t l s =
 -- ---- the end
 
 -- where nothing is left to do and nothing went wrong, all that was read is taken, and all lines made of it are written
-pub going_through : (S : Standing) (f : Flow) (buffer out : List ℕ) → comes_next f (length buffer) ≡ Stop → is_fine f.failure ≡ true → (g : FlowGoing S f buffer out)
+pub going_through : (S : Standing) (f : Flow) (buffer out : List ℕ) → comes_next f (length buffer) ≡ Stop → f.failure ≡ None → (g : FlowGoing S f buffer out)
     → S (length buffer) (length out) g.read g.written true f.ended
 going_through S f buffer out e w g = rw (taken, made) at (subst (λ (d : Bool). S (length buffer) (length out) g.taken g.made d (d && f.ended)) o.done g.stands)
   where

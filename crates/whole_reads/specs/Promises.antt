@@ -1,32 +1,25 @@
 -- Reads and writes of a program that takes its input in full buffers: what comes next, and what stands in the buffer and is left to be written after each
 -- call. Bytes are read until the buffer is full or the input has ended; then the program takes all of them, and hands on the lines that it makes of
 -- them; then these are written. Assumes nothing.
-use Rattle.std.specs.Prelude.{ℕ, ◌+◌, ◌-◌, ◌≤◌, min, ◌≡◌, Bool, true, false, cond, ◌||◌, List, [], ◌++◌, length, take, drop, ltb, leb, eqb, ℤ, pos, negsuc}
+use Rattle.std.specs.Prelude.{ℕ, ◌+◌, ◌-◌, ◌≤◌, min, ◌≡◌, Bool, true, cond, ◌||◌, List, [], ◌++◌, length, take, drop, ltb, leb, eqb, ℤ, pos, negsuc, Some, None, is_some}
 use Rattle.std.specs.Int.Signed.{lt_z}
 use Rattle.whole_reads.specs.declared.Failure.{Failure}
-use Rattle.whole_reads.specs.declared.Failure.TheVariants.{Nothing, Reading, Writing}
+use Rattle.whole_reads.specs.declared.Failure.TheVariants.{Reading, Writing}
 use Rattle.whole_reads.specs.declared.Next.{Next}
 use Rattle.whole_reads.specs.declared.Next.TheVariants.{Read, Take, Write, Stop}
 use Rattle.whole_reads.specs.declared.Flow.{Flow}
 
 -- ---- what comes next
 
--- whether nothing went wrong
-abbrev pub is_fine : Failure → Bool
-is_fine Nothing = true
-is_fine Reading = false
-is_fine Writing = false
-
 -- with a buffer of so many bytes: after a failure nothing; else the lines that are left are written; then, unless all is done, bytes are read until the
 -- buffer is full or the input has ended, and are taken
 unfoldable pub comes_next : Flow → ℕ → Next
 comes_next f room =
-    cond (is_fine f.failure)
+    cond (is_some f.failure) Stop
     (cond (ltb f.from f.to) Write
     (cond f.done Stop
     (cond (f.ended || leb room f.have) Take
     Read)))
-    Stop
 
 -- the lines that are made and not yet written, among the bytes lent for lines
 unfoldable pub left_to_write : Flow → List ℕ → List ℕ
@@ -53,7 +46,7 @@ pub record FlowBegins (f : Flow) : Type 0 where
 -- what `what_next` promises: without a failure the program stops only where all is done and every line that was made is written
 pub record NextAs (f : Flow) (room : ℕ) (x : Next) : Type 0 where
   pub is : x ≡ comes_next f room
-  pub all : (read taken made written buffer out : List ℕ) → x ≡ Stop → is_fine f.failure ≡ true → Flows read taken made written f buffer out → (f.done ≡ true) × (written ≡ made)
+  pub all : (read taken made written buffer out : List ℕ) → x ≡ Stop → f.failure ≡ None → Flows read taken made written f buffer out → (f.done ≡ true) × (written ≡ made)
 
 -- the bytes that a read or a write moved, of those it was handed: none where it answered a number below 0, since it failed
 unfoldable pub moved_bytes : ℤ → List ℕ → List ℕ
@@ -62,7 +55,7 @@ moved_bytes (negsuc n) bytes = []
 
 -- where the flow stands after a read or a write that failed; where it is made again nothing changes
 unfoldable pub failed_flow : Flow → Failure → Bool → Flow
-failed_flow f failure again = cond again f (record { have = f.have; ended = f.ended; from = f.from; to = f.to; done = f.done; failure = failure })
+failed_flow f failure again = cond again f (record { have = f.have; ended = f.ended; from = f.from; to = f.to; done = f.done; failure = Some failure })
 
 -- where it stands once n bytes more stand in the buffer; none is the end of the input
 unfoldable pub filled_flow : Flow → ℕ → Flow
@@ -97,7 +90,7 @@ wrote_flow f n =
       from = f.from + min n (f.to - f.from);
       to = f.to;
       done = f.done;
-      failure = cond (eqb n 0) Writing f.failure;
+      failure = cond (eqb n 0) (Some Writing) f.failure;
     }
 
 -- where it stands after a write's answer, which was handed the lines left

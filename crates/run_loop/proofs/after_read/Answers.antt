@@ -1,0 +1,9 @@
+-- The call failed, or moved bytes. Assumes nothing.
+use Rattle.run_loop.proofs.Answered.{answered_laws}
+use Rattle.run_loop.proofs.after_read.Goals as goal
+
+pub returns-then-got-lt0 : goal.returns-then-got-lt0
+returns-then-got-lt0 c = search answered_laws
+
+pub returns-else-got-lt0 : goal.returns-else-got-lt0
+returns-else-got-lt0 c = search answered_laws
