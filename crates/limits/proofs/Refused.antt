@@ -2,10 +2,11 @@
 use Prim.Native.Nat.{ℕ, ◌<◌}
 use native.Mathlib.Omega.{arith}
 use mathlib.Core.Path.{◌≡◌, refl, sym, ap, ◌∙◌}
-use Rattle.std.specs.Prelude.{cond, eqb}
+use borrow.Author.Tests.{ne_eqb}
+use Rattle.std.specs.Prelude.{cond, eqb, Result, Ok, Err, is_ok}
 use Rattle.limits.specs.declared.Refusal.{Refusal}
 use Rattle.limits.specs.declared.Refusal.TheVariants.{NotInOrder, BadOpening, UnknownKind, AbsentProcessor, BadField, HasArrived, HoldsAlready, NotHolder, NoIntervalLeft, NoRecordLeft, BadLength, BadPair, NoRoom, BadPage, EndsShort, TooManySteps, Waits, ArrivesHolding, QueueFull, QueueEmpty}
-use Rattle.limits.specs.Refused.{number_of}
+use Rattle.limits.specs.Refused.{number_of, refusal_in}
 
 -- no refusal has the number 0
 pub number_of_pos : (r : Refusal) → number_of r ≡ 0 → ⊥
@@ -80,3 +81,8 @@ back QueueEmpty = refl
 -- refusals with one number are one
 pub number_of_inj : (r r' : Refusal) → number_of r ≡ number_of r' → r ≡ r'
 number_of_inj r r' e = sym (back r) ∙ ap refused_by e ∙ back r'
+
+-- nothing is refused where the number is 0
+pub ok_is_0 : {T : Type 0} (r : Result T Refusal) → is_ok r ≡ eqb (refusal_in r) 0
+ok_is_0 (Ok x) = refl
+ok_is_0 (Err u) = sym (ne_eqb (number_of u) 0 (number_of_pos u))
