@@ -1,3 +1,4 @@
+pub mod Chains
 pub mod ClockTests
 pub mod WordTests
 pub mod AreaTests

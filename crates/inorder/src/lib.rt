@@ -27,6 +27,15 @@ use limits::{
     WORD_AREA,
 };
 
+// The counts that the marks hold: of present processors, pages and locks, and of the records that stand.
+#[derive(Clone, Copy)]
+struct Counts {
+    processors: usize,
+    pages: usize,
+    locks: usize,
+    standing: usize,
+}
+
 // Whether lent memory is in order: its areas have the fixed sizes, and the state that they hold is in order.
 #[tactic(auto, using(crate::proofs::Sizes::order_is))]
 pub fn in_order(clocks: &[u8], words: &[u32], records: &[u8], marks: &[u8]) -> bool
@@ -140,21 +149,15 @@ fn intervals_hold(clocks: &[u8], own: [u8; CLOCK_WIDTH]) -> bool
 
 // Whether all clocks are in order.
 #[tactic(auto, unfolding(crate::specs::inner::Tests::clocks_hold_with))]
-fn clocks_hold(
-    clocks: &[u8],
-    own: [u8; CLOCK_WIDTH],
-    processors: usize,
-    pages: usize,
-    locks: usize,
-) -> bool
-    requires { ClocksThere clocks.now processors pages locks }
-    ensures { result ≡ clocks_hold_with own clocks.now processors pages locks }
+fn clocks_hold(clocks: &[u8], own: [u8; CLOCK_WIDTH], counts: Counts) -> bool
+    requires { ClocksThere clocks.now counts.processors counts.pages counts.locks }
+    ensures { result ≡ clocks_hold_with own clocks.now counts.processors counts.pages counts.locks }
 {
     own_fit(own)
-        && rows_hold(clocks, own, 0, FIRST_LOCK_ROW, processors + 1)
-        && rows_hold(clocks, own, FIRST_LOCK_ROW, LOCK_LIMIT, locks)
+        && rows_hold(clocks, own, 0, FIRST_LOCK_ROW, counts.processors + 1)
+        && rows_hold(clocks, own, FIRST_LOCK_ROW, LOCK_LIMIT, counts.locks)
         && rows_hold(clocks, own, FIRST_JOB_ROW, JOB_LIMIT, JOB_LIMIT)
-        && applied_hold(clocks, processors, pages)
+        && applied_hold(clocks, counts.processors, counts.pages)
         && intervals_hold(clocks, own)
 }
 
@@ -207,13 +210,13 @@ fn adds_hold(words: &[u32], processors: usize) -> bool
 
 // Whether the counts are in range, and the records that stand have their slots.
 #[tactic(auto, unfolding(crate::specs::inner::Tests::counts_hold))]
-fn counts_hold(processors: usize, pages: usize, locks: usize, standing: usize) -> bool
-    ensures { result ≡ counts_hold processors pages locks standing }
+fn counts_hold(counts: Counts) -> bool
+    ensures { result ≡ counts_hold counts.processors counts.pages counts.locks counts.standing }
 {
-    (1..=PROCESSOR_LIMIT).contains(&processors)
-        && (1..=PAGE_LIMIT).contains(&pages)
-        && (1..=LOCK_LIMIT).contains(&locks)
-        && standing <= RECORD_LIMIT
+    (1..=PROCESSOR_LIMIT).contains(&counts.processors)
+        && (1..=PAGE_LIMIT).contains(&counts.pages)
+        && (1..=LOCK_LIMIT).contains(&counts.locks)
+        && counts.standing <= RECORD_LIMIT
 }
 
 // Whether all four areas are in order, with the own entries and the counts that they hold.
@@ -224,15 +227,18 @@ fn all_hold(
     records: &[u8],
     marks: &[u8],
     own: [u8; CLOCK_WIDTH],
-    processors: usize,
-    pages: usize,
-    locks: usize,
-    standing: usize,
+    counts: Counts,
 ) -> bool
-    requires { AreasThere clocks.now words.now records.now marks.now processors pages locks standing }
-    ensures { result ≡ areas_hold_with own clocks.now words.now records.now marks.now processors pages locks standing }
+    requires { AreasThere clocks.now words.now records.now marks.now counts.processors counts.pages counts.locks counts.standing }
+    ensures { result ≡ areas_hold_with own clocks.now words.now records.now marks.now counts.processors counts.pages counts.locks counts.standing }
 {
-    clocks_hold(clocks, own, processors, pages, locks)
+    let Counts {
+        processors,
+        pages,
+        locks,
+        standing,
+    } = counts;
+    clocks_hold(clocks, own, counts)
         && words_hold(words, 0, processors, pages)
         && words_hold(words, COPY_LIMIT, processors, pages)
         && adds_hold(words, processors)
@@ -246,20 +252,11 @@ fn areas_hold(clocks: &[u8], words: &[u32], records: &[u8], marks: &[u8]) -> boo
     requires { Lent clocks.now words.now records.now marks.now }
     ensures { result ≡ areas_hold clocks.now words.now records.now marks.now }
 {
-    let processors = processor_count(marks);
-    let pages = page_count(marks);
-    let locks = lock_count(marks);
-    let standing = standing_count(marks);
-    counts_hold(processors, pages, locks, standing)
-        && all_hold(
-            clocks,
-            words,
-            records,
-            marks,
-            own_entries(clocks),
-            processors,
-            pages,
-            locks,
-            standing,
-        )
+    let counts = Counts {
+        processors: processor_count(marks),
+        pages: page_count(marks),
+        locks: lock_count(marks),
+        standing: standing_count(marks),
+    };
+    counts_hold(counts) && all_hold(clocks, words, records, marks, own_entries(clocks), counts)
 }
