@@ -100,6 +100,7 @@ fn put_pairs(old: &[u32], new: &[u32], mask: u32, out: &mut [u8]) -> usize
     let mut left = u64::from(mask);
     let mut i: usize = 0;
     let mut at: usize = 1;
+    // One turn for each run, however many words are kept between them.
     while left != 0 {
         let run = first_run(left);
         at = put_pair(out, at, i + run.kept, run.len);
@@ -145,6 +146,7 @@ fn put_words(old: &[u32], new: &[u32], mask: u32, out: &mut [u8], from: usize) -
 {
     let mut left = mask;
     let mut to = from;
+    // One turn for each word that is set.
     while left != 0 {
         put_word(out, to, new[left.trailing_zeros() as usize]);
         to += 4;
