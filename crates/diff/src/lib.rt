@@ -45,10 +45,11 @@ fn check_pairs(bytes: &[u8], n: usize) -> Result<(), Refusal>
         from = offset + len + 1;
         end += 4 * len;
     }
-    if bytes.len() != end {
-        return Err(Refusal::BadLength);
+    if bytes.len() == end {
+        Ok(())
+    } else {
+        Err(Refusal::BadLength)
     }
-    Ok(())
 }
 
 // Whether a pair keeps its rule where no smaller offset than `from` may stand.
@@ -132,6 +133,7 @@ pub fn mask(bytes: &[u8]) -> u32
     ensures { result ≡ mask_of (settings page_width bytes.now) }
 {
     let n = usize::from(bytes[0]);
+    // The bit behind a run's last can be bit 32.
     let mut mask: u64 = 0;
     for k in 0..n {
         let offset = usize::from(bytes[1 + 2 * k]);
