@@ -1,4 +1,4 @@
--- The last lines: a text, and a total of 64 bits behind it; how many digits it has, and its digits stored one by one: `total_laws`. Rests on Digits, Lines and Writing. Assumes nothing.
+-- The last lines: a text, and a total of 64 bits behind it, its digits stored one by one: `total_laws`. Rests on Digits, Lines and Writing. Assumes nothing.
 use Prim.Native.Nat.{ℕ, ◌+◌, ◌-◌, ◌/◌, ◌%◌, ◌≤◌, ◌<◌}
 use native.Mathlib.Omega.{arith}
 use mathlib.Core.Path.{◌≡◌, refl, sym, ap, ◌∙◌}
@@ -6,39 +6,13 @@ use mathlib.Core.List.{List, [], ◌∷◌, ◌++◌, append_assoc}
 use lib.ListN.{length, set, length-append, length-set}
 use borrow.Rule.Slice.PartMut.{put_mid}
 use lib.Seq.{drop-drop, sets-eq, sets}
-use mir.Syntax.{w64}
-use mir.Val.{Fits}
 use borrow.Author.Rules.{rules}
 use Rattle.lists.proofs.Stores.{sets_append, sets_last_first}
 use Rattle.lines.specs.Decimal.{digits}
 use Rattle.lines.specs.Lines.{words_line, most_line}
 use Rattle.lines.specs.inner.Needed.{field_bytes}
-use Rattle.lines.proofs.Digits.{digits_one, digits_more, length_more, some_digit, at_most_twenty_digits}
+use Rattle.lines.proofs.Digits.{digits_more, length_more}
 use Rattle.lines.proofs.Writing.{Storing, room_for_first_digit, first_digit_stored, sets_keep_length}
-
--- ---- how many digits
-
--- len digits of a total are counted, of which the last counted is the last of rest
-pub record Widening (total len rest : ℕ) : Type 0 where
-  pub same : len + length (digits rest) ≡ length (digits total) + 1
-  pub few : length (digits total) ≤ 20
-
--- before the loop one digit is counted, the last of the total
-pub widening_begins : (total : ℕ) → Fits w64 total → Widening total 1 total
-widening_begins total p = record { same = omega arith; few = at_most_twenty_digits total p.fits }
-
-module _ (total len rest : ℕ) (p : Widening total len rest) where
-  -- what is counted stays small
-  pub width_stays_small : len ≤ 20
-  width_stays_small = omega (arith, p.same, p.few, some_digit rest)
-
-  -- in a turn, one more
-  pub widening_more : 10 ≤ rest → Widening total (len + 1) (rest / 10)
-  widening_more h = record { same = omega (arith, p.same, length_more rest h); few = p.few }
-
-  -- behind the loop all are counted
-  pub widened : rest < 10 → len ≡ length (digits total)
-  widened h = omega (arith, p.same, ap length (digits_one rest h))
 
 -- ---- the digits
 
@@ -105,4 +79,4 @@ pub most_whole : (most : ℕ) → (109 ∷ 111 ∷ 115 ∷ 116 ∷ 32 ∷ []) ++
 unfolding field_bytes most_line
 most_whole most = refl
 
-pub ruleset total_laws = (widening_begins, width_stays_small, widening_more, widened, digit_before, room_for_digit, storing_digit, room_for_first_digit, first_digit_stored, total_end, total_stored, copied, text_line_stored, words_whole, most_whole, rules)
+pub ruleset total_laws = (digit_before, room_for_digit, storing_digit, room_for_first_digit, first_digit_stored, total_end, total_stored, rules)

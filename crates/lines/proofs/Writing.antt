@@ -125,9 +125,6 @@ module _ (out out' : List ℕ) (at n end : ℕ) (put : out' ≡ sets out at (dig
 
 -- ---- one part of a line behind another
 
-pub put_keeps_length : (out out' : List ℕ) (at end most : ℕ) (vs : List ℕ) → Put out at vs most out' end → length out' ≡ length out
-put_keeps_length out out' at end most vs p = sets_keep_length out out' at vs p.stored
-
 module _ (out out₁ : List ℕ) (at at₁ : ℕ) (vs : List ℕ) where
   -- what is stored behind something stored
   put_behind : (out₂ : List ℕ) (at₂ k : ℕ) (ws : List ℕ) → Put out at vs k out₁ at₁ → Put out₁ at₁ ws k out₂ at₂ → Put out at (vs ++ ws) (2 * k) out₂ at₂
