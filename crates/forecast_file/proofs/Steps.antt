@@ -106,10 +106,11 @@ module _ (p : PartWay) (part : List ℕ) (end : ℕ) (out own m : List ℕ) (h :
   -- all are taken
   pub going_ends : (number most at i : ℕ) (out' own' m' : List ℕ)
       → StepsGoing p.reach.number p.reach.most p.at p.next part end out own m number most at i out' own' m' → end ≤ i
-      → StepsPassed p part out own m (record { reach = record { number = number; most = most }; stopped = false; next = i; at = at }) out' own' m'
+      → StepsPassed p part out own m (record { reach = record { number = number; most = most }; stopped = false; next = end; at = at }) out' own' m'
   unfolding leads way_at
   going_ends number most at i out' own' m' k e =
-      record {
+      rw last
+      (record {
         passing =
             record {
               able = k.passing.able;
@@ -117,7 +118,10 @@ module _ (p : PartWay) (part : List ℕ) (end : ℕ) (out own m : List ℕ) (h :
               kept = k.passing.kept;
             };
         over = λ z l. omega (arith, e, k.ahead.ahead.on, l, k.ahead.all (omega (arith, e, k.ahead.ahead.on, l)));
-      }
+      })
+    where
+      last : end ≡ i
+      last = omega (arith, e, k.ahead.ahead.on)
 
 module _ (number₀ most₀ at₀ i₀ : ℕ) (part : List ℕ) (end : ℕ) (out₀ own₀ m₀ : List ℕ) (number most at i : ℕ) (out own m : List ℕ)
     (h : StepsGoing number₀ most₀ at₀ i₀ part end out₀ own₀ m₀ number most at i out own m) where
