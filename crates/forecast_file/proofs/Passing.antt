@@ -23,7 +23,6 @@ use Rattle.rules.specs.Opening.{Opening, opening_refusal}
 use Rattle.rules.specs.Forecast.{Forecast, opened_for}
 use Rattle.opening.specs.Promises.{opening_of}
 use Rattle.lines.specs.Lines.{line_bytes, refusal_line}
-use Rattle.lines.specs.inner.Needed.{Room}
 use Rattle.file_lines.specs.inner.Needed.{RestKept, LinePut}
 use Rattle.file_lines.proofs.Placing.{rest_kept_all, rest_kept_again}
 use Rattle.refusals.proofs.Refusing.{refusal_not_0}
@@ -107,11 +106,6 @@ module _ (s : Reach) (part out own m : List ℕ) (h : FirstTakeable s part out o
       short (inr l) e = l.1
 
   module _ (n : s.number ≡ 0) (l : file_record_width ≤ length part) where
-    -- there is room for the line
-    pub first_room : Room out 0 line_limit
-    unfolding nothing_taken
-    first_room = record { room = omega (arith, h.able.room) }
-
     -- the opening lies there
     pub first_there : OpeningGiven (take (file_record_width - 0) (drop 0 part)) own m
     unfolding nothing_taken
@@ -168,7 +162,7 @@ module _ (s : Reach) (part out own m : List ℕ) (h : FirstTakeable s part out o
     first_opened (Ok x) own' m' o refusal is b stops out' at put = rw stops (first_accepted 0 own' m' o out' at (rw is at put) refl)
     first_opened (Err r) own' m' o refusal is b stops out' at put = rw stops (first_refused (number_of r) own' m' o out' at (rw is at put) (refusal_not_0 r))
 
-pub ruleset first_laws = (first_none, first_room, first_there, first_opened, rules)
+pub ruleset first_laws = (first_none, first_there, first_opened, rules)
 
 -- ---- one too many
 
@@ -182,9 +176,6 @@ module _ (p : PartWay) (part out m : List ℕ) where
   last_short l = record { is = λ own h. record { passing = none_passed p part out own m h; few_left = λ z. omega (arith, l) } }
 
   module _ (k : LastTakeable p part out m) (l : file_record_width ≤ length part - p.next) (going : p.stopped ≡ false) where
-    pub last_room : Room out p.at line_limit
-    last_room = record { room = omega (arith, k.able.room) }
-
     pub last_foreseen : MarksForeseen m
     last_foreseen = record { own = k.own; foreseen = k.able.sound.foreseen going (omega (arith, k.over going (omega (arith, l)))) }
 
@@ -211,4 +202,4 @@ module _ (p : PartWay) (part out m : List ℕ) where
             ap (λ (l : List ℕ). record { number = p.reach.number; stopped = true; forecast = forecast_in own m; most = p.reach.most; lines = l }) (put.is own).lines
             ∙ sym (rw (ne_eqb p.reach.number 0 (λ e. omega (arith, e, last)), lt-leb p.reach.number step_limit (omega (arith, last))) refl)
 
-pub ruleset last_laws = (last_stopped, last_short, last_room, last_foreseen, last_taken, rules)
+pub ruleset last_laws = (last_stopped, last_short, last_foreseen, last_taken, rules)
