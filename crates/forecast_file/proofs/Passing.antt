@@ -25,7 +25,7 @@ use Rattle.opening.specs.Promises.{opening_of}
 use Rattle.lines.specs.Lines.{line_bytes, refusal_line}
 use Rattle.file_lines.specs.inner.Needed.{RestKept, LinePut}
 use Rattle.file_lines.proofs.Placing.{rest_kept_all, rest_kept_again}
-use Rattle.refusals.proofs.Refusing.{refusal_not_0}
+use Rattle.limits.proofs.Refused.{number_of_pos}
 use Rattle.forecast_step.specs.Memory.{forecast_in}
 use Rattle.forecast_step.specs.inner.Needed.{OpeningGiven, OpeningForeseen, MarksForeseen}
 use Rattle.forecast_file.specs.Standing.{Foresight, opening_foreseen, too_many_foreseen, record_foreseen, records_foreseen}
@@ -160,7 +160,7 @@ module _ (s : Reach) (part out own m : List ℕ) (h : FirstTakeable s part out o
         → (refusal : ℕ) → refusal ≡ refusal_in opened → (b : Bool) → b ≡ is_err opened → (out' : List ℕ) (at : ℕ) → LinePut out 0 (line_bytes 0 refusal 0 0) out' at
         → OpeningPassed s part out own m (record { reach = record { number = 1; most = 0 }; stopped = b; next = file_record_width; at = at }) out' own' m'
     first_opened (Ok x) own' m' o refusal is b stops out' at put = rw stops (first_accepted 0 own' m' o out' at (rw is at put) refl)
-    first_opened (Err r) own' m' o refusal is b stops out' at put = rw stops (first_refused (number_of r) own' m' o out' at (rw is at put) (refusal_not_0 r))
+    first_opened (Err r) own' m' o refusal is b stops out' at put = rw stops (first_refused (number_of r) own' m' o out' at (rw is at put) (number_of_pos r))
 
 pub ruleset first_laws = (first_none, first_there, first_opened, rules)
 

@@ -22,29 +22,6 @@ use Rattle.refusals.proofs.ByKind.{word_there, lock_there, page_of_word_lem, dir
 use Rattle.refusals.proofs.LateRows.{write_of_kind, write_decides, lock_of_acquire, lock_of_release, holder_asks, other_asks, holder_releases, other_releases, holder_arrives, other_arrives, queue_full, queue_has_place, queue_empty, queue_has_job}
 use Rattle.refusals.proofs.Fitting.{fields_flagged, processor_flagged, fits_by_flags}
 
--- no refusal has the number 0
-pub refusal_not_0 : (r : Refusal) → number_of r ≡ 0 → ⊥
-refusal_not_0 NotInOrder e = omega arith
-refusal_not_0 BadOpening e = omega arith
-refusal_not_0 UnknownKind e = omega arith
-refusal_not_0 AbsentProcessor e = omega arith
-refusal_not_0 BadField e = omega arith
-refusal_not_0 HasArrived e = omega arith
-refusal_not_0 HoldsAlready e = omega arith
-refusal_not_0 NotHolder e = omega arith
-refusal_not_0 NoIntervalLeft e = omega arith
-refusal_not_0 NoRecordLeft e = omega arith
-refusal_not_0 BadLength e = omega arith
-refusal_not_0 BadPair e = omega arith
-refusal_not_0 NoRoom e = omega arith
-refusal_not_0 BadPage e = omega arith
-refusal_not_0 EndsShort e = omega arith
-refusal_not_0 TooManySteps e = omega arith
-refusal_not_0 Waits e = omega arith
-refusal_not_0 ArrivesHolding e = omega arith
-refusal_not_0 QueueFull e = omega arith
-refusal_not_0 QueueEmpty e = omega arith
-
 -- ---- the rows 3 to 6 and 17, one after the other
 
 module _ (m : List ℕ) (k p o v : ℕ) where

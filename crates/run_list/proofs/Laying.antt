@@ -2,19 +2,12 @@
 use Prim.Native.Nat.{ℕ, suc, ◌+◌, ◌*◌, ◌≤◌}
 use native.Mathlib.Omega.{arith}
 use mathlib.Core.Path.{◌≡◌, refl, ap, ◌∙◌}
-use mathlib.Core.List.{List, [], ◌∷◌, ◌++◌, append_assoc}
+use mathlib.Core.List.{List, [], ◌∷◌, ◌++◌}
 use lib.ListN.{length, drop}
-use lib.Seq.{sets, sets-eq, drop-drop}
-use borrow.Rule.Slice.PartMut.{put_mid}
+use lib.Seq.{sets, sets-eq}
 use Rattle.limits.specs.Files.{answer_width}
 use Rattle.rules.specs.Refusals.{Answer}
 use Rattle.step_record.specs.Answers.{answer_words, answers_in}
-
--- ---- one answer
-
--- words copied over as many from a place on are stored there
-pub copied : (out : List ℕ) (at k : ℕ) (vs ys : List ℕ) → ys ≡ vs → k ≡ length vs → at + length vs ≤ length out → put_mid at k out ys ≡ sets out at vs
-copied out at k vs ys e n h = rw (e, n, drop-drop (length vs) at out, sets-eq vs out at h, append_assoc)
 
 -- ---- a list of answers
 

@@ -1,5 +1,5 @@
 use Rattle.std.proofs.Common.{rules}
-use Rattle.run_list.proofs.Laying.{copied}
+use Rattle.lists.proofs.Copies.{copied}
 use Rattle.run_list.proofs.lay_answer.Goals as goal
 
 pub returns : goal.returns
