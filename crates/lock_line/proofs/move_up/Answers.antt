@@ -1,0 +1,5 @@
+use Rattle.lock_line.proofs.Handing.{line_laws}
+use Rattle.lock_line.proofs.move_up.Goals as goal
+
+pub returns : goal.returns
+returns c = search line_laws
