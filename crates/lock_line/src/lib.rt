@@ -52,7 +52,6 @@ pub fn hand_on(marks: &mut [u8], lock: usize) -> ProcessorId
 }
 
 // How many wait for a lock.
-#[tactic(auto, using(crate::proofs::Handing::line_laws))]
 fn in_line(marks: &[u8], lock: usize) -> usize
     requires { LineThere marks.now lock }
     ensures value { result ≡ in_line (processor_count marks.now) (marks_in mainframe marks.now) lock }

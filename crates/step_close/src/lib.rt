@@ -95,7 +95,6 @@ fn close_page(
 }
 
 // Makes the record of a dirty page (document 02: makes a change), in the first slot that is free, step by step as the thesis has it.
-#[tactic(auto, using(crate::proofs::PageRecords::change_laws))]
 fn make_change(
     p: ProcessorId,
     g: PageId,
