@@ -110,16 +110,20 @@ fn fields_fit(kind: Kind, object: usize, value: u32, marks: &[u8]) -> bool
 }
 
 // How many objects a kind can have: 1 where none is used.
+// Tests, not one match: the jumps of a match made the forecast a tenth slower, on one file past its bar.
 #[tactic(auto, unfolding(crate::specs::inner::Parts::bound_of, crate::specs::inner::Parts::seen, layout::specs::Areas::state_in, rules::specs::State::mainframe))]
 fn object_bound(kind: Kind, marks: &[u8]) -> usize
     requires { MarksCountable marks.now }
     ensures { result ≡ bound_of (seen marks.now) (number_of_kind kind) }
 {
-    match kind {
-        Kind::Read | Kind::Write => page_count(marks) * PAGE_WIDTH,
-        Kind::Acquire | Kind::Release => lock_count(marks),
-        Kind::TallyAdd | Kind::TallyRead => TALLY_LIMIT,
-        Kind::Arrive | Kind::Want | Kind::Enqueue | Kind::Dequeue => 1,
+    if matches!(kind, Kind::Read | Kind::Write) {
+        page_count(marks) * PAGE_WIDTH
+    } else if matches!(kind, Kind::Acquire | Kind::Release) {
+        lock_count(marks)
+    } else if matches!(kind, Kind::TallyAdd | Kind::TallyRead) {
+        TALLY_LIMIT
+    } else {
+        1
     }
 }
 
