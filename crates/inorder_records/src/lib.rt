@@ -47,12 +47,12 @@ fn notice_holds(
 }
 
 // Whether the diff in a slot fits the slot and is legal.
-#[tactic(auto, unfolding(crate::specs::inner::Tests::diff_holds))]
+#[tactic(auto, using(limits::proofs::Refused::ok_is_0), unfolding(crate::specs::inner::Tests::diff_holds))]
 fn diff_holds(records: &[u8], i: usize) -> bool
     requires { RowThere slot_width records.now i }
     ensures { result ≡ diff_holds records.now i }
 {
-    slot_length(records, i) <= DIFF_LIMIT && check(slot_diff(records, i)) == 0
+    slot_length(records, i) <= DIFF_LIMIT && check(slot_diff(records, i)).is_ok()
 }
 
 // Whether the record in a slot is sound.

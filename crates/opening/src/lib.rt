@@ -3,6 +3,7 @@
 #![tactic(auto)]
 
 ghost use Rattle.std.specs.Prelude.{◌≡◌, length, replicate};
+ghost use Rattle.limits.specs.Refused.{refusal_in};
 ghost use Rattle.limits.specs.inner.Sizes.{word_area};
 ghost use Rattle.layout.specs.Areas.{areas};
 ghost use Rattle.opening.specs.Promises.{open_refusal, areas_opened};
@@ -10,7 +11,7 @@ ghost use Rattle.opening.specs.inner.Openings.{opened_marks, Openable, MarksOpen
 
 use limits::{
     CLOCK_AREA, FIRST_TALLY, LOCK_LIMIT, LOCKS_PLACE, MARK_AREA, PAGE_LIMIT, PAGES_PLACE,
-    PART_LIMIT, PROCESSOR_LIMIT, PROCESSORS_PLACE, RECORD_AREA, WORD_AREA, WORD_LIMIT,
+    PART_LIMIT, PROCESSOR_LIMIT, PROCESSORS_PLACE, RECORD_AREA, Refusal, WORD_AREA, WORD_LIMIT,
 };
 
 // The limits as bytes, as an opening has its counts.
@@ -20,8 +21,8 @@ const PAGES: u8 = PAGE_LIMIT as u8;
 
 const LOCKS: u8 = LOCK_LIMIT as u8;
 
-// Opens a mainframe: 1 for areas of a wrong size, 2 for an opening that is not eight bytes or does not fit, else 0, and the areas are
-// exactly the opened state, whatever they held.
+// Opens a mainframe: the areas are exactly the opened state, whatever they held, unless one has a wrong size, or the opening is not eight bytes
+// or does not fit.
 #[tactic(auto, using(crate::proofs::Opening::refusal_by_tests), unfolding(crate::specs::Promises::areas_opened))]
 pub fn open_mainframe(
     opening: &[u8],
@@ -29,18 +30,18 @@ pub fn open_mainframe(
     words: &mut [u32],
     records: &mut [u8],
     marks: &mut [u8],
-) -> u8
-    ensures answer { result ≡ open_refusal opening.now (areas clocks.old words.old records.old marks.old) }
+) -> Result<(), Refusal>
+    ensures answer { refusal_in result ≡ open_refusal opening.now (areas clocks.old words.old records.old marks.old) }
     ensures memory { areas clocks.new words.new records.new marks.new ≡ areas_opened opening.now (areas clocks.old words.old records.old marks.old) }
 {
     if !right_sizes(clocks, words, records, marks) {
-        1
-    } else if !opening_fits(opening) {
-        2
-    } else {
-        lay_opened(opening, clocks, words, records, marks);
-        0
+        return Err(Refusal::NotInOrder);
     }
+    if !opening_fits(opening) {
+        return Err(Refusal::BadOpening);
+    }
+    lay_opened(opening, clocks, words, records, marks);
+    Ok(())
 }
 
 // Whether the four areas have the fixed sizes.

@@ -82,17 +82,17 @@ fn store(words: &mut [u32], marks: &mut [u8], p: ProcessorId, w: usize, v: u32)
 
 // Takes the twin of a page if the page is clean, in the sequence of the thesis (document 000, "Pages and Data", the text to figure 2.9). What comes
 // after it, when the interval ends, is step_close::close_dirty.
+#[tactic(auto, using(crate::proofs::Storing::store_laws))]
 fn take_twin(words: &mut [u32], marks: &mut [u8], p: ProcessorId, g: PageId)
     requires { PageThere words.old marks.old p.0 g.0 }
     ensures { TwinTaken words.old marks.old words.new marks.new p.0 g.0 }
 {
-    if is_dirty(marks, p, g) {
-        return;
+    if !is_dirty(marks, p, g) {
+        // The page becomes one that may be written (READ_WRITE there): it is dirty.
+        mark_dirty(marks, p, g);
+        // Its twin is made and saved, in the twin's row.
+        copy_page(words, copy_row(p, g), twin_row(p, g));
     }
-    // The page becomes one that may be written (READ_WRITE there): it is dirty.
-    mark_dirty(marks, p, g);
-    // Its twin is made and saved, in the twin's row.
-    copy_page(words, copy_row(p, g), twin_row(p, g));
 }
 
 // Stores a word in a processor's copy.
