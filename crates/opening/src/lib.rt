@@ -2,15 +2,16 @@
 // Every contract determines the answer and what each area holds afterwards, by an equation with a definition of the rules.
 #![tactic(auto)]
 
-ghost use Rattle.std.specs.Prelude.{◌≡◌};
+ghost use Rattle.std.specs.Prelude.{◌≡◌, length, replicate};
 ghost use Rattle.limits.specs.Refused.{refusal_in};
+ghost use Rattle.limits.specs.inner.Sizes.{word_area};
 ghost use Rattle.layout.specs.Areas.{areas};
 ghost use Rattle.opening.specs.Promises.{open_refusal, areas_opened};
 ghost use Rattle.opening.specs.inner.Openings.{opened_marks, Openable, MarksOpenable, SizesAre, OpeningIs, HoldsOpened};
 
 use limits::{
-    CLOCK_AREA, LOCK_LIMIT, LOCKS_PLACE, MARK_AREA, PAGE_LIMIT, PAGES_PLACE, PROCESSOR_LIMIT,
-    PROCESSORS_PLACE, RECORD_AREA, Refusal, WORD_AREA,
+    CLOCK_AREA, FIRST_TALLY, LOCK_LIMIT, LOCKS_PLACE, MARK_AREA, PAGE_LIMIT, PAGES_PLACE,
+    PART_LIMIT, PROCESSOR_LIMIT, PROCESSORS_PLACE, RECORD_AREA, Refusal, WORD_AREA, WORD_LIMIT,
 };
 
 // The limits as bytes, as an opening has its counts.
@@ -77,10 +78,22 @@ fn lay_opened(
     ensures { HoldsOpened opening.now clocks.new words.new records.new marks.new }
 {
     clocks.fill(0);
-    // The copies and twins are fresh, nothing is posted to a tally or added, and no job has a value.
-    words.fill(0);
+    lay_words(words);
     records.fill(0);
     lay_marks(opening, marks);
+}
+
+// A fresh copy for each processor, and the same for its twin; behind them nothing is posted to a tally or added, and no job has a value.
+fn lay_words(words: &mut [u32])
+    requires { length words.old ≡ word_area }
+    ensures { words.new ≡ replicate (length words.old) 0 }
+{
+    let fresh = [0; WORD_LIMIT];
+    for part in 0..PART_LIMIT {
+        let at = WORD_LIMIT * part;
+        words[at..at + WORD_LIMIT].copy_from_slice(&fresh);
+    }
+    words[FIRST_TALLY..].fill(0);
 }
 
 // The three counts laid before zeros.
