@@ -3,10 +3,10 @@
 use Prim.Native.Nat.{ℕ, zero, suc, ◌+◌, ◌-◌, ◌*◌, ◌≤◌, ◌<◌}
 use native.Mathlib.Numerals.{add-one}
 use native.Mathlib.Omega.{arith}
-use mathlib.Core.Path.{◌≡◌, refl, sym, ap, ◌∙◌}
-use mathlib.Core.List.{List, [], ◌∷◌, ◌++◌}
-use lib.ListN.{length, get_or, take, drop, set, length-set, replicate, replicate-append-replicate, drop_of_length-le}
-use lib.Seq.{take_all, take-suc, drop-cons, take-suc-set, sets}
+use mathlib.Core.Path.{◌≡◌, sym, ap, ◌∙◌}
+use mathlib.Core.List.{List}
+use lib.ListN.{length, get_or, take, set}
+use lib.Seq.{take_all, take-suc, take-suc-set}
 use borrow.Author.Rules.{rules}
 use Rattle.limits.specs.Limits.{page_limit, processor_limit}
 use Rattle.limits.specs.inner.Sizes.{clock_area, clock_row_limit, clock_width, own_step}
@@ -20,77 +20,6 @@ use Rattle.layout.specs.Areas.{clock_row, state_in}
 use Rattle.layout.specs.inner.Needed.{RowThere, OnPage, ClocksOf, OwnEntry, Acts}
 use Rattle.layout.proofs.ClockLaws.{clock_read}
 use Rattle.layout.proofs.RowLaws.{get_row}
-
--- ---- a row is written by a loop, as crate `opening` does: the elements of `vs` from i on are still to be laid into it
-
-pub record RowWritten (n : ℕ) (l₀ l vs : List ℕ) (row at i : ℕ) : Type 0 where
-  pub place : at ≡ n * row
-  pub within : at + n ≤ length l
-  pub as_long : length l ≡ length l₀
-  pub values : length vs ≡ n
-  pub upto : i ≤ n
-  pub same : sets l₀ (n * row) vs ≡ sets l (at + i) (drop i vs)
-
--- nothing is laid yet
-pub row_written_begins : (n : ℕ) (l vs : List ℕ) (row : ℕ) → RowThere n l row → length vs ≡ n → RowWritten n l l vs row (n * row) 0
-row_written_begins n l vs row p e =
-    let z : n * row ≡ n * row + 0 = omega arith in
-    record { place = refl; within = p.within; as_long = refl; values = e; upto = omega arith; same = ap (λ (k : ℕ). sets l k vs) z }
-
--- one more element is laid
-pub row_written_more : (n : ℕ) (l₀ l vs : List ℕ) (row at i : ℕ) → RowWritten n l₀ l vs row at i → i < n
-    → RowWritten n l₀ (set l (at + i) (get_or vs i 0)) vs row at (i + 1)
-row_written_more n l₀ l vs row at i p h =
-    let hv : i < length vs = omega (arith, p.values) in
-    let z : suc (at + i) ≡ at + (i + 1) = omega arith in
-    record {
-      place = p.place;
-      within = rw (length-set l (at + i) (get_or vs i 0)) p.within;
-      as_long = length-set l (at + i) (get_or vs i 0) ∙ p.as_long;
-      values = p.values;
-      upto = omega arith;
-      same =
-          p.same ∙ ap (λ (r : List ℕ). sets l (at + i) r) (drop-cons vs i 0 hv)
-          ∙ ap (λ (k : ℕ). sets (set l (at + i) (get_or vs i 0)) k (drop (suc i) vs)) z
-          ∙ ap (λ (k : ℕ). sets (set l (at + i) (get_or vs i 0)) (at + (i + 1)) (drop k vs)) (sym (add-one i));
-    }
-
--- all n elements are laid
-pub row_written_all : (n : ℕ) (l₀ l vs : List ℕ) (row at i : ℕ) → RowWritten n l₀ l vs row at i → n ≤ i → l ≡ sets l₀ (n * row) vs
-row_written_all n l₀ l vs row at i p h =
-    let le : length vs ≤ i = omega (arith, p.values) in
-    sym (p.same ∙ ap (λ (r : List ℕ). sets l (at + i) r) (drop_of_length-le vs le))
-
--- ---- a part is cleared by a loop, as crate `fetch_index` does: its first i elements are 0
-
-pub record Cleared (l₀ l : List ℕ) (n i : ℕ) : Type 0 where
-  pub size : n ≡ length l₀
-  pub long : length l ≡ n
-  pub upto : i ≤ n
-  pub first : take i l ≡ replicate i 0
-
--- nothing is cleared yet
-pub clear_begins : (l : List ℕ) → Cleared l l (length l) 0
-clear_begins l = record { size = refl; long = refl; upto = omega arith; first = refl }
-
--- one more element is 0
-pub clear_more : (l₀ l : List ℕ) (n i : ℕ) → Cleared l₀ l n i → i < n → Cleared l₀ (set l i 0) n (i + 1)
-clear_more l₀ l n i p h =
-    let hl : i < length l = omega (arith, p.long) in
-    record {
-      size = p.size;
-      long = length-set l i 0 ∙ p.long;
-      upto = omega arith;
-      first =
-          rw (add-one i) (take-suc-set l i 0 hl ∙ ap (λ (r : List ℕ). r ++ (0 ∷ [])) p.first
-          ∙ replicate-append-replicate i 1 0 ∙ ap (λ (k : ℕ). replicate k 0) (add-one i));
-    }
-
--- all elements are 0
-pub clear_all : (l₀ l : List ℕ) (n i : ℕ) → Cleared l₀ l n i → n ≤ i → l ≡ replicate (length l₀) 0
-clear_all l₀ l n i p h =
-    let e : i ≡ length l₀ = omega (arith, p.size, p.upto) in
-    sym (take_all i l (omega (arith, p.long))) ∙ p.first ∙ ap (λ (k : ℕ). replicate k 0) e
 
 -- ---- who acts
 
@@ -151,4 +80,4 @@ module _ (c : List ℕ) (p : ℕ) (there : ClocksOf c p) where
             sym (ap (λ (v : List ℕ). entry_of v p) (clock_read c (Processor p) (processor_within p there.from there.to)) ∙ entry_at c p there.from there.to);
       }
 
-pub ruleset row_laws = (row_written_begins, row_written_more, row_written_all, clock_row_there, own_place, own_is, table_more, table_read, applied_there, rules)
+pub ruleset row_laws = (clock_row_there, own_place, own_is, table_more, table_read, applied_there, rules)

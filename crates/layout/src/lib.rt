@@ -5,7 +5,7 @@
 pub mod marks;
 pub mod slots;
 
-ghost use Rattle.std.specs.Prelude.{◌≡◌, cond, [], ◌*◌, ◌<◌, ◌≤◌, length, get_or, replicate};
+ghost use Rattle.std.specs.Prelude.{◌≡◌, [], ◌*◌, ◌<◌, get_or};
 ghost use Rattle.std.proofs.lemmas.List.Edits.{sets};
 ghost use Rattle.limits.specs.Limits.{job_limit, lock_limit, page_limit, page_width};
 ghost use Rattle.limits.specs.inner.Sizes.{clock_row_limit, clock_width, word_row_limit};
@@ -105,13 +105,6 @@ pub fn copy_page(words: &mut [u32], from: usize, to: usize)
     put_page(words, to, page);
 }
 
-// Every byte of an area becomes 0.
-pub fn clear(area: &mut [u8])
-    ensures { area.new ≡ replicate (length area.old) 0 }
-{
-    area.fill(0);
-}
-
 // The row of a lock's clock.
 #[tactic(auto, unfolding(rules::specs::State::mainframe, crate::specs::Areas::lock_row))]
 pub fn lock_row(lock: usize) -> usize
@@ -190,19 +183,4 @@ pub fn applied_clock(rows: [[u8; CLOCK_WIDTH]; PAGE_LIMIT], g: PageId) -> Clock
     ensures { result.entries ≡ get_or rows g.0 [] }
 {
     Clock { entries: rows[g.0] }
-}
-
-// A byte as a number.
-pub fn wide(x: u8) -> usize
-    ensures { (result ≡ x) × (result < 256) }
-{
-    usize::from(x)
-}
-
-// 1 for true, 0 for false.
-pub fn flag(set: bool) -> u8
-    ensures value { result ≡ cond set 1 0 }
-    ensures upper_bound { result ≤ 1 }
-{
-    u8::from(set)
 }

@@ -1,4 +1,4 @@
-use Rattle.std.proofs.Common.{refl, rules, tests}
+use Rattle.std.proofs.Common.{rules, tests}
 use Rattle.limits.specs.Limits.{processor_limit}
 use Rattle.inorder_marks.specs.inner.Tests.{dirty_hold}
 use Rattle.lists.proofs.Chains.{every_from_all}

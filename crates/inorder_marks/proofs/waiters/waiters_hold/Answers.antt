@@ -1,4 +1,4 @@
-use Rattle.std.proofs.Common.{refl, rules, tests}
+use Rattle.std.proofs.Common.{rules, tests}
 use Rattle.inorder_marks.specs.inner.Tests.{waiter_holds}
 use Rattle.lists.proofs.Chains.{every_from_all}
 use Rattle.inorder_marks.proofs.waiters.waiters_hold.Goals as goal
