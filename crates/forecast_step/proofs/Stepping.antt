@@ -21,7 +21,8 @@ use Rattle.step_fields.specs.Kinds.{number_of_kind}
 use Rattle.step_fields.specs.declared.kinds.Kind.{Kind}
 use Rattle.refusals.specs.inner.Needed.{FittingStep}
 use Rattle.refusals.specs.inner.Parts.{seen, early_refusal, refusal_of_kind}
-use Rattle.refusals.proofs.Refusing.{refusal_not_0, early_decides, step_fits, kind_decides}
+use Rattle.limits.proofs.Refused.{number_of_pos}
+use Rattle.refusals.proofs.Refusing.{early_decides, step_fits, kind_decides}
 use Rattle.forecast_step.specs.Memory.{forecast_in}
 use Rattle.forecast_step.specs.inner.Needed.{Foreseen, StepForeseen}
 use Rattle.forecast_step.specs.inner.Parts.{AcceptedForeseen, Shows}
@@ -38,7 +39,7 @@ module _ (own m : List ℕ) (k p o v : ℕ) where
   -- a row up to 17 refuses
   pub refused_early : (r : Refusal) → number_of r ≡ early_refusal (seen m) k p o v → number_of r ≡ forecast_refusal mainframe (forecast_in own m) (step_of k p o v)
   refused_early r early =
-      early_decides m k p o v (number_of r) early (get_or (0 ∷ own) (step_of k p o v).processor 0) (refusal_not_0 r)
+      early_decides m k p o v (number_of r) early (get_or (0 ∷ own) (step_of k p o v).processor 0) (number_of_pos r)
       ∙ table_shown own m (step_of k p o v)
 
   module _ (h : Foreseen own m) (kind : Kind) (is : number_of_kind kind ≡ k) (none : 0 ≡ early_refusal (seen m) k p o v) where
@@ -91,7 +92,7 @@ module _ (own m : List ℕ) (k p o v : ℕ) (h : Foreseen own m) where
   pub step_refused : (r : Refusal) → number_of r ≡ forecast_refusal mainframe (forecast_in own m) (step_of k p o v) → StepForeseen own m (step_of k p o v) (number_of r) own m
   unfolding forecast_next
   step_refused r e =
-      stepped own m (step_of k p o v) (number_of r) own m h e (record { entries = h.entries; marks = h.marks; is = rw (← e, ne_eqb (number_of r) 0 (refusal_not_0 r)) })
+      stepped own m (step_of k p o v) (number_of r) own m h e (record { entries = h.entries; marks = h.marks; is = rw (← e, ne_eqb (number_of r) 0 (number_of_pos r)) })
 
   module _ (none : 0 ≡ forecast_refusal mainframe (forecast_in own m) (step_of k p o v)) (kind : Kind) (is : number_of_kind kind ≡ k) where
     -- one that no row refuses may act
