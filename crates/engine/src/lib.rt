@@ -85,6 +85,6 @@ fn accepted_kind(step: Step, clocks: &[u8], marks: &[u8], index: &[u32]) -> Resu
     let kind = Kind::try_from(step.kind)?;
     let p = ProcessorId(step.processor as usize);
     let own = own_entry(clocks, p);
-    refusals::late_refusal(kind, p, step.object as usize, own, marks)?;
+    refusals::late_refusal(step.kind, p, step.object as usize, own, marks)?;
     Ok(kind)
 }

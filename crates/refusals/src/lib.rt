@@ -127,9 +127,26 @@ fn object_bound(kind: Kind, marks: &[u8]) -> usize
     }
 }
 
-// The rows behind 17, for a step that fits: each row for its kind.
-#[tactic(auto, using(crate::proofs::Refusing::refusal_laws))]
+// The row behind 17 that refuses a step that fits, each row for its kind; none refuses a kind that is not known.
 pub fn late_refusal(
+    kind: u32,
+    processor: ProcessorId,
+    object: usize,
+    own: u8,
+    marks: &[u8],
+) -> Result<(), Refusal>
+    requires { FittingStep marks.now kind processor.0 object }
+    ensures { refusal_in result ≡ refusal_of_kind (seen marks.now) own kind processor.0 object }
+{
+    match Kind::try_from(kind) {
+        Ok(kind) => late_of_kind(kind, processor, object, own, marks),
+        Err(_) => Ok(()),
+    }
+}
+
+// The same for a kind that is known.
+#[tactic(auto, using(crate::proofs::Refusing::refusal_laws))]
+fn late_of_kind(
     kind: Kind,
     processor: ProcessorId,
     object: usize,

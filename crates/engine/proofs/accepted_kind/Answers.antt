@@ -17,15 +17,15 @@ pub own_entry-own-requires : goal.own_entry-own-requires
 own_entry-own-requires c = search stepping_laws
 
 pub late_refusal-requires : goal.late_refusal-requires
-late_refusal-requires c = rw c.in_ok-kind.ensures.0 (step_fits _ _ _ c.requires _ _ _ _ _ c.fits.ensures (ap not c.if-not-fits.false))
+late_refusal-requires c = step_fits _ _ _ c.requires _ _ _ _ _ c.fits.ensures (ap not c.if-not-fits.false)
 
 pub returns-in_err-late_refusal-clause-refusal : goal.returns-in_err-late_refusal-clause-refusal
 returns-in_err-late_refusal-clause-refusal c =
     let p = err_from_is_err_and c.from_residual-in_err-late_refusal.result c.from_residual-in_err-late_refusal.ensures.1 in
     rw (p.1, p.2)
-    (refused_late _ _ _ c.requires _ _ _ _ _ c.fits.ensures (ap not c.if-not-fits.false) _ _ c.own_entry-own.ensures (rw (← c.in_ok-kind.ensures.0) c.in_err-late_refusal.ensures))
+    (refused_late _ _ _ c.requires _ _ _ _ _ c.fits.ensures (ap not c.if-not-fits.false) _ _ c.own_entry-own.ensures c.in_err-late_refusal.ensures)
 
 pub returns-clause-refusal : goal.returns-clause-refusal
 returns-clause-refusal c =
     refused_late _ _ _ c.requires _ _ _ _ _ c.fits.ensures (ap not c.if-not-fits.false) _ _ c.own_entry-own.ensures
-    (rw (← c.in_ok-kind.ensures.0) c.in_ok-late_refusal.ensures)
+    c.in_ok-late_refusal.ensures
