@@ -44,8 +44,8 @@ module _ (own m : List ℕ) (k p o v : ℕ) where
 
   module _ (h : Foreseen own m) (kind : Kind) (is : number_of_kind kind ≡ k) (none : 0 ≡ early_refusal (seen m) k p o v) where
     -- the step fits
-    pub step_fitting : FittingStep m (number_of_kind kind) p o
-    step_fitting = rw is (step_fits m k p o v 0 none refl (counted_foreseen own m h))
+    pub step_fitting : FittingStep m k p o
+    step_fitting = step_fits m k p o v 0 none refl (counted_foreseen own m h)
 
     -- its processor has an own entry
     pub fitting_from : 1 ≤ p
@@ -55,10 +55,10 @@ module _ (own m : List ℕ) (k p o v : ℕ) where
     own_entry_read = omega (arith, step_fitting.by.from, step_fitting.by.to, h.entries)
 
     -- a later row refuses, or none
-    pub refused_late : (n : ℕ) → n ≡ refusal_of_kind (seen m) (get_or own (p - 1) 0) (number_of_kind kind) p o → n ≡ forecast_refusal mainframe (forecast_in own m) (step_of k p o v)
+    pub refused_late : (n : ℕ) → n ≡ refusal_of_kind (seen m) (get_or own (p - 1) 0) k p o → n ≡ forecast_refusal mainframe (forecast_in own m) (step_of k p o v)
     unfolding step_of
     refused_late n e =
-        kind_decides m k p o v 0 none refl (get_or own (p - 1) 0) n (rw is at e)
+        kind_decides m k p o v 0 none refl (get_or own (p - 1) 0) n e
         ∙ ap (λ (n : ℕ). refusal_by mainframe (seen m) n (step_of k p o v)) (entry_at own p fitting_from)
         ∙ table_shown own m (step_of k p o v)
 

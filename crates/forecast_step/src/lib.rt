@@ -83,7 +83,7 @@ fn refusal_of(step: Step, own: &[u8], marks: &[u8]) -> Result<Kind, Refusal>
 {
     let kind = refusals::early_refusal(step, marks)?;
     let p = ProcessorId(step.processor as usize);
-    refusals::late_refusal(kind, p, step.object as usize, own[p.0 - 1], marks)?;
+    refusals::late_refusal(step.kind, p, step.object as usize, own[p.0 - 1], marks)?;
     Ok(kind)
 }
 

@@ -18,13 +18,12 @@ ghost use Rattle.inorder.specs.inner.Needed.{RowsThere, ClocksThere, ClocksOne, 
 
 use inorder_marks::{marks_hold, pages_of, zeros_at};
 use inorder_records::records_hold;
-use layout::clock_at;
 use layout::marks::{lock_count, page_count, processor_count, standing_count};
+use layout::{clock_at, right_sizes};
 use limits::{
-    CLOCK_AREA, CLOCK_WIDTH, COPY_LIMIT, FIRST_APPLIED_ROW, FIRST_INTERVAL_ROW, FIRST_JOB_ROW,
-    FIRST_LOCK_ROW, FIRST_TALLY, INTERVAL_LIMIT, JOB_LIMIT, LAST_INTERVAL, LOCK_LIMIT, MARK_AREA,
-    OWN_STEP, PAGE_LIMIT, PAGE_WIDTH, PROCESSOR_LIMIT, RECORD_AREA, RECORD_LIMIT, TALLY_LIMIT,
-    WORD_AREA,
+    CLOCK_WIDTH, COPY_LIMIT, FIRST_APPLIED_ROW, FIRST_INTERVAL_ROW, FIRST_JOB_ROW, FIRST_LOCK_ROW,
+    FIRST_TALLY, INTERVAL_LIMIT, JOB_LIMIT, LAST_INTERVAL, LOCK_LIMIT, OWN_STEP, PAGE_LIMIT,
+    PAGE_WIDTH, PROCESSOR_LIMIT, RECORD_LIMIT, TALLY_LIMIT,
 };
 
 // The counts that the marks hold: of present processors, pages and locks, and of the records that stand.
@@ -37,15 +36,11 @@ struct Counts {
 }
 
 // Whether lent memory is in order: its areas have the fixed sizes, and the state that they hold is in order.
-#[tactic(auto, using(crate::proofs::Sizes::order_is))]
+#[tactic(auto, using(crate::proofs::Sizes::order_laws))]
 pub fn in_order(clocks: &[u8], words: &[u32], records: &[u8], marks: &[u8]) -> bool
     ensures { OrderIs result clocks.now words.now records.now marks.now }
 {
-    clocks.len() == CLOCK_AREA
-        && words.len() == WORD_AREA
-        && records.len() == RECORD_AREA
-        && marks.len() == MARK_AREA
-        && areas_hold(clocks, words, records, marks)
+    right_sizes(clocks, words, records, marks) && areas_hold(clocks, words, records, marks)
 }
 
 // Whether no entry of the row of clocks at a place exceeds that of another clock. It looks at all eight, which is faster than to stop early.

@@ -13,14 +13,26 @@ ghost use Rattle.clock.specs.Clocks.{joined};
 ghost use Rattle.rules.specs.State.{mainframe};
 ghost use Rattle.lists.specs.Tables.{tabulate};
 ghost use Rattle.layout.specs.Layout.{row_of};
-ghost use Rattle.layout.specs.Areas.{lock_row, applied_row, interval_row, job_row, copy_row, twin_row};
+ghost use Rattle.layout.specs.Areas.{lock_row, applied_row, interval_row, job_row, copy_row, twin_row, areas, right_sizes};
 ghost use Rattle.layout.specs.inner.Needed.{RowThere, OnPage, MadeInterval, TwoRows, ClocksOf, OwnEntry};
 
 use clock::{Clock, IntervalId, PageId, ProcessorId};
 use limits::{
-    CLOCK_WIDTH, COPY_LIMIT, FIRST_APPLIED_ROW, FIRST_INTERVAL_ROW, FIRST_JOB_ROW, FIRST_LOCK_ROW,
-    INTERVAL_LIMIT, OWN_STEP, PAGE_LIMIT, PAGE_WIDTH,
+    CLOCK_AREA, CLOCK_WIDTH, COPY_LIMIT, FIRST_APPLIED_ROW, FIRST_INTERVAL_ROW, FIRST_JOB_ROW,
+    FIRST_LOCK_ROW, INTERVAL_LIMIT, MARK_AREA, OWN_STEP, PAGE_LIMIT, PAGE_WIDTH, RECORD_AREA,
+    WORD_AREA,
 };
+
+// Whether the four areas have the fixed sizes.
+#[tactic(auto, using(crate::proofs::Encoding::sizes_is))]
+pub fn right_sizes(clocks: &[u8], words: &[u32], records: &[u8], marks: &[u8]) -> bool
+    ensures { result ≡ right_sizes (areas clocks.now words.now records.now marks.now) }
+{
+    clocks.len() == CLOCK_AREA
+        && words.len() == WORD_AREA
+        && records.len() == RECORD_AREA
+        && marks.len() == MARK_AREA
+}
 
 // The N elements in a row of an area.
 #[tactic(auto, unfolding(crate::specs::Layout::row_of))]

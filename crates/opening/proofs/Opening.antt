@@ -14,7 +14,7 @@ use Rattle.rules.specs.Opening.{opening_refusal, rows, zero_clocks, zero_pages, 
 use Rattle.rules.specs.State.{mainframe, Counts}
 use Rattle.layout.specs.Areas.{clock_bytes, area_words, record_bytes, mark_bytes, Areas, areas, holding, right_sizes}
 use Rattle.layout.specs.Layout.{join_rows}
-use Rattle.layout.proofs.Encoding.{right_lent}
+use Rattle.layout.proofs.Encoding.{sized_lent}
 use Rattle.opening.specs.Promises.{opening_of, open_refusal}
 use Rattle.opening.specs.inner.Openings.{opening_fits, opened_marks, Openable, MarksOpenable, HoldsOpened}
 
@@ -79,6 +79,6 @@ refusal_by_tests bs a =
 
 -- an accepted opening has its eight bytes, and the areas their sizes
 pub openable : (bs c w r m : List ℕ) → right_sizes (areas c w r m) ≡ true → opening_fits bs ≡ true → Openable bs c w r m
-unfolding opening_fits right_sizes areas
+unfolding opening_fits
 openable bs c w r m s o =
-    record { lent = right_lent c w r m s; opening = eqb-true (length bs) file_record_width ((and-eq-true_iff (eqb (length bs) file_record_width) (eqb (opening_refusal mainframe (opening_of bs)) 0)).0 o).0 }
+    record { lent = sized_lent c w r m s; opening = eqb-true (length bs) file_record_width ((and-eq-true_iff (eqb (length bs) file_record_width) (eqb (opening_refusal mainframe (opening_of bs)) 0)).0 o).0 }

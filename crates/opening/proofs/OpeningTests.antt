@@ -1,4 +1,4 @@
--- The tests of an opening and of the areas' sizes, each as one conjunction of tests of bytes and lengths. Assumes nothing.
+-- The test of an opening as one conjunction of tests of bytes and of its length. Assumes nothing.
 use Prim.Native.Nat.{ℕ, ◌+◌, ◌*◌, ◌≤◌}
 use native.Mathlib.Omega.{arith}
 use native.Mathlib.Decide.{ℕ_discrete}
@@ -10,19 +10,11 @@ use lib.Dec.{eqb, leb}
 use borrow.Author.Tests.{eq-eqb, ne_eqb, le-leb}
 use Rattle.limits.specs.Limits.{lock_limit, page_limit, processor_limit}
 use Rattle.limits.specs.Files.{file_record_width}
-use Rattle.limits.specs.inner.Sizes.{clock_area, mark_area, record_area, word_area}
-use Rattle.rules.specs.InOrder.{in_range, counts_in_range, slot_size}
+use Rattle.rules.specs.InOrder.{in_range, counts_in_range}
 use Rattle.rules.specs.Opening.{opening_refusal}
 use Rattle.rules.specs.State.{mainframe}
-use Rattle.layout.specs.Areas.{areas, clock_rows, first_place, jobs_place, mark_places, right_sizes, sizes_right, word_places, word_rows}
 use Rattle.opening.specs.Promises.{opening_of}
 use Rattle.opening.specs.inner.Openings.{opening_fits, OpeningIs}
-
--- the four sizes
-pub sizes_is : (c w r m : List ℕ)
-    → right_sizes (areas c w r m) ≡ (eqb (length c) clock_area && eqb (length w) word_area && eqb (length r) record_area && eqb (length m) mark_area)
-unfolding right_sizes areas sizes_right clock_rows word_places word_rows mark_places first_place jobs_place slot_size mainframe
-sizes_is c w r m = refl
 
 -- four bytes are 0 where the number that they make is
 rest_is : (a b c d : ℕ) → eqb (a + 256 * b + 65536 * c + 16777216 * d) 0 ≡ (eqb a 0 && eqb b 0 && eqb c 0 && eqb d 0)

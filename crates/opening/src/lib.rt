@@ -7,11 +7,12 @@ ghost use Rattle.limits.specs.Refused.{refusal_in};
 ghost use Rattle.limits.specs.inner.Sizes.{word_area};
 ghost use Rattle.layout.specs.Areas.{areas};
 ghost use Rattle.opening.specs.Promises.{open_refusal, areas_opened};
-ghost use Rattle.opening.specs.inner.Openings.{opened_marks, Openable, MarksOpenable, SizesAre, OpeningIs, HoldsOpened};
+ghost use Rattle.opening.specs.inner.Openings.{opened_marks, Openable, MarksOpenable, OpeningIs, HoldsOpened};
 
+use layout::right_sizes;
 use limits::{
-    CLOCK_AREA, FIRST_TALLY, LOCK_LIMIT, LOCKS_PLACE, MARK_AREA, PAGE_LIMIT, PAGES_PLACE,
-    PART_LIMIT, PROCESSOR_LIMIT, PROCESSORS_PLACE, RECORD_AREA, Refusal, WORD_AREA, WORD_LIMIT,
+    FIRST_TALLY, LOCK_LIMIT, LOCKS_PLACE, PAGE_LIMIT, PAGES_PLACE, PART_LIMIT, PROCESSOR_LIMIT,
+    PROCESSORS_PLACE, Refusal, WORD_LIMIT,
 };
 
 // The limits as bytes, as an opening has its counts.
@@ -42,17 +43,6 @@ pub fn open_mainframe(
     }
     lay_opened(opening, clocks, words, records, marks);
     Ok(())
-}
-
-// Whether the four areas have the fixed sizes.
-#[tactic(auto, using(crate::proofs::OpeningTests::sizes_is))]
-fn right_sizes(clocks: &[u8], words: &[u32], records: &[u8], marks: &[u8]) -> bool
-    ensures { SizesAre result clocks.now words.now records.now marks.now }
-{
-    clocks.len() == CLOCK_AREA
-        && words.len() == WORD_AREA
-        && records.len() == RECORD_AREA
-        && marks.len() == MARK_AREA
 }
 
 // Whether an opening is eight bytes that row 2 does not refuse: the counts of processors, pages and locks in range, and all else 0.

@@ -5,7 +5,7 @@ use Rattle.limits.specs.Places.{standing_place}
 use Rattle.limits.specs.inner.Sizes.{mark_area}
 use Rattle.rules.specs.State.{mainframe}
 use Rattle.rules.specs.Opening.{opening_refusal, opened}
-use Rattle.layout.specs.Areas.{areas, holding, right_sizes}
+use Rattle.layout.specs.Areas.{areas, holding}
 use Rattle.layout.specs.inner.Needed.{Lent}
 use Rattle.opening.specs.Promises.{opening_of}
 
@@ -30,10 +30,6 @@ pub record MarksOpenable (bytes m : List ℕ) : Type 0 where
   pub opening : length bytes ≡ file_record_width
 
 -- ---- what they answer and leave
-
--- b says whether the areas have the fixed sizes
-pub record SizesAre (b : Bool) (c w r m : List ℕ) : Type 0 where
-  pub is : b ≡ right_sizes (areas c w r m)
 
 -- b says whether the opening fits
 pub record OpeningIs (b : Bool) (bytes : List ℕ) : Type 0 where
