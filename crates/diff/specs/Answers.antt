@@ -12,9 +12,9 @@ unfoldable pub apply_words : ℕ → List ℕ → List ℕ → ℕ
 apply_words w bytes page = cond (eqb (apply_refusal w bytes page) 0) (words_set bytes) 0
 
 -- the number of words in an answer: none where it refuses
-abbrev pub words_in : Result ℕ Refusal → ℕ
-words_in (Ok words) = words
-words_in (Err r) = 0
+abbrev pub words_or_none : Result ℕ Refusal → ℕ
+words_or_none (Ok words) = words
+words_or_none (Err r) = 0
 
 -- what `apply` leaves in the page
 unfoldable pub page_after : ℕ → List ℕ → List ℕ → List ℕ

@@ -7,7 +7,7 @@ ghost use Rattle.std.proofs.lemmas.List.Edits.{sets};
 ghost use Rattle.limits.specs.Limits.{page_width};
 ghost use Rattle.limits.specs.Refused.{refusal_in};
 ghost use Rattle.diff.specs.Reading.{runs_at, word_at, words_at, pair_holds, pairs_refusal, read_refusal, words_set, settings, applied};
-ghost use Rattle.diff.specs.Answers.{apply_refusal, apply_words, page_after, words_in};
+ghost use Rattle.diff.specs.Answers.{apply_refusal, apply_words, page_after, words_or_none};
 ghost use Rattle.diff.specs.inner.Mask.{mask_of};
 ghost use Rattle.diff.specs.inner.Needed.{PairsThere, Applicable, RunThere};
 
@@ -65,7 +65,7 @@ fn pair_holds(from: usize, offset: usize, len: usize) -> bool
 #[tactic(auto, using(crate::proofs::Applying::apply_laws))]
 pub fn apply(bytes: &[u8], page: &mut [u32]) -> Result<u32, Refusal>
     ensures answer { refusal_in result ≡ apply_refusal page_width bytes.now page.old }
-    ensures words { words_in result ≡ apply_words page_width bytes.now page.old }
+    ensures words { words_or_none result ≡ apply_words page_width bytes.now page.old }
     ensures memory { page.new ≡ page_after page_width bytes.now page.old }
 {
     if page.len() != PAGE_WIDTH {

@@ -32,7 +32,7 @@ use Rattle.diff_writer.specs.inner.Needed.{PagesWhole, RoomForDiff, RoomForWords
 use Rattle.diff_writer.proofs.Saying.{length_said, refusal_said}
 use Rattle.diff.proofs.Masking.{mask_below}
 use Rattle.diff_writer.proofs.Masks.{zeros_below, zeros_of_mask, ones_of_mask, mask_shifted, lowest_cleared, runs_after_kept, runs_after_set, words_picked, first_picked, length_without, none_picked, no_runs, kept_then_set, kept_few, kept_below, set_few, mask_of_more}
-use Rattle.diff_writer.proofs.Writing.{no_pair, room_for_length, pair_stored, pair_bytes_append, length_ended, runs_fit, word_put}
+use Rattle.diff_writer.proofs.Writing.{no_pair, room_for_length, pair_stored, pair_bytes_append, length_ended, runs_fit, word_bytes_put}
 use Rattle.diff_writer.proofs.Measuring.{flag_unlike, at_most_1, measuring_begins, measuring_more, runs_measured, words_measured, runs_few, words_few}
 
 -- ---- the mask of two pages
@@ -392,4 +392,4 @@ module _ (old new out : List ℕ) where
         unfolding out_after write_refusal
         diff_left out' e = e ∙ rw (eq-eqb _ _ old_whole, eq-eqb _ _ new_whole, long, le-ltb _ _ room)
 
-pub ruleset write_laws = (no_pair, room_for_length, pair_stored, word_put, masking_begins, runs_few, words_few, kept_fewer, start_fits, end_fits, pairs_counted, pairs_end, fewer_left, words_begin, picked_on_page, words_more, page_length_refused, page_length_untouched, out_too_short, out_untouched, diff_left, rules)
+pub ruleset write_laws = (no_pair, room_for_length, pair_stored, word_bytes_put, masking_begins, runs_few, words_few, kept_fewer, start_fits, end_fits, pairs_counted, pairs_end, fewer_left, words_begin, picked_on_page, words_more, page_length_refused, page_length_untouched, out_too_short, out_untouched, diff_left, rules)

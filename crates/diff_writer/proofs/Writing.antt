@@ -31,9 +31,9 @@ pair_stored out at offset zero h = absurd (h refl)
 pair_stored out at offset (suc k) h = rw add-one
 
 -- the four bytes of a word, copied to a place
-pub word_put : (out : List ℕ) (at v : ℕ) (bytes : List ℕ) → at + 4 ≤ length out → bytes ≡ to_le_bytes w32 v → put_mid at (at + 4 - at) out bytes ≡ sets out at (word_bytes v)
+pub word_bytes_put : (out : List ℕ) (at v : ℕ) (bytes : List ℕ) → at + 4 ≤ length out → bytes ≡ to_le_bytes w32 v → put_mid at (at + 4 - at) out bytes ≡ sets out at (word_bytes v)
 unfolding word_bytes
-word_put out at v bytes room e =
+word_bytes_put out at v bytes room e =
     let four : at + 4 - at ≡ 4 = omega arith in
     rw (four, e) (ap (λ (l : List ℕ). take at out ++ (word_bytes v ++ l)) (drop-drop 4 at out)
     ∙ sym (append_assoc (take at out) (word_bytes v) (drop (at + 4) out))

@@ -91,5 +91,5 @@ begins p t =
     }
 
 -- what comes next, and that no line is left out where the program stops
-pub next_is : (s : Run) (x : Action) → x ≡ next_action s → NextIs s x
-next_is s x e = record { is = e; all = λ a₀ read rest written out a y w h last. all_written s a₀ read rest written out a (sym e ∙ y) w h last }
+pub next_action_is : (s : Run) (x : Action) → x ≡ next_action s → NextIs s x
+next_action_is s x e = record { is = e; all = λ a₀ read rest written out a y w h last. all_written s a₀ read rest written out a (sym e ∙ y) w h last }

@@ -53,7 +53,7 @@ pub fn begin() -> Run
 }
 
 // What to do next: write the lines that are left, then read on unless the input has ended or the run has stopped.
-#[tactic(auto, using(crate::proofs::Coming::next_is), unfolding(crate::specs::Promises::next_action))]
+#[tactic(auto, using(crate::proofs::Coming::next_action_is), unfolding(crate::specs::Promises::next_action))]
 pub fn next_action(run: Run) -> Action
     ensures { NextIs run result }
 {
