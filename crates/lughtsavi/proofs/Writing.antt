@@ -16,7 +16,7 @@ use Rattle.limits.proofs.Refused.{number_of_pos}
 use Rattle.limits.specs.inner.Sizes.{diff_limit}
 use Rattle.diff.specs.Format.{written}
 use Rattle.diff.proofs.Theorems.{at_most_131_bytes}
-use Rattle.diff_writer.specs.Answers.{write_refusal, WriteAnswer, write_answer, said_by, Says}
+use Rattle.diff_writer.specs.Answers.{write_refusal, write_answer, said_by, Says}
 use Rattle.lughtsavi.specs.Numbers.{write_return}
 
 -- ---- a length and a refusal are not mistaken for one another
