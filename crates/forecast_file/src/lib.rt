@@ -9,7 +9,7 @@ ghost use Rattle.forecast_step.specs.inner.Needed.{MarksForeseen};
 ghost use Rattle.forecast_file.specs.Promises.{Begun, TakenAs};
 ghost use Rattle.forecast_file.specs.inner.Needed.{MemorySound, PartTakeable, FirstTakeable, OpeningPassed, StepsTakeable, StepsPassed, Steppable, StepTaken, StepsAhead, LastTakeable, LastPassed, nothing_taken, WholePassed, Finishable, EndPut, Finished, FiguresPut};
 
-use limits::{FILE_RECORD_WIDTH, Refusal};
+use limits::{FILE_RECORD_WIDTH, Refusal, refusal_or_0};
 use step_fields::Step;
 
 // How far a file has been forecast: the number of the next record, and the largest sum of records and dirty pages so far.
@@ -125,7 +125,7 @@ fn take_first(
         return start;
     }
     let opened = forecast_step::open(&part[..FILE_RECORD_WIDTH], own, marks);
-    let refusal = refusal_number(opened);
+    let refusal = u32::from(refusal_or_0(opened));
     PartWay {
         reach: Reach { number: 1, most: 0 },
         stopped: opened.is_err(),
@@ -203,7 +203,8 @@ fn take_step(
     requires counted { Counted digits len number }
     ensures { StepTaken part.now i number lines.old at own.old marks.old result lines.new own.new marks.new }
 {
-    let refusal = refusal_number(forecast_step::foresee(Step::in_record(part, i), own, marks));
+    let foreseen = forecast_step::foresee(Step::in_record(part, i), own, marks);
+    let refusal = u32::from(refusal_or_0(foreseen));
     let figures = forecast_step::figures_of(marks);
     let at = file_lines::put_counted_line(
         lines,
@@ -218,16 +219,6 @@ fn take_step(
     Stepped {
         at,
         sum: figures.standing + figures.dirty,
-    }
-}
-
-// The number of a refusal, or 0.
-fn refusal_number(done: Result<(), Refusal>) -> u32
-    ensures { result ≡ refusal_in done }
-{
-    match done {
-        Ok(()) => 0,
-        Err(refusal) => u32::from(refusal.number()),
     }
 }
 

@@ -3,7 +3,7 @@
 #![tactic(auto)]
 
 ghost use Rattle.std.specs.Prelude.{◌≡◌};
-ghost use Rattle.limits.specs.Refused.{number_of};
+ghost use Rattle.limits.specs.Refused.{number_of, refusal_in};
 
 // Why a step, an opening, a diff or a file is refused: a row of document 01's table each, with its number.
 #[derive(Clone, Copy, PartialEq, Eq)]
@@ -48,6 +48,16 @@ impl Refusal {
         ensures { result ≡ number_of self }
     {
         self as u8
+    }
+}
+
+// The number that an answer stands for: 0 where nothing is refused.
+pub fn refusal_or_0<T: Copy>(answered: Result<T, Refusal>) -> u8
+    ensures { result ≡ refusal_in answered }
+{
+    match answered {
+        Ok(_) => 0,
+        Err(refusal) => refusal.number(),
     }
 }
 

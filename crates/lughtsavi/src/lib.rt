@@ -32,7 +32,7 @@ pub fn lughtsavi_open(
     ensures answer { result ≡ open_refusal opening.now (areas clocks.old words.old records.old marks.old) }
     ensures memory { areas clocks.new words.new records.new marks.new ≡ areas_opened opening.now (areas clocks.old words.old records.old marks.old) }
 {
-    refusal_or_0(opening::open_mainframe(opening, clocks, words, records, marks))
+    limits::refusal_or_0(opening::open_mainframe(opening, clocks, words, records, marks))
 }
 
 // Whether the areas have the fixed sizes and hold a state in order.
@@ -71,7 +71,7 @@ pub fn lughtsavi_step(
     let outcome = engine::step(step, clocks, words, records, marks);
     let told = step_record::answer_words(outcome);
     answer.copy_from_slice(&told);
-    refusal_or_0(outcome)
+    limits::refusal_or_0(outcome)
 }
 
 // Runs an opening and the step records behind it, eight bytes each, and writes four words for each record into `answers`: refusal, value,
@@ -106,7 +106,7 @@ pub fn lughtsavi_diff_write(old: &[u32], new: &[u32], out: &mut [u8]) -> u32
 pub fn lughtsavi_diff_check(bytes: &[u8]) -> u8
     ensures { result ≡ read_refusal page_width bytes.now }
 {
-    refusal_or_0(diff::check(bytes))
+    limits::refusal_or_0(diff::check(bytes))
 }
 
 // Carries a diff out on a page: how many words it set, or 256 + the refusal.
@@ -118,16 +118,6 @@ pub fn lughtsavi_diff_apply(bytes: &[u8], page: &mut [u32]) -> u32
     match diff::apply(bytes, page) {
         Ok(words) => words,
         Err(refusal) => refusal_from_256(refusal),
-    }
-}
-
-// The number of a refusal, or 0 where nothing is refused.
-fn refusal_or_0<T: Copy>(answered: Result<T, Refusal>) -> u8
-    ensures { result ≡ refusal_in answered }
-{
-    match answered {
-        Ok(_) => 0,
-        Err(refusal) => refusal.number(),
     }
 }
 

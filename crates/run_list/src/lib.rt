@@ -10,7 +10,7 @@ ghost use Rattle.layout.specs.Areas.{state_in, areas};
 ghost use Rattle.run_list.specs.Runs.{Ran};
 ghost use Rattle.run_list.specs.inner.Needed.{RecordReady, StepLaid, CountIs, RecordsThere, OpeningThere, OpeningLaid, StepsThere, StepsLaid};
 
-use limits::{ANSWER_WIDTH, FILE_RECORD_WIDTH, Refusal};
+use limits::{ANSWER_WIDTH, FILE_RECORD_WIDTH, Refusal, refusal_or_0};
 
 // Runs an opening and the step records behind it, and says how many records it has run: of a refused opening only that one.
 // Each answer is laid as four words: refusal, value, count, words. Of odd sizes: as many whole records are run as there are and as the answers
@@ -79,18 +79,8 @@ fn run_opening(
         records,
         marks,
     );
-    lay_answer(answers, 0, [refusal_number(opened), 0, 0, 0]);
+    lay_answer(answers, 0, [u32::from(refusal_or_0(opened)), 0, 0, 0]);
     opened
-}
-
-// The number that stands for the refusal of an opening; 0 for none.
-fn refusal_number(opened: Result<(), Refusal>) -> u32
-    ensures { result ≡ refusal_in opened }
-{
-    match opened {
-        Ok(()) => 0,
-        Err(refusal) => u32::from(refusal.number()),
-    }
 }
 
 // Runs the records behind the opening, of n in all; the index is kept over all of them.
