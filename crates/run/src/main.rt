@@ -96,6 +96,7 @@ fn turn<R: Read, W: Write>(
 }
 
 // Reads a chunk and takes it. What went wrong, if anything, is noted.
+#[tactic(auto, using(crate::proofs::Turns::turn_laws))]
 fn read_on<R: Read>(
     run: Run,
     chunk: &mut [u8],
@@ -110,35 +111,8 @@ fn read_on<R: Read>(
     requires { ReadsNext run chunk.old lines.old clocks.old words.old records.old marks.old }
     ensures { Underway result chunk.new lines.new clocks.new words.new records.new marks.new }
 {
-    match input.read(chunk) {
-        Ok(n) => take_in(
-            run, n as isize, false, chunk, lines, clocks, words, records, marks,
-        ),
-        Err(error) => {
-            let again = whole_calls::is_interrupted(&error);
-            *wrong = error;
-            take_in(run, -1, again, chunk, lines, clocks, words, records, marks)
-        }
-    }
-}
-
-// Takes a chunk that was read.
-#[tactic(auto, using(crate::proofs::Turns::turn_laws))]
-fn take_in(
-    run: Run,
-    got: isize,
-    again: bool,
-    chunk: &[u8],
-    lines: &mut [u8],
-    clocks: &mut [u8],
-    words: &mut [u32],
-    records: &mut [u8],
-    marks: &mut [u8],
-) -> Run
-    requires { ReadsNext run chunk.now lines.old clocks.old words.old records.old marks.old }
-    ensures { Underway result chunk.now lines.new clocks.new words.new records.new marks.new }
-{
-    run_loop::after_read(run, got, again, chunk, lines, clocks, words, records, marks)
+    let got = whole_calls::noted(input.read(chunk), wrong);
+    run_loop::after_read(run, got, chunk, lines, clocks, words, records, marks)
 }
 
 // Writes the lines that are left, or the first of them. What went wrong, if anything, is noted.
@@ -146,14 +120,8 @@ fn take_in(
 fn write_on<W: Write>(run: Run, lines: &[u8], output: &mut W, wrong: &mut Error) -> Run
     ensures { Keeps run lines.now result }
 {
-    match output.write(run_loop::unwritten(run, lines)) {
-        Ok(n) => run_loop::after_write(run, n as isize, false, lines),
-        Err(error) => {
-            let again = whole_calls::is_interrupted(&error);
-            *wrong = error;
-            run_loop::after_write(run, -1, again, lines)
-        }
-    }
+    let put = whole_calls::noted(output.write(run_loop::unwritten(run, lines)), wrong);
+    run_loop::after_write(run, put, lines)
 }
 
 // Says what went wrong, if anything, with the words of the error that was noted last.

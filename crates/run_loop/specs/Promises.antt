@@ -1,7 +1,6 @@
 -- The run program between its reads and writes: what it does next, and that the bytes handed to write, in order, are the lines of the file for
 -- what was read. Assumes nothing.
-use Rattle.std.specs.Prelude.{ℕ, ◌+◌, ◌-◌, ◌/◌, ◌<◌, ◌≤◌, min, ◌≡◌, Bool, true, false, cond, ◌||◌, List, [], ◌++◌, length, take, drop, ltb, eqb, ℤ, pos, negsuc, Some, None, is_some}
-use Rattle.std.specs.Int.Signed.{lt_z}
+use Rattle.std.specs.Prelude.{ℕ, ◌+◌, ◌-◌, ◌/◌, ◌<◌, ◌≤◌, min, ◌≡◌, Bool, true, false, cond, ◌||◌, List, [], ◌++◌, length, take, drop, ltb, eqb, Result, Ok, Err, Some, None, is_some}
 use Rattle.limits.specs.Files.{file_record_width, line_limit}
 use Rattle.layout.specs.Areas.{Areas, right_sizes}
 use Rattle.stepfile.specs.Files.{file_lines}
@@ -99,28 +98,31 @@ unfoldable pub failed_run : Run → Fault → Bool → Run
 failed_run s f again =
     cond again s (record { progress = s.progress; from = s.from; to = s.to; ended = s.ended; fault = Some f })
 
--- ---- what a call of C's answered
+-- ---- what a read or a write answered
 
--- the bytes that a read or a write moved, of those it was handed: none where it answered a number below 0, since it failed
-unfoldable pub bytes_moved : ℤ → List ℕ → List ℕ
-bytes_moved (pos n) bytes = take n bytes
-bytes_moved (negsuc n) bytes = []
+-- the bytes that a read or a write moved, of those it was handed: none where it failed
+unfoldable pub bytes_moved : Result ℕ Bool → List ℕ → List ℕ
+bytes_moved (Ok n) bytes = take n bytes
+bytes_moved (Err again) bytes = []
 
 -- where the run stands after a read's answer
-unfoldable pub got_run : Run → ℤ → Bool → List ℕ → ℕ → Areas → Run
-got_run s got again chunk room a = cond (lt_z got (pos 0)) (failed_run s Reading again) (read_run s (bytes_moved got chunk) room a)
+unfoldable pub got_run : Run → Result ℕ Bool → List ℕ → ℕ → Areas → Run
+got_run s (Ok n) chunk room a = read_run s (bytes_moved (Ok n) chunk) room a
+got_run s (Err again) chunk room a = failed_run s Reading again
 
 -- the bytes lent for lines then
-unfoldable pub got_lines : Run → ℤ → List ℕ → List ℕ → Areas → List ℕ
-got_lines s got chunk out a = cond (lt_z got (pos 0)) out (read_lines s (bytes_moved got chunk) out a)
+unfoldable pub got_lines : Run → Result ℕ Bool → List ℕ → List ℕ → Areas → List ℕ
+got_lines s (Ok n) chunk out a = read_lines s (bytes_moved (Ok n) chunk) out a
+got_lines s (Err again) chunk out a = out
 
 -- the areas then
-unfoldable pub got_areas : Run → ℤ → List ℕ → ℕ → Areas → Areas
-got_areas s got chunk room a = cond (lt_z got (pos 0)) a (read_areas s (bytes_moved got chunk) room a)
+unfoldable pub got_areas : Run → Result ℕ Bool → List ℕ → ℕ → Areas → Areas
+got_areas s (Ok n) chunk room a = read_areas s (bytes_moved (Ok n) chunk) room a
+got_areas s (Err again) chunk room a = a
 
 -- what `after_read` promises
-pub record GotAs (s : Run) (got : ℤ) (again : Bool) (chunk out : List ℕ) (a : Areas) (s' : Run) (out' : List ℕ) (a' : Areas) : Type 0 where
-  pub run : s' ≡ got_run s got again chunk (length out) a
+pub record GotAs (s : Run) (got : Result ℕ Bool) (chunk out : List ℕ) (a : Areas) (s' : Run) (out' : List ℕ) (a' : Areas) : Type 0 where
+  pub run : s' ≡ got_run s got chunk (length out) a
   pub lines : out' ≡ got_lines s got chunk out a
   pub areas : a' ≡ got_areas s got chunk (length out) a
   -- with room for the lines of a whole chunk every chunk is fed, ..
@@ -131,10 +133,11 @@ pub record GotAs (s : Run) (got : ℤ) (again : Bool) (chunk out : List ℕ) (a 
       → Runs a₀ (read ++ bytes_moved got chunk) written s' out' a'
 
 -- where the run stands after a write's answer, which was handed the lines left
-unfoldable pub put_run : Run → ℤ → Bool → List ℕ → Run
-put_run s put again out = cond (lt_z put (pos 0)) (failed_run s Writing again) (wrote_run s (length (bytes_moved put (pending s out))))
+unfoldable pub put_run : Run → Result ℕ Bool → List ℕ → Run
+put_run s (Ok n) out = wrote_run s (length (bytes_moved (Ok n) (pending s out)))
+put_run s (Err again) out = failed_run s Writing again
 
 -- what `after_write` promises: the bytes that were taken stand behind those written before, and the rest is left
-pub record PutAs (s : Run) (put : ℤ) (again : Bool) (out : List ℕ) (s' : Run) : Type 0 where
-  pub run : s' ≡ put_run s put again out
+pub record PutAs (s : Run) (put : Result ℕ Bool) (out : List ℕ) (s' : Run) : Type 0 where
+  pub run : s' ≡ put_run s put out
   pub runs : (a₀ : Areas) (read written : List ℕ) (a : Areas) → Runs a₀ read written s out a → Runs a₀ read (written ++ bytes_moved put (pending s out)) s' out a

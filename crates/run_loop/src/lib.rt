@@ -77,11 +77,10 @@ pub fn unwritten(run: Run, lines: &[u8]) -> &[u8]
     &lines[run.from.min(to)..to]
 }
 
-// A read has answered, and put bytes at the start of the chunk. One that failed is made again or not.
+// A read has answered how many bytes it put at the start of the chunk, or, where it failed, whether it is made again.
 pub fn after_read(
     run: Run,
-    got: isize,
-    again: bool,
+    got: Result<usize, bool>,
     chunk: &[u8],
     lines: &mut [u8],
     clocks: &mut [u8],
@@ -89,24 +88,25 @@ pub fn after_read(
     records: &mut [u8],
     marks: &mut [u8],
 ) -> Run
-    ensures { GotAs run got again chunk.now lines.old (areas clocks.old words.old records.old marks.old) result lines.new (areas clocks.new words.new records.new marks.new) }
+    ensures { GotAs run got chunk.now lines.old (areas clocks.old words.old records.old marks.old) result lines.new (areas clocks.new words.new records.new marks.new) }
 {
-    if got < 0 {
-        fail(run, Fault::Reading, again)
-    } else {
-        let n = io::count(got, chunk);
-        take(run, &chunk[..n], lines, clocks, words, records, marks)
+    match got {
+        Ok(n) => {
+            let bytes = &chunk[..n.min(chunk.len())];
+            take(run, bytes, lines, clocks, words, records, marks)
+        }
+        Err(again) => fail(run, Fault::Reading, again),
     }
 }
 
-// A write has answered, which was handed the lines that are left. One that failed is made again or not; one that takes nothing has failed.
-pub fn after_write(run: Run, put: isize, again: bool, lines: &[u8]) -> Run
-    ensures { PutAs run put again lines.now result }
+// A write, which was handed the lines that are left, has answered how many bytes it took, or, where it failed, whether it is made again. One that takes
+// nothing has failed.
+pub fn after_write(run: Run, put: Result<usize, bool>, lines: &[u8]) -> Run
+    ensures { PutAs run put lines.now result }
 {
-    if put < 0 {
-        fail(run, Fault::Writing, again)
-    } else {
-        write(run, io::count(put, unwritten(run, lines)))
+    match put {
+        Ok(n) => write(run, n.min(unwritten(run, lines).len())),
+        Err(again) => fail(run, Fault::Writing, again),
     }
 }
 

@@ -180,6 +180,7 @@ fn feed_on(
     }
     let first = file_held::hold(progress.held, progress.bytes, chunk, 0);
     if first.count < FILE_RECORD_WIDTH {
+        // Tried straight in the literal: no proof is made for an array that is put there from a field.
         let bytes = first.bytes;
         Taken {
             progress: Progress {
@@ -269,6 +270,7 @@ fn hold_rest(stand: Stand, chunk: &[u8], from: usize) -> Taken
     } else {
         file_held::hold(0, none, chunk, from)
     };
+    // Tried straight in the literal: no proof is made for an array that is put there from a field.
     let bytes = last.bytes;
     Taken {
         progress: Progress {

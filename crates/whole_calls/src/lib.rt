@@ -2,7 +2,7 @@
 // wrong.
 #![tactic(auto)]
 
-ghost use Rattle.std.specs.Prelude.{◌≤◌, ◌≡◌, ◌↔◌, IsTrue, length};
+ghost use Rattle.std.specs.Prelude.{◌≤◌, ◌≡◌, ◌↔◌, IfErr, IfOk, IsTrue, is_ok, length};
 ghost use Rattle.std_io.specs.IoError.{error_kind};
 ghost use Rattle.whole_reads.specs.Promises.{comes_next};
 ghost use Rattle.whole_reads.specs.inner.Going.{ReadOn, WroteOn};
@@ -10,7 +10,7 @@ ghost use Rattle.whole_calls.specs.Promises.{is_stop};
 ghost use Rattle.whole_calls.specs.declared.TheConstants.{WORDS_ROOM};
 
 use std::fmt::{self, Write as _};
-use std::io::{Error, ErrorKind, Print, Read, Write};
+use std::io::{self, Error, ErrorKind, Print, Read, Write};
 use whole_reads::{Failure, Flow, Next};
 
 // Room for the words of an error.
@@ -46,14 +46,8 @@ pub fn read_on<R: Read>(flow: Flow, buffer: &mut [u8], input: &mut R, wrong: &mu
     requires { flow.have ≤ length buffer.old }
     ensures { ReadOn flow buffer.old result buffer.new }
 {
-    match input.read(&mut buffer[flow.have..]) {
-        Ok(n) => whole_reads::note_read(flow, n as isize, false, buffer),
-        Err(error) => {
-            let again = is_interrupted(&error);
-            *wrong = error;
-            whole_reads::note_read(flow, -1, again, buffer)
-        }
-    }
+    let got = noted(input.read(&mut buffer[flow.have..]), wrong);
+    whole_reads::note_read(flow, got, buffer)
 }
 
 // Writes the lines that are left, or the first of them. What went wrong, if anything, is noted.
@@ -61,14 +55,8 @@ pub fn read_on<R: Read>(flow: Flow, buffer: &mut [u8], input: &mut R, wrong: &mu
 pub fn write_on<W: Write>(flow: Flow, lines: &[u8], output: &mut W, wrong: &mut Error) -> Flow
     ensures { WroteOn flow lines.now result }
 {
-    match output.write(whole_reads::lines_left(flow, lines)) {
-        Ok(n) => whole_reads::note_write(flow, n as isize, false, lines),
-        Err(error) => {
-            let again = is_interrupted(&error);
-            *wrong = error;
-            whole_reads::note_write(flow, -1, again, lines)
-        }
-    }
+    let put = noted(output.write(whole_reads::lines_left(flow, lines)), wrong);
+    whole_reads::note_write(flow, put, lines)
 }
 
 // Says what went wrong, if anything, in the program's words and those of the error that was noted last.
@@ -83,6 +71,24 @@ pub fn tell<P: Print>(
         None => {}
         Some(Failure::Reading) => say(reading_failed, wrong, to),
         Some(Failure::Writing) => say(writing_failed, wrong, to),
+    }
+}
+
+// How many bytes a read or a write moved, or, where it failed, whether it is made again. What went wrong, if anything, is noted.
+pub fn noted(answer: io::Result<usize>, wrong: &mut Error) -> Result<usize, bool>
+    ensures moved { IfOk answer (λ n. result ≡ Ok n) }
+    ensures failed { IfErr answer (λ error. IfErr result (λ again. IsTrue again ↔ error_kind error ≡ ErrorKind.Interrupted)) }
+    ensures fails { is_ok result ≡ is_ok answer }
+    ensures kept { IfOk answer (λ n. wrong.new ≡ wrong.old) }
+    ensures noted { IfErr answer (λ error. wrong.new ≡ error) }
+{
+    match answer {
+        Ok(n) => Ok(n),
+        Err(error) => {
+            let again = is_interrupted(&error);
+            *wrong = error;
+            Err(again)
+        }
     }
 }
 

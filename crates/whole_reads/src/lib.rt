@@ -80,14 +80,13 @@ pub fn lines_left(flow: Flow, lines: &[u8]) -> &[u8]
     &lines[flow.from.min(to)..to]
 }
 
-// A read has answered, and put bytes into the buffer behind those that stand in it. One that failed is made again or not.
-pub fn note_read(flow: Flow, got: isize, again: bool, buffer: &[u8]) -> Flow
-    ensures { ReadNoted flow got again buffer.now result }
+// A read has answered how many bytes it put into the buffer behind those that stand in it, or, where it failed, whether it is made again.
+pub fn note_read(flow: Flow, got: Result<usize, bool>, buffer: &[u8]) -> Flow
+    ensures { ReadNoted flow got buffer.now result }
 {
-    if got < 0 {
-        fail(flow, Failure::Reading, again)
-    } else {
-        fill(flow, io::count(got, unfilled(flow, buffer)))
+    match got {
+        Ok(n) => fill(flow, n.min(unfilled(flow, buffer).len())),
+        Err(again) => fail(flow, Failure::Reading, again),
     }
 }
 
@@ -104,15 +103,15 @@ pub fn note_take(flow: Flow, made: usize, done: bool) -> Flow
     }
 }
 
-// A write has answered, which was handed the lines that are left. One that failed is made again or not; one that takes nothing has failed.
+// A write, which was handed the lines that are left, has answered how many bytes it took, or, where it failed, whether it is made again. One that takes
+// nothing has failed.
 #[tactic(auto, using(crate::proofs::Answered::write_within))]
-pub fn note_write(flow: Flow, put: isize, again: bool, lines: &[u8]) -> Flow
-    ensures { WriteNoted flow put again lines.now result }
+pub fn note_write(flow: Flow, put: Result<usize, bool>, lines: &[u8]) -> Flow
+    ensures { WriteNoted flow put lines.now result }
 {
-    if put < 0 {
-        fail(flow, Failure::Writing, again)
-    } else {
-        write(flow, io::count(put, lines_left(flow, lines)))
+    match put {
+        Ok(n) => write(flow, n.min(lines_left(flow, lines).len())),
+        Err(again) => fail(flow, Failure::Writing, again),
     }
 }
 
