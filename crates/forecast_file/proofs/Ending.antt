@@ -33,10 +33,6 @@ no_line : (out : List ℕ) (at : ℕ) → at ≤ length out → LinePut out at [
 no_line out at h = record { kept = rest_kept_all out at h; near = omega arith; lines = sym (append-nil (take at out)) }
 
 module _ (p : PartWay) (part out m : List ℕ) (h : Finishable p part out m) where
-  -- there is room for a line
-  pub end_room : Room out p.at line_limit
-  end_room = record { room = omega (arith, h.able.room) }
-
   -- the forecast has stopped
   pub end_stopped : p.stopped ≡ true → EndPut p part out m p.at out
   unfolding cut_line way_at
@@ -64,7 +60,7 @@ module _ (p : PartWay) (part out m : List ℕ) (h : Finishable p part out m) whe
       end_within out' end z l =
           record { is = λ own. rw (going, ne_eqb p.reach.number 0 opened, ne_eqb (length part - p.next) 0 (λ e. z (omega (arith, e, h.able.within)))) (l.is own) }
 
-pub ruleset end_laws = (end_room, end_stopped, end_unopened, end_foreseen, end_whole, end_within, rules)
+pub ruleset end_laws = (end_stopped, end_unopened, end_foreseen, end_whole, end_within, rules)
 
 -- ---- the last lines
 

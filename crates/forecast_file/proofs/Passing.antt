@@ -23,10 +23,9 @@ use Rattle.rules.specs.Opening.{Opening, opening_refusal}
 use Rattle.rules.specs.Forecast.{Forecast, opened_for}
 use Rattle.opening.specs.Promises.{opening_of}
 use Rattle.lines.specs.Lines.{line_bytes, refusal_line}
-use Rattle.lines.specs.inner.Needed.{Room}
 use Rattle.file_lines.specs.inner.Needed.{RestKept, LinePut}
 use Rattle.file_lines.proofs.Placing.{rest_kept_all, rest_kept_again}
-use Rattle.refusals.proofs.Refusing.{refusal_not_0}
+use Rattle.limits.proofs.Refused.{number_of_pos}
 use Rattle.forecast_step.specs.Memory.{forecast_in}
 use Rattle.forecast_step.specs.inner.Needed.{OpeningGiven, OpeningForeseen, MarksForeseen}
 use Rattle.forecast_file.specs.Standing.{Foresight, opening_foreseen, too_many_foreseen, record_foreseen, records_foreseen}
@@ -107,11 +106,6 @@ module _ (s : Reach) (part out own m : List ℕ) (h : FirstTakeable s part out o
       short (inr l) e = l.1
 
   module _ (n : s.number ≡ 0) (l : file_record_width ≤ length part) where
-    -- there is room for the line
-    pub first_room : Room out 0 line_limit
-    unfolding nothing_taken
-    first_room = record { room = omega (arith, h.able.room) }
-
     -- the opening lies there
     pub first_there : OpeningGiven (take (file_record_width - 0) (drop 0 part)) own m
     unfolding nothing_taken
@@ -166,9 +160,9 @@ module _ (s : Reach) (part out own m : List ℕ) (h : FirstTakeable s part out o
         → (refusal : ℕ) → refusal ≡ refusal_in opened → (b : Bool) → b ≡ is_err opened → (out' : List ℕ) (at : ℕ) → LinePut out 0 (line_bytes 0 refusal 0 0) out' at
         → OpeningPassed s part out own m (record { reach = record { number = 1; most = 0 }; stopped = b; next = file_record_width; at = at }) out' own' m'
     first_opened (Ok x) own' m' o refusal is b stops out' at put = rw stops (first_accepted 0 own' m' o out' at (rw is at put) refl)
-    first_opened (Err r) own' m' o refusal is b stops out' at put = rw stops (first_refused (number_of r) own' m' o out' at (rw is at put) (refusal_not_0 r))
+    first_opened (Err r) own' m' o refusal is b stops out' at put = rw stops (first_refused (number_of r) own' m' o out' at (rw is at put) (number_of_pos r))
 
-pub ruleset first_laws = (first_none, first_room, first_there, first_opened, rules)
+pub ruleset first_laws = (first_none, first_there, first_opened, rules)
 
 -- ---- one too many
 
@@ -182,9 +176,6 @@ module _ (p : PartWay) (part out m : List ℕ) where
   last_short l = record { is = λ own h. record { passing = none_passed p part out own m h; few_left = λ z. omega (arith, l) } }
 
   module _ (k : LastTakeable p part out m) (l : file_record_width ≤ length part - p.next) (going : p.stopped ≡ false) where
-    pub last_room : Room out p.at line_limit
-    last_room = record { room = omega (arith, k.able.room) }
-
     pub last_foreseen : MarksForeseen m
     last_foreseen = record { own = k.own; foreseen = k.able.sound.foreseen going (omega (arith, k.over going (omega (arith, l)))) }
 
@@ -211,4 +202,4 @@ module _ (p : PartWay) (part out m : List ℕ) where
             ap (λ (l : List ℕ). record { number = p.reach.number; stopped = true; forecast = forecast_in own m; most = p.reach.most; lines = l }) (put.is own).lines
             ∙ sym (rw (ne_eqb p.reach.number 0 (λ e. omega (arith, e, last)), lt-leb p.reach.number step_limit (omega (arith, last))) refl)
 
-pub ruleset last_laws = (last_stopped, last_short, last_room, last_foreseen, last_taken, rules)
+pub ruleset last_laws = (last_stopped, last_short, last_foreseen, last_taken, rules)

@@ -169,21 +169,19 @@ fn take_run(
     let mut number = before.reach.number;
     let mut most = before.reach.most;
     let mut at = before.at;
-    let mut i = before.next;
-    let mut digits = [48u8; 8];
+    let mut digits = [b'0'; 8];
     let mut len = lines::counter(&mut digits, number);
-    while i < end {
+    for i in (before.next..end).step_by(FILE_RECORD_WIDTH) {
         let stepped = take_step(part, i, lines, at, digits, len, number, own, marks);
         at = stepped.at;
         most = most.max(stepped.sum);
         len = lines::count_on(&mut digits, len, number);
         number += 1;
-        i += FILE_RECORD_WIDTH;
     }
     PartWay {
         reach: Reach { number, most },
         stopped: false,
-        next: i,
+        next: end,
         at,
     }
 }

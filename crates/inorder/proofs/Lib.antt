@@ -1,4 +1,3 @@
-pub mod Chains
 pub mod ClockTests
 pub mod WordTests
 pub mod AreaTests

@@ -60,10 +60,6 @@ module _ (out : List ℕ) (at total len : ℕ) (e : len ≡ length (digits total
 
 -- ---- a text, and a total behind it
 
--- bytes copied over as many from a place on are stored there
-pub copied : (out : List ℕ) (at k : ℕ) (vs ys : List ℕ) → ys ≡ vs → k ≡ length vs → at + length vs ≤ length out → put_mid at k out ys ≡ sets out at vs
-copied out at k vs ys e n h = rw (e, n, drop-drop (length vs) at out, sets-eq vs out at h, append_assoc)
-
 pub text_line_stored : (out out₁ out₂ : List ℕ) (at : ℕ) (text : List ℕ) (total : ℕ) → out₁ ≡ sets out at text → out₂ ≡ sets out₁ (at + length text) (field_bytes total 10)
     → out₂ ≡ sets out at (text ++ field_bytes total 10)
 text_line_stored out out₁ out₂ at text total stored e =

@@ -173,7 +173,7 @@ fn put_text_line(out: &mut [u8], at: usize, text: &[u8], total: u64) -> usize
 }
 
 // Writes some bytes from a place on.
-#[tactic(auto, using(crate::proofs::Totals::copied))]
+#[tactic(auto, using(lists::proofs::Copies::copied))]
 pub fn put_text(out: &mut [u8], at: usize, text: &[u8])
     requires { Room out.old at (length text.now) }
     ensures { out.new ≡ sets out.old at text.now }

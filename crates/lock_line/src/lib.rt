@@ -51,7 +51,7 @@ pub fn hand_on(marks: &mut [u8], lock: usize) -> ProcessorId
     first
 }
 
-// How many wait for a lock.
+// How many wait for a lock, counted in a byte without a branch.
 fn in_line(marks: &[u8], lock: usize) -> usize
     requires { LineThere marks.now lock }
     ensures value { result ≡ in_line (processor_count marks.now) (marks_in mainframe marks.now) lock }

@@ -1,5 +1,5 @@
 -- What a step that fits says of its object, a write's refusals, and whether a processor holds a lock. Assumes nothing.
-use Rattle.std.proofs.Common.{◌≡◌, ℕ, ◌+◌, ◌*◌, ◌/◌, ◌<◌, ◌≤◌, Bool, true, false, not, ◌||◌, eqb, ltb, List, length, get_or, sym, refl, ap, ◌∙◌, add-one, arith, w64, Fits, ltb-true, ne_eqb, le-leb}
+use Rattle.std.proofs.Common.{◌≡◌, ℕ, ◌+◌, ◌*◌, ◌/◌, ◌<◌, ◌≤◌, Bool, true, false, not, ◌||◌, eqb, ltb, List, length, get_or, sym, refl, ap, ◌∙◌, add-one, arith, ltb-true, ne_eqb, le-leb}
 use mir.Val.{bool_byte}
 use mathlib.Core.Bool.{and-eq-true_iff, or-true, or-false}
 use borrow.Author.Tests.{lt-leb}
@@ -13,17 +13,13 @@ use Rattle.layout.specs.Areas.{state_in, holder_place}
 use Rattle.layout.specs.inner.Marks.{page_count, lock_count, dirty_mark}
 use Rattle.layout.specs.inner.Needed.{PageMark}
 use Rattle.refusals.specs.inner.Parts.{seen, bound_of, fields_in_range, records_to_come, room_if_all_dirty}
-use Rattle.refusals.specs.inner.Needed.{MarksCountable, WriteOf, PagesOf}
+use Rattle.refusals.specs.inner.Needed.{MarksCountable, WriteOf}
 use Rattle.refusals.proofs.Marked.{dirty_seen, holder_seen}
 use Rattle.refusals.proofs.Counting.{few_records_to_come}
 
 -- ---- row 5
 
 module _ (m : List ℕ) (k n : ℕ) where
-  -- a number of words is small
-  pub words_fit : (n ≡ page_count m) × (n < 256) → Fits w64 (n * page_width)
-  words_fit e = omega (arith, e.1)
-
   -- the words of a read or a write
   pub words_bound : k ≤ 2 → (n ≡ page_count m) × (n < 256) → n * page_width ≡ bound_of (seen m) k
   unfolding bound_of seen state_in mainframe
@@ -52,10 +48,6 @@ module _ (m : List ℕ) (k o v : ℕ) (h : MarksCountable m) (fit : fields_in_ra
 -- the page of a word
 pub page_of_word_lem : (m : List ℕ) (p w : ℕ) → WriteOf m p w → PageMark m p (w / page_width)
 page_of_word_lem m p w h = record { marks = h.by.counted.marks; from = h.by.from; to = h.by.to; page = omega (arith, h.word) }
-
--- the counts
-pub counted_of_write : (m : List ℕ) (p w : ℕ) → WriteOf m p w → MarksCountable m
-counted_of_write m p w h = h.by.counted
 
 module _ (m : List ℕ) (n p w : ℕ) (h : WriteOf m p w) (d : Bool) (mark : d ≡ not (eqb (dirty_mark m p (w / page_width)) 0)) where
   is : d ≡ dirty_at (seen m).pages p (w / page_width)
@@ -101,9 +93,9 @@ pub record HeldAmong (m : List ℕ) (own held l : ℕ) : Type 0 where
   pub says : not (eqb held 0) ≡ any l (λ i. eqb (holder (seen m) i) own)
 
 -- none is looked at yet
-pub held_begins : (m : List ℕ) (p own : ℕ) → PagesOf m p → HeldAmong m own 0 0
+pub held_begins : (m : List ℕ) (own : ℕ) → length m ≡ mark_area → HeldAmong m own 0 0
 unfolding any
-held_begins m p own h = record { marks = h.counted.marks; upto = omega arith; few = omega arith; says = refl }
+held_begins m own h = record { marks = h; upto = omega arith; few = omega arith; says = refl }
 
 module _ (m : List ℕ) (own held l : ℕ) (h : HeldAmong m own held l) (b : l < lock_limit) where
   -- one more

@@ -1,5 +1,5 @@
 -- The dirty pages are counted mark by mark; and a bound without counting. Assumes nothing.
-use Rattle.std.proofs.Common.{◌≡◌, ℕ, zero, suc, ◌+◌, ◌*◌, ◌<◌, ◌≤◌, Bool, true, false, cond, not, eqb, ltb, leb, List, get_or, refl, ap, ◌∙◌, suc-mul, mul-le-mul, add-one, arith, w64, Fits, le-ltb}
+use Rattle.std.proofs.Common.{◌≡◌, ℕ, zero, suc, ◌+◌, ◌*◌, ◌<◌, ◌≤◌, Bool, true, false, cond, not, eqb, ltb, leb, List, get_or, refl, ap, ◌∙◌, suc-mul, add-one, arith, le-ltb}
 use mir.Val.{bool_byte}
 use mathlib.Core.Bool.{and-false}
 use borrow.Author.Tests.{lt-leb}
@@ -113,20 +113,8 @@ few_records_to_come s = omega (arith, sum_at_most s.counts.processors s.counts.p
     of_one : (k : ℕ) → total s.counts.pages (λ g. cond (dirty_at s.pages (suc k) g) 1 0) ≤ s.counts.pages
     of_one k = omega (arith, sum_at_most s.counts.pages 1 _ (λ g. flag (dirty_at s.pages (suc k) g)))
 
-module _ (m : List ℕ) (a b : ℕ) (processors_are : (a ≡ processor_count m) × (a < 256)) (pages-are : (b ≡ page_count m) × (b < 256)) where
-  few_in_all : MarksCountable m → a * b ≤ copy_limit
-  few_in_all h = rw (processors_are.0, pages-are.0) (mul-le-mul h.processors h.pages)
-
-  -- the product of the counts is a small number
-  pub product_fits : MarksCountable m → Fits w64 (a * b)
-  product_fits h = omega (arith, few_in_all h)
-
-  module _ (x : ℕ) (standing_is : (x ≡ standing_count m) × (x < 65536)) where
-    -- and so is its sum with the records that stand
-    pub room_sum_fits : MarksCountable m → Fits w64 (x + a * b)
-    room_sum_fits h = omega (arith, few_in_all h, standing_is.1)
-
-    -- three marks decide about the room
-    pub marks_decide_room : ltb (x + a * b) record_limit ≡ room_if_all_dirty (seen m)
-    unfolding room_if_all_dirty seen state_in records_in mainframe
-    marks_decide_room = rw (standing_is.0, processors_are.0, pages-are.0)
+-- three marks decide about the room
+pub marks_decide_room : (m : List ℕ) (a b x : ℕ) → (a ≡ processor_count m) × (a < 256) → (b ≡ page_count m) × (b < 256) → (x ≡ standing_count m) × (x < 65536)
+    → ltb (x + a * b) record_limit ≡ room_if_all_dirty (seen m)
+unfolding room_if_all_dirty seen state_in records_in mainframe
+marks_decide_room m a b x processors_are pages_are standing_is = rw (standing_is.0, processors_are.0, pages_are.0)

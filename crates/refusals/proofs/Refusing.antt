@@ -17,33 +17,10 @@ use Rattle.layout.specs.inner.Needed.{MarksOf, Ready}
 use Rattle.refusals.specs.inner.Parts.{seen, bound_of, fields_in_range, is_free, may_act, step_in_range, early_refusal, refusal_of_kind}
 use Rattle.refusals.specs.inner.Needed.{MarksCountable, PagesOf, FittingStep}
 use Rattle.refusals.proofs.Marked.{arrived_seen, waiting_seen}
-use Rattle.refusals.proofs.Counting.{counting_begins, counting_more, counting_ends, records_to_come_are, product_fits, room_sum_fits, marks_decide_room}
-use Rattle.refusals.proofs.ByKind.{words_fit, word_there, lock_there, page_of_word_lem, counted_of_write, dirty_takes_stores, no_interval_left, no_room_left, write_has_space, write_has_ample_space, held_begins, held_more, held_ends}
+use Rattle.refusals.proofs.Counting.{counting_begins, counting_more, counting_ends, records_to_come_are, marks_decide_room}
+use Rattle.refusals.proofs.ByKind.{word_there, lock_there, page_of_word_lem, dirty_takes_stores, no_interval_left, no_room_left, write_has_space, write_has_ample_space, held_begins, held_more, held_ends}
 use Rattle.refusals.proofs.LateRows.{write_of_kind, write_decides, lock_of_acquire, lock_of_release, holder_asks, other_asks, holder_releases, other_releases, holder_arrives, other_arrives, queue_full, queue_has_place, queue_empty, queue_has_job}
-use Rattle.refusals.proofs.Fitting.{object_bound_there, value_bound_there, fields_flagged, processor_place, arrived_place_there, awaited_place_there, marks_flagged, processor_flagged, fits_by_flags, bounds_long}
-
--- no refusal has the number 0
-pub refusal_not_0 : (r : Refusal) → number_of r ≡ 0 → ⊥
-refusal_not_0 NotInOrder e = omega arith
-refusal_not_0 BadOpening e = omega arith
-refusal_not_0 UnknownKind e = omega arith
-refusal_not_0 AbsentProcessor e = omega arith
-refusal_not_0 BadField e = omega arith
-refusal_not_0 HasArrived e = omega arith
-refusal_not_0 HoldsAlready e = omega arith
-refusal_not_0 NotHolder e = omega arith
-refusal_not_0 NoIntervalLeft e = omega arith
-refusal_not_0 NoRecordLeft e = omega arith
-refusal_not_0 BadLength e = omega arith
-refusal_not_0 BadPair e = omega arith
-refusal_not_0 NoRoom e = omega arith
-refusal_not_0 BadPage e = omega arith
-refusal_not_0 EndsShort e = omega arith
-refusal_not_0 TooManySteps e = omega arith
-refusal_not_0 Waits e = omega arith
-refusal_not_0 ArrivesHolding e = omega arith
-refusal_not_0 QueueFull e = omega arith
-refusal_not_0 QueueEmpty e = omega arith
+use Rattle.refusals.proofs.Fitting.{fields_flagged, processor_flagged, fits_by_flags}
 
 -- ---- the rows 3 to 6 and 17, one after the other
 
@@ -265,4 +242,4 @@ module _ (c w r m : List ℕ) where
   unfolding refusal_in_order
   table_decides t n x e i = e ∙ sym (table_by_marks t n) ∙ ap (λ (j : ℕ). refusal_by mainframe (state_in mainframe c w r m) j t) i
 
-pub ruleset refusal_laws = (counting_begins, counting_more, counting_ends, records_to_come_are, product_fits, room_sum_fits, marks_decide_room, words_fit, page_of_word_lem, counted_of_write, dirty_takes_stores, no_interval_left, no_room_left, write_has_space, write_has_ample_space, write_of_kind, write_decides, lock_of_acquire, lock_of_release, holder_asks, other_asks, holder_releases, other_releases, holder_arrives, other_arrives, queue_full, queue_has_place, queue_empty, queue_has_job, held_begins, held_more, held_ends, kind_refused, processor_refused, marks_of_step, fields_refused, arrived_refused, waiter_refused, none_refuses, early_decides, step_fits, kind_decides, object_bound_there, value_bound_there, fields_flagged, processor_place, arrived_place_there, awaited_place_there, marks_flagged, processor_flagged, fits_by_flags, bounds_long, rules)
+pub ruleset refusal_laws = (counting_begins, counting_more, records_to_come_are, marks_decide_room, dirty_takes_stores, no_interval_left, no_room_left, write_has_space, write_has_ample_space, write_of_kind, write_decides, lock_of_acquire, lock_of_release, holder_asks, other_asks, holder_releases, other_releases, holder_arrives, other_arrives, queue_full, queue_has_place, queue_empty, queue_has_job, held_begins, held_more, held_ends, kind_refused, processor_refused, marks_of_step, fields_refused, arrived_refused, waiter_refused, none_refuses, fields_flagged, processor_flagged, fits_by_flags, rules)

@@ -45,7 +45,6 @@ pub fn collect(
 }
 
 // Every processor, upwards, fetches every page. Yields how many records were applied, and how many words they set.
-#[tactic(auto, using(crate::proofs::Collecting::fetches_laws))]
 fn fetch_all(
     clocks: &mut [u8],
     words: &mut [u32],
@@ -67,7 +66,6 @@ fn fetch_all(
 }
 
 // One processor fetches every page, upwards. Yields how many records were applied, and how many words they set.
-#[tactic(auto, using(crate::proofs::Collecting::fetches_laws))]
 fn fetch_pages(
     p: ProcessorId,
     clocks: &mut [u8],

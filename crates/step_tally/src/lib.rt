@@ -61,7 +61,6 @@ fn post_total(words: &mut [u32], n: usize, t: usize)
 }
 
 // What was posted of a tally and what n processors have added since, the processors upwards.
-#[tactic(auto, using(crate::proofs::Posting::posting_laws))]
 fn sum_of(words: &[u32], n: usize, t: usize) -> u32
     requires { SumReady words.now n t }
     ensures { result ≡ total_after (shared_in mainframe words.now) n t }

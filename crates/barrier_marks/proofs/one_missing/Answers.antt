@@ -1,3 +1,4 @@
+-- `one_missing` meets its contract. Assumes nothing.
 use Rattle.barrier_marks.proofs.Counting.{count_laws}
 use Rattle.barrier_marks.proofs.one_missing.Goals as goal
 

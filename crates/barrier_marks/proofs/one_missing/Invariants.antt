@@ -1,4 +1,4 @@
--- The first k marks are counted.
+-- The first k marks are counted. Assumes nothing.
 use Rattle.barrier_marks.proofs.Counting.{ArrivedCounted}
 use Rattle.barrier_marks.proofs.one_missing.Given as goal
 

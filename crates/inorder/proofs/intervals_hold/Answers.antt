@@ -1,5 +1,5 @@
 use Rattle.std.proofs.Common.{rules}
-use Rattle.inorder.proofs.Chains.{every_from_all}
+use Rattle.lists.proofs.Chains.{every_from_all}
 use Rattle.inorder.proofs.intervals_hold.Goals as goal
 
 pub returns : goal.returns

@@ -4,7 +4,7 @@ use Rattle.std.proofs.lemmas.Iterator.{YieldsList-from_slice}
 use Rattle.std.proofs.lemmas.Iterator.Search.{all_from_yields_List}
 use Rattle.limits.specs.Limits.{interval_limit, processor_limit}
 use Rattle.inorder_records.specs.inner.Tests.{own_fits}
-use Rattle.inorder.proofs.Chains.{list_all-places}
+use Rattle.lists.proofs.Chains.{list_all-places}
 use Rattle.inorder.proofs.own_fit.Goals as goal
 
 pub returns : goal.returns

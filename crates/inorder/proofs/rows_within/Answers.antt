@@ -1,5 +1,5 @@
 use Rattle.std.proofs.Common.{rules}
-use Rattle.inorder.proofs.Chains.{every_from_all}
+use Rattle.lists.proofs.Chains.{every_from_all}
 use Rattle.inorder.specs.inner.Tests.{is_row_within}
 use Rattle.inorder.proofs.rows_within.Goals as goal
 

@@ -1,3 +1,4 @@
+-- `first_in_line` meets its contract. Assumes nothing.
 use Rattle.lock_line.proofs.Handing.{line_laws}
 use Rattle.lock_line.proofs.first_in_line.Goals as goal
 

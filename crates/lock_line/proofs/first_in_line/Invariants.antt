@@ -1,4 +1,4 @@
--- None of the first k processors stands first.
+-- None of the first k processors stands first. Assumes nothing.
 use Rattle.lock_line.proofs.Standing.{NoneFirst}
 use Rattle.lock_line.proofs.first_in_line.Given as goal
 

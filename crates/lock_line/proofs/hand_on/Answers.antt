@@ -1,3 +1,4 @@
+-- `hand_on` meets its contract. Assumes nothing.
 use Rattle.lock_line.proofs.Handing.{line_laws}
 use Rattle.lock_line.proofs.hand_on.Goals as goal
 use Rattle.lock_line.proofs.hand_on.Goals.{then-first-ne0, else-first-ne0}

@@ -1,4 +1,4 @@
--- How many of the first k processors wait for the lock.
+-- How many of the first k processors wait for the lock. Assumes nothing.
 use Rattle.lock_line.proofs.Standing.{LineCounted}
 use Rattle.lock_line.proofs.in_line.Given as goal
 

@@ -1,3 +1,4 @@
+-- `move_up` meets its contract. Assumes nothing.
 use Rattle.lock_line.proofs.Handing.{line_laws}
 use Rattle.lock_line.proofs.move_up.Goals as goal
 

@@ -1,4 +1,4 @@
--- The turns of the first k processors have moved up.
+-- The turns of the first k processors have moved up. Assumes nothing.
 use Rattle.lock_line.proofs.Moving.{Moving}
 use Rattle.lock_line.proofs.move_up.Given as goal
 

@@ -1,3 +1,4 @@
+-- `all_learned` meets its contract. Assumes nothing.
 use Rattle.step_barrier.proofs.Learning.{learn_laws}
 use Rattle.step_barrier.proofs.all_learned.Goals as goal
 

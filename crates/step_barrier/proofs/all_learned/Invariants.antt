@@ -1,4 +1,4 @@
--- The first k processors have learned.
+-- The first k processors have learned. Assumes nothing.
 use Rattle.step_barrier.proofs.Learning.{AllLearning}
 use Rattle.step_barrier.proofs.all_learned.Given as goal
 

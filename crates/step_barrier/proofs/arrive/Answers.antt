@@ -1,3 +1,4 @@
+-- `arrive` meets its contract. Assumes nothing.
 use Rattle.step_barrier.proofs.Acting.{act_laws}
 use Rattle.step_barrier.proofs.arrive.Goals as goal
 

@@ -1,3 +1,4 @@
+-- `complete_round` meets its contract. Assumes nothing.
 use Rattle.step_barrier.proofs.Completing.{complete_laws}
 use Rattle.step_barrier.proofs.complete_round.Goals as goal
 

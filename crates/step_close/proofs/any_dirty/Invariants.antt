@@ -1,4 +1,4 @@
--- Whether one of the marks looked at is set.
+-- Whether one of the marks looked at is set. Assumes nothing.
 use Rattle.std.proofs.Common.{◌≡◌}
 use Rattle.step_close.proofs.NothingDirty.{some_set}
 use Rattle.step_close.proofs.any_dirty.Given as goal

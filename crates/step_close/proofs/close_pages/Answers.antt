@@ -1,3 +1,4 @@
+-- `close_pages` meets its contract. Assumes nothing.
 use Rattle.step_close.proofs.AllPages.{closing_page, closed_page}
 use Rattle.step_close.proofs.close_pages.Goals as goal
 

@@ -1,4 +1,4 @@
--- The pages below g are closed.
+-- The pages below g are closed. Assumes nothing.
 use Rattle.step_close.proofs.AllPages.{ClosingPages}
 use Rattle.step_close.proofs.close_pages.Given as goal
 

@@ -1,3 +1,4 @@
+-- `lay_diff` meets its contract. Assumes nothing.
 use Rattle.step_close.proofs.SlotBytes.{diff_room, diff_length}
 use Rattle.step_close.proofs.lay_diff.Goals as goal
 

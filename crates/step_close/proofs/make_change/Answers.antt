@@ -1,3 +1,4 @@
+-- `make_change` meets its contract. Assumes nothing.
 use Rattle.step_close.proofs.PageRecords.{change_laws}
 use Rattle.step_close.proofs.make_change.Goals as goal
 

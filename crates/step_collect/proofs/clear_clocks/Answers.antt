@@ -1,3 +1,4 @@
+-- `clear_clocks` meets its contract. Assumes nothing.
 use Rattle.step_collect.proofs.Clearing.{clear_laws, clearing_all}
 use Rattle.step_collect.proofs.clear_clocks.Goals as goal
 

@@ -1,4 +1,4 @@
--- The interval rows of the first k processors are zeros.
+-- The interval rows of the first k processors are zeros. Assumes nothing.
 use Rattle.step_collect.proofs.Clearing.{ClocksClearing}
 use Rattle.step_collect.proofs.clear_clocks.Given as goal
 

@@ -1,3 +1,4 @@
+-- `fetch_all` meets its contract. Assumes nothing.
 use Rattle.step_collect.proofs.Collecting.{fetches_laws}
 use Rattle.step_collect.proofs.fetch_all.Goals as goal
 

@@ -1,4 +1,4 @@
--- The first k processors have fetched every page.
+-- The first k processors have fetched every page. Assumes nothing.
 use Rattle.step_collect.proofs.Collecting.{AllFetching}
 use Rattle.step_collect.proofs.fetch_all.Given as goal
 

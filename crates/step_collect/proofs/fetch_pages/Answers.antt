@@ -1,3 +1,4 @@
+-- `fetch_pages` meets its contract. Assumes nothing.
 use Rattle.step_collect.proofs.Collecting.{fetches_laws}
 use Rattle.step_collect.proofs.fetch_pages.Goals as goal
 

@@ -1,4 +1,4 @@
--- The first g pages are fetched.
+-- The first g pages are fetched. Assumes nothing.
 use Rattle.step_collect.proofs.Collecting.{PagesFetching}
 use Rattle.step_collect.proofs.fetch_pages.Given as goal
 

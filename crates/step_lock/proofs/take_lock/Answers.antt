@@ -1,3 +1,4 @@
+-- `take_lock` meets its contract. Assumes nothing.
 use Rattle.step_lock.proofs.Locking.{lock_laws}
 use Rattle.step_lock.proofs.take_lock.Goals as goal
 

@@ -1,3 +1,4 @@
+-- `clear_adds` meets its contract. Assumes nothing.
 use Rattle.step_tally.proofs.Posting.{adds_cleared}
 use Rattle.step_tally.proofs.clear_adds.Goals as goal
 

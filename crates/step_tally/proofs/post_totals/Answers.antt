@@ -1,3 +1,4 @@
+-- `post_totals` meets its contract. Assumes nothing.
 use Rattle.step_tally.proofs.Posting.{posting_ends}
 use Rattle.step_tally.proofs.post_totals.Goals as goal
 

@@ -1,4 +1,4 @@
--- The totals of the tallies below t are posted.
+-- The totals of the tallies below t are posted. Assumes nothing.
 use Rattle.step_tally.proofs.Posting.{PostedTo}
 use Rattle.step_tally.proofs.post_totals.Given as goal
 

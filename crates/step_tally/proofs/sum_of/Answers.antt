@@ -1,3 +1,4 @@
+-- `sum_of` meets its contract. Assumes nothing.
 use Rattle.step_tally.proofs.Posting.{posting_laws, summing_begins}
 use Rattle.step_tally.proofs.sum_of.Goals as goal
 

@@ -1,4 +1,4 @@
--- The posted total and the adds of the first k processors.
+-- The posted total and the adds of the first k processors. Assumes nothing.
 use Rattle.step_tally.proofs.Posting.{SummedTo}
 use Rattle.step_tally.proofs.sum_of.Given as goal
 

@@ -1,0 +1,6 @@
+use Rattle.run_list.proofs.Running.{opening_laid}
+use Rattle.run_list.proofs.run_opening.Goals as goal
+
+pub returns : goal.returns
+returns c =
+    opening_laid _ _ _ _ _ _ _ _ _ _ _ _ _ c.open_mainframe-opened.ensures.answer c.open_mainframe-opened.ensures.memory c.refusal_number.ensures c.lay_answer.ensures
