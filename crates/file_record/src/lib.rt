@@ -68,6 +68,7 @@ pub fn too_many(stand: Stand, lines: &mut [u8]) -> Stand
 }
 
 // Writes the line of a step from a place on where the digits of its number are at hand, and says the place behind it.
+// A call for each way, so that the line of an accepted step is compiled with the refusal 0: with one call each step takes five instructions more.
 pub fn put_next(
     out: &mut [u8],
     at: usize,
@@ -80,11 +81,24 @@ pub fn put_next(
     requires counted { Counted digits len number }
     ensures { LinePut out.old at (outcome_line number outcome) out.new result }
 {
-    let (refusal, value, count) = match outcome {
-        Ok(answered) => (0, answered.value, answered.count),
-        Err(refusal) => (u32::from(refusal.number()), 0, 0),
-    };
-    file_lines::put_counted_line(out, at, digits, len, number, refusal, value, count)
+    match outcome {
+        Ok(answered) => {
+            file_lines::put_counted_line(
+                out,
+                at,
+                digits,
+                len,
+                number,
+                0,
+                answered.value,
+                answered.count,
+            )
+        }
+        Err(refusal) => {
+            let refusal = u32::from(refusal.number());
+            file_lines::put_counted_line(out, at, digits, len, number, refusal, 0, 0)
+        }
+    }
 }
 
 // The words that have moved with those of a step's outcome, before which so many had, and the step has this number, which is named for the contract
