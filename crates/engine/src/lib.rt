@@ -1,5 +1,6 @@
 // The engine: a step on the four areas of lent memory that hold the state of one mainframe.
 // Every contract determines the answer and what each area holds afterwards, by an equation with a definition of the rules.
+// The areas stay four parameters: C lends four slices, and a struct of four `&mut` owes every contract a clause for each that it is the same one.
 #![tactic(auto)]
 
 ghost use Rattle.std.specs.Prelude.{◌≡◌, IfOk};

@@ -1,6 +1,7 @@
 // The marks by name: counts, the records that stand, the wish, who has arrived, who holds a lock, which pages are dirty, who waits for which lock
 // at which turn, the oldest job and how many wait.
-// Every contract is an equation over the list of the marks, with a definition of specs/Areas.antt.
+// Every contract is an equation over the list of the marks, with a definition of specs/Areas.antt. Some functions differ in a place alone: one with
+// the place as a parameter would be no plainer, since the name says what the mark means.
 // The proofs of this file see the places behind their names.
 #![tactic(auto, unfolding(rules::specs::State::mainframe, crate::specs::Areas::standing_count, crate::specs::Areas::arrived_place, crate::specs::Areas::holder_place, crate::specs::Areas::dirty_place, crate::specs::Areas::awaited_place, crate::specs::Areas::turn_place, crate::specs::Areas::first_place, crate::specs::Areas::jobs_place, crate::specs::inner::Marks::with_standing))]
 

@@ -127,7 +127,8 @@ fn object_bound(kind: Kind, marks: &[u8]) -> usize
     }
 }
 
-// The row behind 17 that refuses a step that fits, each row for its kind; none refuses a kind that is not known.
+// The row behind 17 that refuses a step that fits, each row for its kind. The kind is a number, since what is promised holds of unknown ones
+// too: none of these rows refuses them.
 pub fn late_refusal(
     kind: u32,
     processor: ProcessorId,

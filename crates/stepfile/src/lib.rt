@@ -30,7 +30,8 @@ pub struct Progress {
     pub words: u64,
 }
 
-// What feeding a chunk answers: how far the file has been fed, whether the chunk was fed, and how many bytes of lines were written.
+// What feeding a chunk answers: how far the file has been fed, whether the chunk was fed, and how many bytes of lines were written. A flag and no
+// Option: the demands `refused_lines` and `refused_areas` are said of it.
 #[derive(Clone, Copy)]
 pub struct Taken {
     pub progress: Progress,
