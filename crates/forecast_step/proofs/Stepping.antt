@@ -42,7 +42,7 @@ module _ (own m : List ℕ) (k p o v : ℕ) where
       early_decides m k p o v (number_of r) early (get_or (0 ∷ own) (step_of k p o v).processor 0) (number_of_pos r)
       ∙ table_shown own m (step_of k p o v)
 
-  module _ (h : Foreseen own m) (kind : Kind) (is : number_of_kind kind ≡ k) (none : 0 ≡ early_refusal (seen m) k p o v) where
+  module _ (h : Foreseen own m) (none : 0 ≡ early_refusal (seen m) k p o v) where
     -- the step fits
     pub step_fitting : FittingStep m k p o
     step_fitting = step_fits m k p o v 0 none refl (counted_foreseen own m h)

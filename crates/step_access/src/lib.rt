@@ -16,7 +16,8 @@ use layout::marks::{is_dirty, mark_dirty};
 use layout::{copy_page, copy_row, twin_row};
 use limits::PAGE_WIDTH;
 
-// What a read or a write answers: the word that was read or 0, how many records its fetch applied, and how many words those set.
+// What an accepted step answers: a value (the word of a read, the total of a tally, the job that was removed, else 0), how many records were applied, and
+// how many words these set.
 #[derive(Clone, Copy)]
 pub struct Answered {
     pub value: u32,
