@@ -14,7 +14,7 @@ ghost use Rattle.stepfile.specs.inner.Needed.{FeedableIs, EndThere, EndsShort, F
 
 use file_held::Held;
 use file_record::Stand;
-use limits::{FILE_RECORD_LIMIT, FILE_RECORD_WIDTH, LINE_LIMIT, WORD_VALUES};
+use limits::{FILE_RECORD_LIMIT, FILE_RECORD_WIDTH, LINE_LIMIT, Refusal, WORD_VALUES};
 
 // How far a file has been fed.
 #[derive(Clone, Copy)]
@@ -117,7 +117,8 @@ fn put_end(progress: Progress, lines: &mut [u8]) -> usize
     if progress.stopped {
         0
     } else if ends_short(progress) {
-        file_lines::put_record_line(lines, 0, progress.number, 15, 0, 0)
+        let refusal = u32::from(Refusal::EndsShort.number());
+        file_lines::put_record_line(lines, 0, progress.number, refusal, 0, 0)
     } else {
         file_lines::end_with_words(lines, 0, progress.words)
     }
