@@ -3,11 +3,12 @@ use Prim.Native.Nat.{ℕ, suc, ◌+◌, ◌≤◌, ◌<◌}
 use native.Mathlib.Numerals.{add-one}
 use native.Mathlib.Omega.{arith}
 use mathlib.Core.Path.{◌≡◌, refl, sym, ap, ◌∙◌}
-use mathlib.Core.Bool.{Bool, false, cond, not, and-false}
+use mathlib.Core.Bool.{Bool, true, false, cond, not, and-false}
 use mathlib.Core.List.{List}
 use lib.ListN.{length}
 use lib.Dec.{leb, eqb}
 use borrow.Author.Tests.{not-false, eqb-true, lt-leb}
+use mir.Val.{bool_byte}
 use borrow.Author.Rules.{rules}
 use Rattle.lists.specs.Tables.{total}
 use Rattle.lists.proofs.Tables.{total_same, total_of_fewer}
@@ -53,12 +54,21 @@ arrived_counting_begins m h = record { there = h; upto = omega arith; few = omeg
 pub counting_next : (m : List ℕ) (sum k : ℕ) → ArrivedCounted m sum k → k < processor_limit → MarksOf m (k + 1)
 counting_next m sum k h l = record { marks = h.there.marks; from = omega arith; to = omega arith }
 
--- and counts 1 or 0
-pub counting_more : (m : List ℕ) (sum k r : ℕ) (b : Bool) → ArrivedCounted m sum k → k < processor_limit → b ≡ not (eqb (arrived_mark m (k + 1)) 0) → r ≡ cond b 1 0 → r ≤ 1
+-- a test counts 1 or 0
+counts_one : (b : Bool) → bool_byte b ≡ cond b 1 0
+counts_one true = refl
+counts_one false = refl
+
+at_most_one : (b : Bool) → bool_byte b ≤ 1
+at_most_one true = omega arith
+at_most_one false = omega arith
+
+-- and so does it
+pub counting_more : (m : List ℕ) (sum k r : ℕ) (b : Bool) → ArrivedCounted m sum k → k < processor_limit → b ≡ not (eqb (arrived_mark m (k + 1)) 0) → r ≡ bool_byte b
     → ArrivedCounted m (sum + r) (k + 1)
 unfolding total
-counting_more m sum k r b h l e f g =
-    record { there = h.there; upto = omega arith; few = omega (arith, h.few); same = rw (add-one k, ← h.same, f, rw (add-one k) at e) }
+counting_more m sum k r b h l e f =
+    record { there = h.there; upto = omega arith; few = omega (arith, h.few, f, at_most_one b); same = rw (add-one k, ← h.same, f, counts_one b, rw (add-one k) at e) }
 
 -- the marks of all places are those of the processors
 module _ (m : List ℕ) (h : AbsentAway m) (c w r : List ℕ) where
@@ -71,14 +81,14 @@ module _ (m : List ℕ) (h : AbsentAway m) (c w r : List ℕ) where
       (λ k l. ap (λ (x : ℕ). cond (not (eqb x 0)) 1 0) (sym (arrived_read c w r m (suc k) (omega arith) (omega (arith, h.few)))))
 
 -- all are counted
-pub arrived_counting_ends : (m : List ℕ) (sum k x n : ℕ) → ArrivedCounted m sum k → processor_limit ≤ k → (x ≡ sum) × (x < 256) → (n ≡ processor_count m) × (n < 256)
+pub arrived_counting_ends : (m : List ℕ) (sum k x n : ℕ) → ArrivedCounted m sum k → processor_limit ≤ k → x ≡ sum → (n ≡ processor_count m) × (n < 256)
     → OneMissing m (eqb (x + 1) n)
 arrived_counting_ends m sum k x n h l e d =
     let all : k ≡ processor_limit = omega (arith, h.upto) in
     record {
       is =
           λ c w r.
-          let is : x ≡ arrived_count (state_in mainframe c w r m) = e.0 ∙ h.same ∙ ap (λ (j : ℕ). passing j (marked m)) all ∙ arrivals_are m h.there c w r in
+          let is : x ≡ arrived_count (state_in mainframe c w r m) = e ∙ h.same ∙ ap (λ (j : ℕ). passing j (marked m)) all ∙ arrivals_are m h.there c w r in
           rw (is, d.0);
     }
 

@@ -1,6 +1,6 @@
 -- What the four methods of `Clock` leave to show, one law for each way of the code, and `clock_laws`, by which their proofs search.
 -- Assumes nothing.
-use Prim.Native.Nat.{ℕ, zero, suc, ◌+◌, ◌-◌, ◌*◌, ◌≤◌, ◌<◌, max}
+use Prim.Native.Nat.{ℕ, zero, suc, ◌+◌, ◌-◌, ◌≤◌, ◌<◌, max}
 use native.Mathlib.Numerals.{add-one}
 use native.Mathlib.Omega.{arith}
 use mathlib.Core.Bool.{Bool, true, false}
@@ -8,15 +8,12 @@ use mathlib.Core.List.{List}
 use mathlib.Core.Path.{◌≡◌, refl, sym, ap, ◌∙◌}
 use lib.ListN.{length, get_or, set, take, drop, drop_of_length-le, get_or-eq_default}
 use lib.Seq.{take_all, take-suc, take-suc-set, drop-cons}
-use mir.Syntax.{w8, w32}
-use mir.Val.{Fits}
 use borrow.Author.Tests.{le-leb}
 use borrow.Author.Rules.{rules}
-use Rattle.limits.specs.inner.Sizes.{clock_width}
 use Rattle.clock.specs.Clocks.{joined, covered, entry_of, sum_of}
 use Rattle.clock.proofs.Laws.{joined_entry, length_joined, covered→Covers}
 
--- ---- join: `out` has the join's first i entries
+-- ---- join: `entries` has the join's first i entries
 
 -- one more entry is the join's
 pub join_more : (a b out : List ℕ) (r i n : ℕ) → length a ≡ n → length b ≡ n → length out ≡ n → i < n → r ≡ max (get_or a i 0) (get_or b i 0)
@@ -79,26 +76,14 @@ entry_of_present c (suc q) h = ap (λ (k : ℕ). get_or c k 0) (omega arith)
 -- ---- sum: `total` and the entries from i on make the sum
 
 -- one more entry is added
-pub sum_more : (c : List ℕ) (total i n : ℕ) → length c ≡ n → i < n → total + sum_of (drop i c) ≡ sum_of c
-    → total + get_or c i 0 + sum_of (drop (i + 1) c) ≡ sum_of c
+pub sum_more : (c : List ℕ) (total x i : ℕ) → i < length c → x ≡ get_or c i 0 → total + sum_of (drop i c) ≡ sum_of c
+    → total + x + sum_of (drop (i + 1) c) ≡ sum_of c
 unfolding sum_of
-sum_more c total i n l h e =
-    let hc : i < length c = omega arith in
-    rw add-one (omega (arith, ap sum_of (drop-cons c i 0 hc)))
-
--- the total of one byte more is at most 255 more
-pub sum_bound : (total x i : ℕ) → total ≤ 255 * i → Fits w8 x → total + x ≤ 255 * (i + 1)
-sum_bound total x i h f = omega arith
-
--- the total of at most eight bytes fits
-pub sum_fits : (total x i : ℕ) → total ≤ 255 * i → i < clock_width → Fits w8 x → Fits w32 (total + x)
-sum_fits total x i h l f = omega arith
+sum_more c total x i h v e = rw (add-one, v) (omega (arith, ap sum_of (drop-cons c i 0 h)))
 
 -- all entries are added
-pub sum_all : (c : List ℕ) (total i n : ℕ) → length c ≡ n → n ≤ i → total + sum_of (drop i c) ≡ sum_of c → total ≡ sum_of c
+pub sum_all : (c : List ℕ) (total i : ℕ) → length c ≤ i → total + sum_of (drop i c) ≡ sum_of c → total ≡ sum_of c
 unfolding sum_of
-sum_all c total i n l h e =
-    let le : length c ≤ i = omega arith in
-    omega (arith, ap sum_of (drop_of_length-le c le))
+sum_all c total i h e = omega (arith, ap sum_of (drop_of_length-le c h))
 
-pub ruleset clock_laws = (join_more, join_all, uncovered, covers_more, covers_all, entry_of_nobody, entry_of_absent, entry_of_present, sum_more, sum_bound, sum_fits, sum_all, rules)
+pub ruleset clock_laws = (uncovered, covers_more, covers_all, entry_of_nobody, entry_of_absent, entry_of_present, rules)

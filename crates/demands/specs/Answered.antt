@@ -8,7 +8,7 @@ use Rattle.rules.specs.State.{mainframe, Counts}
 use Rattle.layout.specs.Areas.{Areas}
 use Rattle.opening.specs.Promises.{opening_of, open_refusal, areas_opened}
 use Rattle.step_act.specs.Telling.{told}
-use Rattle.step_act.specs.declared.Outcome.{Outcome}
+use Rattle.step_act.specs.Telling.{Outcome}
 use Rattle.engine.specs.Calls.{answers_of_calls, Returned}
 use Rattle.step_fields.specs.Records.{steps_in, step_count}
 use Rattle.run_list.specs.Runs.{first_refusal, run_answers}

@@ -9,16 +9,17 @@ use mathlib.Core.List.{List, [], ◌∷◌, ◌++◌, map, append_assoc}
 use lib.ListN.{length, get_or, take, drop, replicate, length-drop}
 use lib.Seq.{length-take-le}
 use lib.Pow.{pow-add, pow_mono}
+use mir.Syntax.{w64}
+use mir.Val.{Fits}
 use borrow.Author.Rules.{rules}
 use Rattle.limits.specs.Limits.{page_width, word_values}
 use Rattle.diff.specs.Format.{Run}
 use Rattle.diff.specs.Reading.{run_count, runs_at, runs_in, words_place, words_at, word_count, orderly, read_refusal, settings_of, settings}
 use Rattle.diff.specs.inner.Mask.{mask_of}
-use Rattle.diff.specs.inner.Needed.{PairOnPage}
 use Rattle.diff.proofs.Runs.{orderly_parts, orderly_earlier, length_settings}
 use Rattle.diff.proofs.Words.{length_words}
 use Rattle.diff.proofs.Legal.{legal_when_read}
-use Rattle.diff.proofs.Checking.{runs_left}
+use Rattle.diff.proofs.Checking.{pair_left}
 
 -- ---- lists of settings
 
@@ -89,13 +90,12 @@ mask_of_runs w from (r ∷ rs) words h enough =
 
 -- ---- all runs
 
--- after some runs: the blocks of the `left` runs whose pairs stand from the place `at` on are to be added
-pub record MaskingRuns (bytes : List ℕ) (n at left mask : ℕ) : Type 0 where
+-- after k of n runs: the blocks of those behind them are to be added
+pub record MaskingRuns (bytes : List ℕ) (n k mask : ℕ) : Type 0 where
   pub from : ℕ
-  pub in_order : orderly page_width from (runs_at bytes at left) ≡ true
+  pub in_order : orderly page_width from (runs_at bytes (1 + 2 * k) (n - k)) ≡ true
   pub pairs_whole : 1 + 2 * n ≤ length bytes
-  pub place : at + 2 * left ≡ 1 + 2 * n
-  pub same : mask + runs_mask (runs_at bytes at left) ≡ mask_of (settings page_width bytes)
+  pub same : mask + runs_mask (runs_at bytes (1 + 2 * k) (n - k)) ≡ mask_of (settings page_width bytes)
   pub small : mask_of (settings page_width bytes) < word_values
 
 -- the settings of a page of 32 words have 32 digits
@@ -108,17 +108,17 @@ mask_fits bytes ok =
     rw e at (mask_below (settings page_width bytes))
 
 module _ (bytes : List ℕ) (n : ℕ) where
-  pub masking_begins : read_refusal page_width bytes ≡ 0 → n ≡ get_or bytes 0 0 → MaskingRuns bytes n 1 n 0
+  pub masking_begins : read_refusal page_width bytes ≡ 0 → n ≡ get_or bytes 0 0 → MaskingRuns bytes n 0 0
   unfolding run_count runs_in words_place settings
   masking_begins ok e =
       let p = legal_when_read page_width bytes ok in
-      let all = mask_of_runs page_width 0 (runs_in bytes) (words_at bytes (words_place bytes) (word_count (runs_in bytes))) p.in_order (le_of_eq (sym (length_words bytes (words_place bytes) (word_count (runs_in bytes))))) in
+      let everything = mask_of_runs page_width 0 (runs_in bytes) (words_at bytes (words_place bytes) (word_count (runs_in bytes))) p.in_order (le_of_eq (sym (length_words bytes (words_place bytes) (word_count (runs_in bytes))))) in
+      let all : n - 0 ≡ n = omega arith in
       record {
         from = 0;
-        in_order = rw e p.in_order;
+        in_order = rw (all, e) p.in_order;
         pairs_whole = omega (arith, p.pairs_whole, e);
-        place = refl;
-        same = rw e (zero-add (runs_mask (runs_in bytes)) ∙ sym all ∙ one-mul (mask_of (settings page_width bytes)));
+        same = rw (all, e) (zero-add (runs_mask (runs_in bytes)) ∙ sym everything ∙ one-mul (mask_of (settings page_width bytes)));
         small = mask_fits bytes ok;
       }
 
@@ -126,81 +126,58 @@ pub masked_first : (bytes : List ℕ) → read_refusal page_width bytes ≡ 0 �
 unfolding words_place
 masked_first bytes ok = omega (arith, (legal_when_read page_width bytes ok).pairs_whole)
 
-module _ (bytes : List ℕ) (n at left mask : ℕ) where
-  abbrev offset : ℕ
-  offset = get_or bytes at 0
-
-  abbrev len : ℕ
-  len = get_or bytes (at + 1) 0
-
-  -- what is known of the next run, and of those behind it
-  record Next : Type 0 where
-    pub on_page_lem : offset + len ≤ page_width
-    pub behind : orderly page_width (offset + len + 1) (runs_at bytes (at + 2) (left - 1)) ≡ true
-    pub block : runs_mask (runs_at bytes at left) ≡ (2 ^ (offset + len) - 2 ^ offset) + runs_mask (runs_at bytes (at + 2) (left - 1))
-
-  next : MaskingRuns bytes n at left mask → 0 < left → Next
-  unfolding runs_mask
-  next p more =
-      let first = runs_left bytes at left more in
-      let q = orderly_parts page_width p.from _ (runs_at bytes (at + 2) (left - 1)) (rw first at p.in_order) in
-      record { on_page_lem = q.within; behind = q.rest; block = rw first }
-
-  pub masking_pair : MaskingRuns bytes n at left mask → 0 < left → PairOnPage bytes at
-  masking_pair p more = record { pair_whole = omega (arith, p.place, p.pairs_whole); on_page_lem = (next p more).on_page_lem }
-
-  -- the block added
-  masking_sum : (r : ℕ) → MaskingRuns bytes n at left mask → 0 < left → r ≡ 2 ^ (offset + len) - 2 ^ offset
-      → mask + r + runs_mask (runs_at bytes (at + 2) (left - 1)) ≡ mask_of (settings page_width bytes)
-  masking_sum r p more e = omega (arith, p.same, (next p more).block, e)
-
-  pub masking_more : (r : ℕ) → MaskingRuns bytes n at left mask → 0 < left → r ≡ 2 ^ (offset + len) - 2 ^ offset → MaskingRuns bytes n (at + 2) (left - 1) (mask + r)
-  masking_more r p more e =
-      let q = next p more in
-      record {
-        from = offset + len + 1;
-        in_order = q.behind;
-        pairs_whole = p.pairs_whole;
-        place = omega (arith, p.place);
-        same = masking_sum r p more e;
-        small = p.small;
-      }
-
-  pub masking_fits : (r : ℕ) → MaskingRuns bytes n at left mask → 0 < left → r ≡ 2 ^ (offset + len) - 2 ^ offset → mask + r < 2 ^ 64
-  masking_fits r p more e = omega (arith, masking_sum r p more e, p.small)
-
-  pub masking_ends : MaskingRuns bytes n at left mask → left ≤ 0 → mask ≡ mask_of (settings page_width bytes)
-  unfolding runs_mask runs_at
-  masking_ends p done =
-      let e : left ≡ 0 = omega (arith, done) in
-      let last : mask + 0 ≡ mask_of (settings page_width bytes) = rw e at p.same in
-      omega (arith, last)
-
-  pub masked_fits : MaskingRuns bytes n at left mask → mask < word_values
-  masked_fits p = omega (arith, p.same, p.small)
-
--- ---- the block of a run
-
+-- the block of a run whose words end on the page is below 2 ^ 64 as its two bits are
 pub shifted : (k : ℕ) → k ≤ page_width → 1 * 2 ^ k % 2 ^ 64 ≡ 2 ^ k
 shifted k h =
     let small : 2 ^ k ≤ 2 ^ 32 = pow_mono h in
     let fits : 2 ^ k < 2 ^ 64 = omega (arith, small) in
     ap (λ (x : ℕ). x % 2 ^ 64) (one-mul (2 ^ k)) ∙ mod-eq_of_lt fits
 
-pub block_below : (offset len x y : ℕ) → x ≡ 2 ^ (offset + len) → y ≡ 2 ^ offset → y ≤ x
-block_below offset len x y e f = let longer : offset ≤ offset + len = omega arith in omega (arith, pow_mono longer, e, f)
+module _ (bytes : List ℕ) (n k mask o l : ℕ) (p : MaskingRuns bytes n k mask) (more : k < n) (eo : o ≡ get_or bytes (1 + 2 * k) 0) (el : l ≡ get_or bytes (2 + 2 * k) 0) where
+  -- what is known of the next run, and of those behind it
+  record Next : Type 0 where
+    pub on_page_lem : o + l ≤ page_width
+    pub behind : orderly page_width (o + l + 1) (runs_at bytes (1 + 2 * (k + 1)) (n - (k + 1))) ≡ true
+    pub block : runs_mask (runs_at bytes (1 + 2 * k) (n - k)) ≡ (2 ^ (o + l) - 2 ^ o) + runs_mask (runs_at bytes (1 + 2 * (k + 1)) (n - (k + 1)))
 
-pub block_is : (offset len x y : ℕ) → x ≡ 2 ^ (offset + len) → y ≡ 2 ^ offset → x - y ≡ 2 ^ (offset + len) - 2 ^ offset
-block_is offset len x y e f = rw (e, f)
+  next : Next
+  unfolding runs_mask
+  next =
+      let first = pair_left bytes n k more in
+      let q = orderly_parts page_width p.from _ _ (rw first at p.in_order) in
+      record { on_page_lem = rw (eo, el) q.within; behind = rw (eo, el) q.rest; block = rw (eo, el, first) }
 
-pub block_read : (bytes : List ℕ) (at a b r : ℕ) → a ≡ get_or bytes at 0 → b ≡ get_or bytes (at + 1) 0 → r ≡ 2 ^ (a + b) - 2 ^ a
-    → r ≡ 2 ^ (get_or bytes at 0 + get_or bytes (at + 1) 0) - 2 ^ get_or bytes at 0
-block_read bytes at a b r e f g = g ∙ rw (e, f)
+  pub run_on_page : o + l ≤ page_width
+  run_on_page = next.on_page_lem
 
-pub run_read : (bytes : List ℕ) (at a b : ℕ) → PairOnPage bytes at → a ≡ get_or bytes at 0 → b ≡ get_or bytes (at + 1) 0 → a + b ≤ page_width
-run_read bytes at a b p e f = omega (arith, p.on_page_lem, e, f)
+  block_of : 1 * 2 ^ (o + l) % 2 ^ 64 - 1 * 2 ^ o % 2 ^ 64 ≡ 2 ^ (o + l) - 2 ^ o
+  block_of = let start : o ≤ page_width = omega (arith, run_on_page) in rw (shifted (o + l) run_on_page, shifted o start)
 
-pub start_on_page : (offset len : ℕ) → offset + len ≤ page_width → offset ≤ page_width
-start_on_page offset len h = omega (arith, h)
+  pub block_below : 1 * 2 ^ o % 2 ^ 64 ≤ 1 * 2 ^ (o + l) % 2 ^ 64
+  block_below =
+      let start : o ≤ page_width = omega (arith, run_on_page) in
+      let longer : o ≤ o + l = omega arith in
+      rw (shifted (o + l) run_on_page, shifted o start) (pow_mono longer)
 
-pub ruleset mask_laws = (rules, masked_first, masking_begins, masking_pair, block_read, run_read, masking_more, masking_fits, masking_ends, masked_fits, shifted, block_below, block_is, start_on_page)
+  -- the block added
+  masking_sum : mask + (1 * 2 ^ (o + l) % 2 ^ 64 - 1 * 2 ^ o % 2 ^ 64) + runs_mask (runs_at bytes (1 + 2 * (k + 1)) (n - (k + 1))) ≡ mask_of (settings page_width bytes)
+  masking_sum = rw block_of (omega (arith, p.same, next.block))
+
+  pub masking_more : MaskingRuns bytes n (k + 1) (mask + (1 * 2 ^ (o + l) % 2 ^ 64 - 1 * 2 ^ o % 2 ^ 64))
+  masking_more = record { from = o + l + 1; in_order = next.behind; pairs_whole = p.pairs_whole; same = masking_sum; small = p.small }
+
+  pub masking_fits : Fits w64 (mask + (1 * 2 ^ (o + l) % 2 ^ 64 - 1 * 2 ^ o % 2 ^ 64))
+  masking_fits = omega (arith, masking_sum, p.small)
+
+module _ (bytes : List ℕ) (n k mask : ℕ) (p : MaskingRuns bytes n k mask) where
+  pub masking_ends : n ≤ k → mask ≡ mask_of (settings page_width bytes)
+  unfolding runs_mask runs_at
+  masking_ends all =
+      let none : n - k ≡ 0 = omega arith in
+      let last : mask + 0 ≡ mask_of (settings page_width bytes) = rw none at p.same in
+      omega (arith, last)
+
+  pub masked_fits : mask < word_values
+  masked_fits = omega (arith, p.same, p.small)
+
+pub ruleset mask_laws = (masked_first, masking_begins, masking_more, masked_fits, rules)

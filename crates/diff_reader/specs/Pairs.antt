@@ -1,11 +1,11 @@
 -- What a reader says at a place of a diff. w is the page length. Assumes nothing.
-use Rattle.std.specs.Prelude.{ℕ, ◌+◌, ◌*◌, ◌≡◌, cond, List, [], ◌∷◌, take, drop, eqb}
+use Rattle.std.specs.Prelude
+use Rattle.std.specs.Prelude.{ℕ, ◌+◌, ◌*◌, ◌≡◌, cond, List, [], ◌∷◌, take, drop, eqb, Some, None}
 use Rattle.std.proofs.Math.Option.{Option, none, some}
 use Rattle.limits.specs.Limits.{page_width}
 use Rattle.diff.specs.Format.{Run}
 use Rattle.diff.specs.Reading.{read_refusal, runs_in, words_place}
 use Rattle.diff_reader.specs.declared.Pair.{Pair}
-use Rattle.diff_reader.specs.declared.Pair.TheVariants.{At, Nothing}
 use Rattle.diff_reader.specs.declared.Reader.{Reader}
 
 -- a pair of a diff: "offset and length" of its run, the place where the words of the run stand, and the place of the next pair
@@ -16,9 +16,9 @@ pub record PairThere : Type 0 where
   pub next : ℕ
 
 -- what each case of a reader's answer says: a pair, or "the reader says there is none"
-unfoldable pub said : Pair → Option PairThere
-said (At offset len words next) = some (record { offset = offset; len = len; words = words; next = next })
-said Nothing = none
+unfoldable pub said : Prelude.Option Pair → Option PairThere
+said (Some p) = some (record { offset = p.offset; len = p.len; words = p.words; next = p.next })
+said None = none
 
 -- the pair at a place, among the pairs rs from the place first on whose words stand from the place words on
 unfoldable pub pair_among : List Run → ℕ → ℕ → ℕ → Option PairThere

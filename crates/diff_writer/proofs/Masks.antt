@@ -1,6 +1,6 @@
 -- The laws of masks: what shifting one, counting its zeros and clearing its lowest digit say of the settings. Assumes nothing.
 use Prim.Native.Nat.{ℕ, zero, suc, ◌+◌, ◌-◌, ◌*◌, ◌/◌, ◌%◌, ◌^◌, ◌≤◌, ◌<◌, min}
-use native.Mathlib.Nat.{add-zero, mul_assoc, mul_comm, pow-suc, pow-zero, zero-div}
+use native.Mathlib.Nat.{add-zero, lt_of_lt_of_le, mul_assoc, mul_comm, pow-suc, pow-zero, zero-div}
 use native.Mathlib.Omega.{arith}
 use mathlib.Core.Path.{◌≡◌, refl, sym, ap, ap₂, ◌∙◌}
 use mathlib.Core.Bool.{Bool, true, false, cond}
@@ -10,9 +10,10 @@ use lib.ListN.{length, get_or, drop, take}
 use lib.Dec.{eqb}
 use lib.Count.{count_trailing_zeros, under}
 use lib.Bits.{and_step, and_self, bit_and}
-use lib.Pow.{shr-shr}
+use lib.Pow.{pow_pos, pow_mono, shr-shr}
 use Rattle.diff.specs.Format.{setting, difference, ended, runs_from, set_words}
 use Rattle.diff.specs.inner.Mask.{mask_of}
+use Rattle.diff.proofs.Masking.{mask_below}
 use Rattle.diff_writer.specs.inner.Masks.{kept_first, set_first, without_first, picked}
 
 -- ---- digits
@@ -46,18 +47,22 @@ zeros_of_mask (suc k) (none ∷ d) l h =
     rw (double_even (mask_of d), double_half (mask_of d)) (ap suc (zeros_of_mask k d (omega (arith, l)) (λ e. h (omega (arith, e)))))
 zeros_of_mask (suc k) (some v ∷ d) l h = rw (odd_odd (mask_of d))
 
--- the zeros of a mask and one are as many as the words that are set first
-pub zeros_of_next : (k : ℕ) (d : List (Option ℕ)) → length d < k → count_trailing_zeros k (mask_of d + 1) ≡ set_first d
+-- a mask has as many ones at its end as words are set first: they are the zeros of what it lacks to all ones
+pub ones_of_mask : (k : ℕ) (d : List (Option ℕ)) → length d < k → count_trailing_zeros k (2 ^ k - 1 - mask_of d) ≡ set_first d
 unfolding mask_of set_first count_trailing_zeros
-zeros_of_next zero d l = absurd (omega (arith, l))
-zeros_of_next (suc k) [] l = refl
-zeros_of_next (suc k) (none ∷ d) l =
-    let odd : (2 * mask_of d + 1) % 2 ≡ 1 = omega arith in
+ones_of_mask zero d l = absurd (omega (arith, l))
+ones_of_mask (suc k) [] l =
+    let odd : (2 ^ suc k - 1 - 0) % 2 ≡ 1 = omega (arith, pow-suc 2 k, pow_pos k) in
     rw odd
-zeros_of_next (suc k) (some v ∷ d) l =
-    let even : (1 + 2 * mask_of d + 1) % 2 ≡ 0 = omega arith in
-    let half : (1 + 2 * mask_of d + 1) / 2 ≡ mask_of d + 1 = omega arith in
-    rw (even, half) (ap suc (zeros_of_next k d (omega (arith, l))))
+ones_of_mask (suc k) (none ∷ d) l =
+    let small : mask_of d < 2 ^ k = lt_of_lt_of_le (mask_below d) (pow_mono (omega (arith, l))) in
+    let odd : (2 ^ suc k - 1 - 2 * mask_of d) % 2 ≡ 1 = omega (arith, pow-suc 2 k) in
+    rw odd
+ones_of_mask (suc k) (some v ∷ d) l =
+    let small : mask_of d < 2 ^ k = lt_of_lt_of_le (mask_below d) (pow_mono (omega (arith, l))) in
+    let even : (2 ^ suc k - 1 - (1 + 2 * mask_of d)) % 2 ≡ 0 = omega (arith, pow-suc 2 k) in
+    let half : (2 ^ suc k - 1 - (1 + 2 * mask_of d)) / 2 ≡ 2 ^ k - 1 - mask_of d = omega (arith, pow-suc 2 k) in
+    rw (even, half) (ap suc (ones_of_mask k d (omega (arith, l))))
 
 -- a number of k digits that is not 0 has fewer zeros than digits
 under_below : (k r t : ℕ) → (r ≡ 0 → t < k) → under r t < suc k

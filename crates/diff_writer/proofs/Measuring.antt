@@ -2,12 +2,13 @@
 use Prim.Native.Nat.{ℕ, ◌+◌, ◌-◌, ◌*◌, ◌≤◌, ◌<◌, min}
 use native.Mathlib.Omega.{arith}
 use mathlib.Core.Path.{◌≡◌, refl, ap, ◌∙◌}
-use mathlib.Core.Bool.{Bool, true, false, cond}
+use mathlib.Core.Bool.{Bool, true, false, cond, not}
 use mathlib.Core.Option.{Option, none, some}
 use mathlib.Core.List.{List, [], ◌∷◌}
 use lib.ListN.{length, get_or, drop, length-append}
-use lib.Dec.{eqb}
-use borrow.Author.Tests.{eq-eqb, ne_eqb}
+use lib.Dec.{eqb, ltb}
+use mir.Val.{bool_byte}
+use borrow.Author.Tests.{ltb-true, ltb-false}
 use Rattle.limits.specs.Limits.{page_width}
 use Rattle.limits.specs.inner.Sizes.{run_limit}
 use Rattle.diff.specs.Format.{setting, difference, ended, runs_from, runs, set_words}
@@ -84,12 +85,25 @@ module _ (old new : List ℕ) (i : ℕ) (whole : PagesWhole old new) where
 
 -- ---- how long the diff is
 
-module _ (old new : ℕ) where
-  pub words_alike : old ≡ new → ◌≡◌ {A = ℕ} 0 (cond (eqb old new) 0 1)
-  words_alike h = rw (eq-eqb _ _ h)
+-- 1 where two words differ, else 0
+pub flag_unlike : (old new u : ℕ) → u ≡ bool_byte (not (eqb old new)) → u ≡ cond (eqb old new) 0 1
+flag_unlike old new u e = e ∙ go (eqb old new)
+  where
+    go : (b : Bool) → bool_byte (not b) ≡ cond b 0 1
+    go true = refl
+    go false = refl
 
-  pub words_unlike : (old ≡ new → ⊥) → ◌≡◌ {A = ℕ} 1 (cond (eqb old new) 0 1)
-  words_unlike h = rw (ne_eqb _ _ h)
+pub at_most_1 : (b : Bool) (u : ℕ) → u ≡ bool_byte b → u ≤ 1
+at_most_1 true u e = omega arith
+at_most_1 false u e = omega arith
+
+-- a run starts at a word that is set where the one before is not
+flag_starts : (before this r : ℕ) → this ≤ 1 → r ≡ bool_byte (ltb before this) → r ≡ this - before
+flag_starts before this r h e = e ∙ go (ltb before this) refl
+  where
+    go : (b : Bool) → ltb before this ≡ b → bool_byte b ≡ this - before
+    go true t = omega (arith, ltb-true before this t)
+    go false t = omega (arith, ltb-false before this t)
 
 -- after the first i words of the page, the last of which is set if before is 1: what is counted and what is left are all
 pub record Measuring (old new : List ℕ) (count words before i : ℕ) : Type 0 where
@@ -114,9 +128,12 @@ measuring_begins old new p =
     }
 
 module _ (old new : List ℕ) (count words before i : ℕ) where
-  pub measuring_more : (this r : ℕ) → Measuring old new count words before i → i < page_width → this ≡ cond (eqb (get_or old i 0) (get_or new i 0)) 0 1 → this ≤ 1
-      → r ≡ this - before → Measuring old new (count + r) (words + this) this (i + 1)
-  measuring_more this r p more is one starts =
+  pub measuring_more : (this r : ℕ) → Measuring old new count words before i → i < page_width → this ≡ bool_byte (not (eqb (get_or old i 0) (get_or new i 0)))
+      → r ≡ bool_byte (ltb before this) → Measuring old new (count + r) (words + this) this (i + 1)
+  measuring_more this r p more flag start =
+      let is = flag_unlike (get_or old i 0) (get_or new i 0) this flag in
+      let one = at_most_1 _ this flag in
+      let starts = flag_starts before this r one start in
       record {
         whole = p.whole;
         upto = omega arith;

@@ -3,7 +3,8 @@ use Prim.Native.Nat.{ℕ, suc, ◌+◌, ◌-◌, ◌*◌, ◌/◌, ◌%◌, ◌^
 use native.Mathlib.Nat.{zero-mul, one-mul, lt_of_lt_of_le, pow-suc}
 use native.Mathlib.Omega.{arith}
 use mathlib.Core.Path.{◌≡◌, refl, sym, ap, ap₂, ◌∙◌}
-use mathlib.Core.Bool.{Bool, true, false, cond}
+use mathlib.Core.Bool.{Bool, true, false, cond, not, ◌&&◌}
+use mathlib.Core.Logic.{◌⊎◌, inl, inr}
 use mathlib.Core.Option.{Option}
 use mathlib.Core.List.{List, [], ◌∷◌, ◌++◌}
 use lib.ListN.{length, get_or, set, drop, take, length-set, length-append, length-drop, length-take}
@@ -11,9 +12,9 @@ use lib.Seq.{sets, length-sets, drop-drop, take_all}
 use lib.Dec.{eqb}
 use lib.Count.{count_trailing_zeros, trailing_le}
 use lib.Bits.{bit_and, and_le_r}
-use lib.Pow.{pow_mono, shl_exact, shr_le}
-use mir.Syntax.{w64}
-use mir.Val.{Fits}
+use lib.Pow.{pow_mono, shl_exact}
+use Rattle.std.specs.Int.{w32, w64, bit_not, trailing_ones}
+use mir.Val.{Fits, bool_byte}
 use borrow.Author.Rules.{rules}
 use borrow.Author.Tests.{eq-eqb, ne_eqb, lt-ltb, le-ltb}
 use Rattle.lists.proofs.Stores.{sets_append, sets_apart}
@@ -22,16 +23,17 @@ use Rattle.diff.specs.Format.{Run, difference, ended, runs_from, runs, set_words
 use Rattle.diff.proofs.Words.{length_pair_bytes}
 use Rattle.diff.proofs.Legal.{length_bytes}
 use Rattle.diff.proofs.Theorems.{length_difference}
+use Rattle.std.specs.Prelude.{Ok, Err}
 use Rattle.diff_writer.specs.Answers.{write_refusal, write_answer, Says, out_after}
-use Rattle.diff_writer.specs.declared.Written.TheVariants.{Length, Refused}
+use Rattle.limits.specs.declared.Refusal.TheVariants.{BadPage, NoRoom}
 use Rattle.diff.specs.inner.Mask.{mask_of}
 use Rattle.diff_writer.specs.inner.Masks.{kept_first, set_first, without_first, picked}
-use Rattle.diff_writer.specs.inner.Needed.{PagesWhole, RoomForWritten, RoomForDiff, RoomForWords, MaskFits, RoomForPair}
+use Rattle.diff_writer.specs.inner.Needed.{PagesWhole, RoomForDiff, RoomForWords, MaskFits, RoomForPair}
 use Rattle.diff_writer.proofs.Saying.{length_said, refusal_said}
 use Rattle.diff.proofs.Masking.{mask_below}
-use Rattle.diff_writer.proofs.Masks.{zeros_below, zeros_of_mask, zeros_of_next, mask_shifted, lowest_cleared, runs_after_kept, runs_after_set, words_picked, first_picked, length_without, none_picked, no_runs, kept_then_set, kept_few, kept_below, set_few, mask_of_more}
-use Rattle.diff_writer.proofs.Writing.{no_pair, room_for_length, pair_stored, room_for_byte_1, room_for_byte_2, room_for_byte_3, word_stored_lem, pair_bytes_append, length_ended, runs_fit}
-use Rattle.diff_writer.proofs.Measuring.{words_alike, words_unlike, measuring_begins, measuring_more, runs_measured, words_measured, runs_few, words_few}
+use Rattle.diff_writer.proofs.Masks.{zeros_below, zeros_of_mask, ones_of_mask, mask_shifted, lowest_cleared, runs_after_kept, runs_after_set, words_picked, first_picked, length_without, none_picked, no_runs, kept_then_set, kept_few, kept_below, set_few, mask_of_more}
+use Rattle.diff_writer.proofs.Writing.{no_pair, room_for_length, pair_stored, pair_bytes_append, length_ended, runs_fit, word_bytes_put}
+use Rattle.diff_writer.proofs.Measuring.{flag_unlike, at_most_1, measuring_begins, measuring_more, runs_measured, words_measured, runs_few, words_few}
 
 -- ---- the mask of two pages
 
@@ -50,6 +52,11 @@ digit_small : (b : Bool) (n : ℕ) → cond b 0 1 * n ≤ n
 digit_small true n = omega (arith, zero-mul n)
 digit_small false n = omega (arith, one-mul n)
 
+-- the flag of a word shifted to its place
+digit_shifted : (old new u i : ℕ) → i < page_width → u ≡ bool_byte (not (eqb old new)) → u * 2 ^ i % 2 ^ 32 ≡ cond (eqb old new) 0 1 * 2 ^ i
+digit_shifted old new u i h e =
+    rw (← flag_unlike old new u e) (shl_exact 1 i 32 (omega (arith, at_most_1 _ u e)) (omega (arith, h)))
+
 module _ (old new : List ℕ) (mask i : ℕ) (m : Masking old new mask i) where
   abbrev d : List (Option ℕ)
   d = difference old new
@@ -60,47 +67,28 @@ module _ (old new : List ℕ) (mask i : ℕ) (m : Masking old new mask i) where
   below : mask < 2 ^ i
   below = rw m.is (lt_of_lt_of_le (mask_below (take i d)) (pow_mono (omega (arith, length-take i d))))
 
-  pub mask_has_room : (x : ℕ) → i < page_width → x ≡ cond (eqb (get_or old i 0) (get_or new i 0)) 0 1 * 2 ^ i → mask + x < 2 ^ 32
-  mask_has_room x h e =
-      let small : x ≤ 2 ^ i = rw e (digit_small (eqb (get_or old i 0) (get_or new i 0)) (2 ^ i)) in
-      let digits : 2 ^ suc i ≤ 2 ^ 32 = pow_mono h in
-      omega (arith, below, small, pow-suc 2 i, digits)
+  module _ (u : ℕ) (h : i < page_width) (e : u ≡ bool_byte (not (eqb (get_or old i 0) (get_or new i 0)))) where
+    pub mask_has_room : Fits w32 (mask + u * 2 ^ i % 2 ^ 32)
+    mask_has_room =
+        let small : u * 2 ^ i % 2 ^ 32 ≤ 2 ^ i = rw (digit_shifted _ _ u i h e) (digit_small (eqb (get_or old i 0) (get_or new i 0)) (2 ^ i)) in
+        let digits : 2 ^ suc i ≤ 2 ^ 32 = pow_mono h in
+        omega (arith, below, small, pow-suc 2 i, digits)
 
-  pub masking_more : (x : ℕ) → i < page_width → x ≡ cond (eqb (get_or old i 0) (get_or new i 0)) 0 1 * 2 ^ i → Masking old new (mask + x) (i + 1)
-  masking_more x h e =
-      record {
-        whole = m.whole;
-        upto = omega (arith, h);
-        is = rw (m.is, e) (sym (mask_of_more i old new (omega (arith, h, m.whole.old_whole)) (m.whole.old_whole ∙ sym m.whole.new_whole)));
-      }
+    pub masking_more : Masking old new (mask + u * 2 ^ i % 2 ^ 32) (i + 1)
+    masking_more =
+        record {
+          whole = m.whole;
+          upto = omega (arith, h);
+          is = rw (m.is, digit_shifted _ _ u i h e) (sym (mask_of_more i old new (omega (arith, h, m.whole.old_whole)) (m.whole.old_whole ∙ sym m.whole.new_whole)));
+        }
 
   pub masking_ends : page_width ≤ i → mask ≡ mask_of (difference old new)
   masking_ends h = m.is ∙ ap mask_of (take_all i d (omega (arith, page_long, h)))
 
--- one digit shifted to its place
-pub digit_shifted : (old new u i k : ℕ) → i < page_width → u ≡ cond (eqb old new) 0 1 → u ≤ 1 → k ≡ i → (u * 2 ^ k) % 2 ^ 32 ≡ cond (eqb old new) 0 1 * 2 ^ i
-digit_shifted old new u i k h e o p = rw p (shl_exact 1 i 32 (omega (arith, o)) (omega (arith, h)) ∙ ap (λ (x : ℕ). x * 2 ^ i) e)
-
 -- ---- the first run of a mask
 
-pub zeros_fit : (n : ℕ) → Fits w64 (count_trailing_zeros 64 n)
-zeros_fit n = omega (arith, trailing_le 64 n)
-
-pub zeros_in_place : (n : ℕ) → Fits w64 (count_trailing_zeros 32 n)
-zeros_in_place n = omega (arith, trailing_le 32 n)
-
-module _ (mask : ℕ) (fit : MaskFits mask) where
-  pub kept_fewer : 0 < mask → count_trailing_zeros 64 mask < 64
-  kept_fewer some = zeros_below 64 mask some (omega (arith, fit.below))
-
-  pub next_fits : Fits w64 (mask + 1)
-  next_fits = omega (arith, fit.below)
-
-  pub set_fewer : count_trailing_zeros 64 (mask + 1) < 64
-  set_fewer = zeros_below 64 (mask + 1) (omega arith) (omega (arith, fit.below))
-
-  pub shifted_fits : (k : ℕ) → MaskFits (mask / 2 ^ k)
-  shifted_fits k = record { below = omega (arith, fit.below, shr_le mask k) }
+pub kept_fewer : (mask : ℕ) → MaskFits mask → 0 < mask → count_trailing_zeros 64 mask < 64
+kept_fewer mask fit some = zeros_below 64 mask some (omega (arith, fit.below))
 
 -- ---- the pairs
 
@@ -146,10 +134,10 @@ module _ (old new out₀ out : List ℕ) (left i at : ℕ) (p : PuttingPairs old
   pub start_fits : (kept : ℕ) → kept ≡ count_trailing_zeros 64 left → Fits w64 (i + kept)
   start_fits kept ek = omega (arith, ek, trailing_le 64 left, p.on_page_lem)
 
-  pub end_fits : (kept len : ℕ) → kept ≡ count_trailing_zeros 64 left → len ≡ count_trailing_zeros 64 (left / 2 ^ kept + 1) → Fits w64 (i + kept + len)
-  end_fits kept len ek el = omega (arith, ek, el, trailing_le 64 left, trailing_le 64 (left / 2 ^ kept + 1), p.on_page_lem)
+  pub end_fits : (kept len : ℕ) → kept ≡ count_trailing_zeros 64 left → len ≡ trailing_ones w64 (left / 2 ^ kept) → Fits w64 (i + kept + len)
+  end_fits kept len ek el = omega (arith, ek, el, trailing_le 64 left, trailing_le 64 (bit_not w64 (left / 2 ^ kept)), p.on_page_lem)
 
-  module _ (some_left : left ≡ 0 → ⊥) (kept len : ℕ) (ek : kept ≡ count_trailing_zeros 64 left) (el : len ≡ count_trailing_zeros 64 (left / 2 ^ kept + 1)) where
+  module _ (some_left : left ≡ 0 → ⊥) (kept len : ℕ) (ek : kept ≡ count_trailing_zeros 64 left) (el : len ≡ trailing_ones w64 (left / 2 ^ kept)) where
     any : mask_of e ≡ 0 → ⊥
     any z = some_left (p.is ∙ z)
 
@@ -160,7 +148,7 @@ module _ (old new out₀ out : List ℕ) (left i at : ℕ) (p : PuttingPairs old
     rest_is = rw p.is (mask_shifted kept e)
 
     len_is : len ≡ set_first (drop kept e)
-    len_is = el ∙ rw rest_is (zeros_of_next 64 (drop kept e) (omega (arith, rest_long, length-drop kept e)))
+    len_is = el ∙ rw rest_is (ones_of_mask 64 (drop kept e) (omega (arith, rest_long, length-drop kept e)))
 
     few : kept + len ≤ length e
     few = omega (arith, kept_is, len_is, kept_few e, set_few (drop kept e), length-drop kept e)
@@ -193,17 +181,19 @@ module _ (old new out₀ out : List ℕ) (left i at : ℕ) (p : PuttingPairs old
           room = omega (arith, p.counted, p.room, ap length runs_are, length-append (ended (i + kept) len) (runs_from (i + kept + len) 0 (drop (i + kept + len) (difference old new))), length_ended (i + kept) len);
         }
 
-    pub pairs_nearer : page_width - (i + kept + len) < page_width - i
+    pub pairs_nearer : page_width - (i + (kept + len)) < page_width - i
     pairs_nearer = omega (arith, few, one, rest_long, p.on_page_lem)
 
     pub pairs_more : (left' at' : ℕ) (out' : List ℕ) → left' ≡ left / 2 ^ kept / 2 ^ len
-        → at' ≡ at + 2 * min len 1 → out' ≡ sets out at (pair_bytes (ended (i + kept) len)) → PuttingPairs old new out₀ out' left' (i + kept + len) at'
+        → at' ≡ at + 2 * min len 1 → out' ≡ sets out at (pair_bytes (ended (i + kept) len)) → PuttingPairs old new out₀ out' left' (i + (kept + len)) at'
     pairs_more left' at' out' eleft eat eout =
         let rest : List Run = runs_from (i + kept + len) 0 (drop (i + kept + len) (difference old new)) in
         let counts : length (runs_from i 0 e) ≡ min len 1 + length rest = ap length runs_are ∙ length-append (ended (i + kept) len) rest ∙ ap (λ (n : ℕ). n + length rest) (length_ended (i + kept) len) in
         let place : at + length (pair_bytes (ended (i + kept) len)) ≡ at' = omega (arith, eat, length_pair_bytes (ended (i + kept) len), length_ended (i + kept) len) in
         let size : length out' ≡ length out = ap length eout ∙ length-sets out at (pair_bytes (ended (i + kept) len)) in
-        record {
+        let next : i + (kept + len) ≡ i + kept + len = omega arith in
+        rw next
+        (record {
           whole = p.whole;
           is = eleft ∙ ap (λ (a : ℕ). a / 2 ^ len) rest_is ∙ mask_shifted len (drop kept e) ∙ rest_left;
           on_page_lem = omega (arith, few, rest_long, p.on_page_lem);
@@ -216,7 +206,7 @@ module _ (old new out₀ out : List ℕ) (left i at : ℕ) (p : PuttingPairs old
               ∙ ap (λ (l : List ℕ). sets out at l) (pair_bytes_append (ended (i + kept) len) rest)
               ∙ sets_append out at (pair_bytes (ended (i + kept) len)) (pair_bytes rest)
               ∙ rw (place, eout);
-        }
+        })
 
   module _ (done : left ≡ 0) where
     none_left : runs_from i 0 e ≡ []
@@ -316,11 +306,8 @@ unfolding runs
 runs_at_most old new whole = omega (arith, runs_fit 0 0 (difference old new), left_long old new 0 whole (omega arith))
 
 module _ (old new : List ℕ) (mask : ℕ) (out : List ℕ) (p : RoomForDiff old new mask out) (count : ℕ) (counted : count ≡ length (runs (difference old new))) where
-  pub twice_fits : Fits w64 (2 * count)
-  twice_fits = omega (arith, counted, runs_at_most old new p.whole)
-
-  pub behind_fits : Fits w64 (1 + 2 * count)
-  behind_fits = omega (arith, counted, runs_at_most old new p.whole)
+  pub few_pairs : count ≤ page_width
+  few_pairs = omega (arith, counted, runs_at_most old new p.whole)
 
 module _ (old new : List ℕ) (mask : ℕ) (out : List ℕ) (p : RoomForDiff old new mask out) (count : ℕ) (counted : count ≡ length (runs (difference old new))) (out' : List ℕ) (paired : out' ≡ sets out 1 (pair_bytes (runs (difference old new)))) where
   sized : length out' ≡ length out
@@ -344,74 +331,65 @@ module _ (old new : List ℕ) (mask : ℕ) (out : List ℕ) (p : RoomForDiff old
   pub diff_long : (r : ℕ) → r ≡ 1 + 2 * count + 4 * length (set_words (difference old new)) → r ≡ length (written old new)
   diff_long r e = omega (arith, e, spans, counted)
 
-  pub diff_written : (out'' : List ℕ) → out'' ≡ sets (set out' 0 (count % 256)) (1 + 2 * count) (words_bytes (set_words (difference old new))) → out'' ≡ sets out 0 (written old new)
+  pub diff_written : (out'' : List ℕ) → out'' ≡ sets (set out' 0 count) (1 + 2 * count) (words_bytes (set_words (difference old new))) → out'' ≡ sets out 0 (written old new)
   unfolding written bytes_of
   diff_written out'' e =
       let d = difference old new in
-      let byte : count % 256 ≡ length (runs d) = omega (arith, counted, runs_at_most old new p.whole) in
       let place : 1 + 2 * count ≡ 1 + length (pair_bytes (runs d)) = omega (arith, counted, length_pair_bytes (runs d)) in
       let pairs : set out' 0 (length (runs d)) ≡ sets (set out 0 (length (runs d))) 1 (pair_bytes (runs d)) =
       ap (λ (l : List ℕ). set l 0 (length (runs d))) paired ∙ sym (sets_apart out 0 (length (runs d) ∷ []) 1 (pair_bytes (runs d)) (omega arith)) in
       e
-      ∙ ap₂ (λ (b n : ℕ). sets (set out' 0 b) n (words_bytes (set_words d))) byte place
+      ∙ ap₂ (λ (b n : ℕ). sets (set out' 0 b) n (words_bytes (set_words d))) counted place
       ∙ ap (λ (l : List ℕ). sets l (1 + length (pair_bytes (runs d))) (words_bytes (set_words d))) pairs
       ∙ sym (sets_append (set out 0 (length (runs d))) 1 (pair_bytes (runs d)) (words_bytes (set_words d)))
-
-  pub diff_keeps_length : (out'' : List ℕ) → out'' ≡ sets (set out' 0 (count % 256)) (1 + 2 * count) (words_bytes (set_words (difference old new))) → length out'' ≡ length out
-  diff_keeps_length out'' e = ap length (diff_written out'' e) ∙ length-sets out 0 (written old new)
-
-module _ (old new out : List ℕ) (bytes : ℕ) (p : RoomForWritten old new out bytes) where
-  pub written_whole : PagesWhole old new
-  written_whole = p.whole
-
-  pub room_for_diff : (mask : ℕ) → mask ≡ mask_of (difference old new) → RoomForDiff old new mask out
-  room_for_diff mask e = record { whole = p.whole; is = e; room = omega (arith, p.is, p.room) }
 
 -- ---- the refusals of `write`
 
 module _ (old new out : List ℕ) where
-  pub old_length_refused : (length old ≡ page_width → ⊥) → Says (Refused 14) (write_answer page_width old new out)
-  unfolding write_answer write_refusal
-  old_length_refused h = rw (ne_eqb _ _ h) (refusal_said 14 (λ e. omega (arith, e)))
+  -- one of the pages is not as long as a page
+  module _ (short : (length old ≡ page_width → ⊥) ⊎ (length new ≡ page_width → ⊥)) where
+    unlike_pages : (eqb (length old) page_width && eqb (length new) page_width) ≡ false
+    unlike_pages = elim short [ inl h ↦ rw (ne_eqb _ _ h) | inr h ↦ rw (ne_eqb _ _ h) (go (eqb (length old) page_width)) ]
+      where
+        go : (b : Bool) → (b && false) ≡ false
+        go true = refl
+        go false = refl
 
-  pub old_length_untouched : (length old ≡ page_width → ⊥) → out ≡ out_after page_width old new out
-  unfolding out_after write_refusal
-  old_length_untouched h = rw (ne_eqb _ _ h)
-
-  module _ (old_whole : length old ≡ page_width) where
-    pub new_length_refused : (length new ≡ page_width → ⊥) → Says (Refused 14) (write_answer page_width old new out)
+    pub page_length_refused : Says (Err BadPage) (write_answer page_width old new out)
     unfolding write_answer write_refusal
-    new_length_refused h = rw (eq-eqb _ _ old_whole, ne_eqb _ _ h) (refusal_said 14 (λ e. omega (arith, e)))
+    page_length_refused = rw unlike_pages (refusal_said BadPage)
 
-    pub new_length_untouched : (length new ≡ page_width → ⊥) → out ≡ out_after page_width old new out
+    pub page_length_untouched : out ≡ out_after page_width old new out
     unfolding out_after write_refusal
-    new_length_untouched h = rw (eq-eqb _ _ old_whole, ne_eqb _ _ h)
+    page_length_untouched = rw unlike_pages
 
-    pub pages_whole : length new ≡ page_width → PagesWhole old new
-    pages_whole h = record { old_whole = old_whole; new_whole = h }
+  module _ (old_whole : length old ≡ page_width) (new_whole : length new ≡ page_width) where
+    pub pages_whole : PagesWhole old new
+    pages_whole = record { old_whole = old_whole; new_whole = new_whole }
 
-    module _ (new_whole : length new ≡ page_width) (count words : ℕ) (counted : count ≡ length (runs (difference old new))) (worded : words ≡ length (set_words (difference old new))) where
+    module _ (count words : ℕ) (counted : count ≡ length (runs (difference old new))) (worded : words ≡ length (set_words (difference old new))) where
       long : length (written old new) ≡ 1 + 2 * count + 4 * words
       unfolding written
       long = length_bytes (difference old new) ∙ rw (counted, worded)
 
-      pub out_too_short : length out < 1 + 2 * count + 4 * words → Says (Refused 13) (write_answer page_width old new out)
+      pub out_too_short : length out < 1 + 2 * count + 4 * words → Says (Err NoRoom) (write_answer page_width old new out)
       unfolding write_answer write_refusal
-      out_too_short h = rw (eq-eqb _ _ old_whole, eq-eqb _ _ new_whole, long, lt-ltb _ _ h) (refusal_said 13 (λ e. omega (arith, e)))
+      out_too_short h = rw (eq-eqb _ _ old_whole, eq-eqb _ _ new_whole, long, lt-ltb _ _ h) (refusal_said NoRoom)
 
       pub out_untouched : length out < 1 + 2 * count + 4 * words → out ≡ out_after page_width old new out
       unfolding out_after write_refusal
       out_untouched h = rw (eq-eqb _ _ old_whole, eq-eqb _ _ new_whole, long, lt-ltb _ _ h)
 
-      pub room_for_written : 1 + 2 * count + 4 * words ≤ length out → RoomForWritten old new out (1 + 2 * count + 4 * words)
-      room_for_written h = record { whole = pages_whole new_whole; is = sym long; room = h }
+      module _ (room : 1 + 2 * count + 4 * words ≤ length out) where
+        pub room_for_diff : (mask : ℕ) → mask ≡ mask_of (difference old new) → RoomForDiff old new mask out
+        room_for_diff mask e = record { whole = pages_whole; is = e; room = omega (arith, long) }
 
-      pub length_answered : 1 + 2 * count + 4 * words ≤ length out → Says (Length (1 + 2 * count + 4 * words)) (write_answer page_width old new out)
-      unfolding write_answer write_refusal
-      length_answered h = rw (eq-eqb _ _ old_whole, eq-eqb _ _ new_whole, long, le-ltb _ _ h) (length_said (1 + 2 * count + 4 * words))
+        pub length_answered : (n : ℕ) → n ≡ length (written old new) → Says (Ok n) (write_answer page_width old new out)
+        unfolding write_answer write_refusal
+        length_answered n e = rw (eq-eqb _ _ old_whole, eq-eqb _ _ new_whole, e, long, le-ltb _ _ room) (length_said (1 + 2 * count + 4 * words))
 
-      pub diff_left : (out' : List ℕ) → 1 + 2 * count + 4 * words ≤ length out → out' ≡ sets out 0 (written old new) → out' ≡ out_after page_width old new out
-      unfolding out_after write_refusal
-      diff_left out' h e = e ∙ rw (eq-eqb _ _ old_whole, eq-eqb _ _ new_whole, long, le-ltb _ _ h)
+        pub diff_left : (out' : List ℕ) → out' ≡ sets out 0 (written old new) → out' ≡ out_after page_width old new out
+        unfolding out_after write_refusal
+        diff_left out' e = e ∙ rw (eq-eqb _ _ old_whole, eq-eqb _ _ new_whole, long, le-ltb _ _ room)
 
-pub ruleset write_laws = (words_alike, words_unlike, measuring_begins, measuring_more, runs_measured, words_measured, runs_few, words_few, no_pair, room_for_length, pair_stored, room_for_byte_1, room_for_byte_2, room_for_byte_3, word_stored_lem, masking_begins, mask_has_room, masking_more, masking_ends, digit_shifted, zeros_fit, zeros_in_place, kept_fewer, next_fits, set_fewer, shifted_fits, pairs_begin, left_fits, start_fits, end_fits, pair_has_room, pairs_nearer, pairs_more, pairs_counted, pairs_end, fewer_left, words_begin, picked_on_page, word_has_room, words_more, picked_counted, picked_end, twice_fits, behind_fits, room_for_count, room_for_words, diff_long, diff_written, diff_keeps_length, written_whole, room_for_diff, room_for_written, length_answered, diff_left, old_length_refused, old_length_untouched, new_length_refused, new_length_untouched, pages_whole, out_too_short, out_untouched, rules)
+pub ruleset write_laws = (no_pair, room_for_length, pair_stored, word_bytes_put, masking_begins, runs_few, words_few, kept_fewer, start_fits, end_fits, pairs_counted, pairs_end, fewer_left, words_begin, picked_on_page, words_more, page_length_refused, page_length_untouched, out_too_short, out_untouched, diff_left, rules)

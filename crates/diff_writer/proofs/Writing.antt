@@ -1,13 +1,15 @@
 -- What the writer stores for one pair and for one word, and the difference of two pages word by word, as the writer goes through it: what is
 -- left of its runs and words, and what each word adds. Assumes nothing.
-use Prim.Native.Nat.{ℕ, zero, suc, ◌+◌, ◌/◌, ◌%◌, ◌≤◌, ◌<◌, min}
+use Prim.Native.Nat.{ℕ, zero, suc, ◌+◌, ◌-◌, ◌≤◌, ◌<◌, min}
 use native.Mathlib.Numerals.{add-one}
 use native.Mathlib.Omega.{arith}
 use mathlib.Core.Path.{◌≡◌, refl, sym, ap, ◌∙◌}
 use mathlib.Core.Option.{Option, none, some}
-use mathlib.Core.List.{List, [], ◌∷◌, ◌++◌}
-use lib.ListN.{length, get_or, set, drop, length-set, length-append, drop_of_length-le}
-use lib.Seq.{sets}
+use mathlib.Core.List.{List, [], ◌∷◌, ◌++◌, append_assoc}
+use lib.ListN.{length, get_or, set, take, drop, length-set, length-append, drop_of_length-le}
+use lib.Seq.{sets, sets-eq, drop-drop}
+use borrow.Rule.Slice.PartMut.{put_mid}
+use Rattle.std.specs.Int.{to_le_bytes, w32}
 use Rattle.limits.specs.Limits.{page_width}
 use Rattle.diff.specs.Format.{Run, setting, difference, ended, runs_from, set_words, pair_bytes, word_bytes}
 use Rattle.diff.proofs.Theorems.{length_difference}
@@ -23,33 +25,19 @@ module _ (out : List ℕ) (at offset len : ℕ) where
   pub room_for_length : (v : ℕ) → RoomForPair out at offset len → (len ≡ 0 → ⊥) → at + 1 < length (set out at v)
   room_for_length v p h = simp length-set (omega (arith, p.room))
 
-pub pair_stored : (out : List ℕ) (at offset len : ℕ) → RoomForPair out at offset len → (len ≡ 0 → ⊥)
-    → set (set out at (offset % 256)) (at + 1) (len % 256) ≡ sets out at (pair_bytes (ended offset len))
+pub pair_stored : (out : List ℕ) (at offset len : ℕ) → (len ≡ 0 → ⊥) → set (set out at offset) (at + 1) len ≡ sets out at (pair_bytes (ended offset len))
 unfolding pair_bytes ended
-pair_stored out at offset zero p h = absurd (h refl)
-pair_stored out at offset (suc k) p h =
-    let o : offset % 256 ≡ offset = omega (arith, p.on_page_lem) in
-    let l : suc k % 256 ≡ suc k = omega (arith, p.on_page_lem) in
-    rw (o, l, add-one at)
+pair_stored out at offset zero h = absurd (h refl)
+pair_stored out at offset (suc k) h = rw add-one
 
-module _ (out : List ℕ) (at : ℕ) (room : at + 4 ≤ length out) where
-  pub room_for_byte_1 : (a : ℕ) → at + 1 < length (set out at a)
-  room_for_byte_1 a = simp length-set (omega arith)
-
-  pub room_for_byte_2 : (a b : ℕ) → at + 2 < length (set (set out at a) (at + 1) b)
-  room_for_byte_2 a b = simp length-set (omega arith)
-
-  pub room_for_byte_3 : (a b c : ℕ) → at + 3 < length (set (set (set out at a) (at + 1) b) (at + 2) c)
-  room_for_byte_3 a b c = simp length-set (omega arith)
-
-pub word_stored_lem : (out : List ℕ) (at v : ℕ)
-    → set (set (set (set out at (v % 256)) (at + 1) (v / 256 % 256)) (at + 2) (v / 65536 % 256)) (at + 3) (v / 16777216 % 256) ≡ sets out at (word_bytes v)
+-- the four bytes of a word, copied to a place
+pub word_bytes_put : (out : List ℕ) (at v : ℕ) (bytes : List ℕ) → at + 4 ≤ length out → bytes ≡ to_le_bytes w32 v → put_mid at (at + 4 - at) out bytes ≡ sets out at (word_bytes v)
 unfolding word_bytes
-word_stored_lem out at v =
-    let one : at + 1 ≡ suc at = omega arith in
-    let two : at + 2 ≡ suc (suc at) = omega arith in
-    let three : at + 3 ≡ suc (suc (suc at)) = omega arith in
-    rw (one, two, three)
+word_bytes_put out at v bytes room e =
+    let four : at + 4 - at ≡ 4 = omega arith in
+    rw (four, e) (ap (λ (l : List ℕ). take at out ++ (word_bytes v ++ l)) (drop-drop 4 at out)
+    ∙ sym (append_assoc (take at out) (word_bytes v) (drop (at + 4) out))
+    ∙ sym (sets-eq (word_bytes v) out at room))
 
 -- ---- stores and pairs, one part after the other
 

@@ -1,9 +1,9 @@
 -- What `write` answers and leaves in its destination, each by one definition. w is the page length. Assumes nothing.
-use Rattle.std.specs.Prelude.{ℕ, ◌≡◌, Bool, true, false, cond, not, ◌&&◌, List, length, ltb, eqb}
+use Rattle.std.specs.Prelude.{ℕ, ◌≡◌, Bool, true, false, cond, not, ◌&&◌, List, length, ltb, eqb, Result, Ok, Err}
 use Rattle.std.proofs.lemmas.List.Edits.{sets}
+use Rattle.limits.specs.declared.Refusal.{Refusal}
+use Rattle.limits.specs.Refused.{number_of}
 use Rattle.diff.specs.Format.{written}
-use Rattle.diff_writer.specs.declared.Written.{Written}
-use Rattle.diff_writer.specs.declared.Written.TheVariants.{Length, Refused}
 
 -- "14 a page lent is not 32 words", then "13 the destination is shorter than the change"; 0 where neither applies
 unfoldable pub write_refusal : ℕ → List ℕ → List ℕ → List ℕ → ℕ
@@ -25,17 +25,17 @@ write_answer w old new out =
     (record { refusal = write_refusal w old new out; length = 0 })
 
 -- the two numbers that each case of its answer stands for
-unfoldable pub said_by : Written → WriteAnswer
-said_by (Length n) = record { refusal = 0; length = n }
-said_by (Refused n) = record { refusal = n; length = 0 }
+unfoldable pub said_by : Result ℕ Refusal → WriteAnswer
+said_by (Ok n) = record { refusal = 0; length = n }
+said_by (Err r) = record { refusal = number_of r; length = 0 }
 
 -- whether it is the case of a diff that was written
-unfoldable pub was_written : Written → Bool
-was_written (Length n) = true
-was_written (Refused n) = false
+unfoldable pub was_written : Result ℕ Refusal → Bool
+was_written (Ok n) = true
+was_written (Err r) = false
 
 -- it says this answer: its two numbers are the answer's, and its case says whether anything was refused. No two say the same answer (proofs/)
-pub record Says (x : Written) (a : WriteAnswer) : Type 0 where
+pub record Says (x : Result ℕ Refusal) (a : WriteAnswer) : Type 0 where
   pub numbers : said_by x ≡ a
   pub accepted : was_written x ≡ eqb a.refusal 0
 

@@ -1,7 +1,6 @@
 -- A step on areas of any sizes and contents: 1 where they are not in order, else the step in order; and the areas are those that hold the
 -- rules' next state. One law for each way of the code, and `answering_laws`. Assumes nothing.
 use Prim.Native.Nat.{ℕ}
-use native.Mathlib.Omega.{arith}
 use mathlib.Core.Path.{◌≡◌, refl, sym, ap, ◌∙◌}
 use mathlib.Core.Bool.{Bool, true, false, cond, not, ◌&&◌, and-eq-true_iff}
 use mathlib.Core.List.{List}
@@ -21,8 +20,9 @@ use Rattle.inorder.specs.Areas.{areas_in_order, OrderIs}
 use Rattle.fetch_index.specs.inner.Index.{unranked}
 use Rattle.fetch_index.proofs.Kept.{new_kept}
 use Rattle.step_collect.specs.inner.Needed.{ReadyKept}
-use Rattle.step_act.specs.declared.Outcome.{Outcome}
-use Rattle.step_act.specs.declared.Outcome.TheVariants.{Refused}
+use Rattle.step_act.specs.Telling.{Outcome}
+use Rattle.std.specs.Prelude.{Err}
+use Rattle.limits.specs.declared.Refusal.TheVariants.{NotInOrder}
 use Rattle.step_act.specs.Telling.{Tells}
 use Rattle.step_act.proofs.Telling.{refused_tells}
 use Rattle.engine.specs.Promises.{answer_of, areas_after}
@@ -56,8 +56,8 @@ module _ (c w r m : List ℕ) (b : Bool) (e : OrderIs b c w r m) where
         go false y = refl
 
     -- 1: "not in order"
-    pub out_of_order : Tells (Refused 1) (answer_of (areas c w r m) t)
-    out_of_order = rw (answer_by_test c w r m t, out) (refused_tells 1 (λ e. omega (arith, e)))
+    pub out_of_order : Tells (Err NotInOrder) (answer_of (areas c w r m) t)
+    out_of_order = rw (answer_by_test c w r m t, out) (refused_tells NotInOrder)
 
     -- "every lent area untouched"
     pub out_of_order_untouched : areas c w r m ≡ areas_after (areas c w r m) t

@@ -25,7 +25,7 @@ use Rattle.rules.proofs.DemandThree.{demand_three}
 use Rattle.layout.specs.Areas.{Areas, holding}
 use Rattle.opening.specs.Promises.{opening_of, open_refusal, areas_opened}
 use Rattle.opening.proofs.Following.{accepted_opening}
-use Rattle.step_act.specs.declared.Outcome.{Outcome}
+use Rattle.step_act.specs.Telling.{Outcome}
 use Rattle.step_act.specs.Telling.{told}
 use Rattle.engine.specs.Promises.{answer_of, areas_after}
 use Rattle.engine.specs.Calls.{answers_of_calls, areas_after_calls, Returned}

@@ -4,7 +4,7 @@ use Rattle.std.specs.Prelude.{List, [], ◌∷◌}
 use Rattle.rules.specs.Refusals.{Step, Answer}
 use Rattle.layout.specs.Areas.{Areas}
 use Rattle.step_act.specs.Telling.{Tells}
-use Rattle.step_act.specs.declared.Outcome.{Outcome}
+use Rattle.step_act.specs.Telling.{Outcome}
 use Rattle.engine.specs.Promises.{answer_of, areas_after}
 
 -- what the calls answer, one after the other

@@ -170,5 +170,3 @@ module _ (s : Stand) (chunk : List ℕ) (from : ℕ) (out c w r m : List ℕ) (s
       }
 
 pub ruleset passing_laws = (record_takeable, first_before, first_stopped, first_short, first_taken, last_stopped, last_short, room_for_stop, last_taken, rules)
-
-pub ruleset whole_laws = (behind_taken, whole_taken, rules)

@@ -9,13 +9,13 @@ use lib.ListN.{drop, take}
 use borrow.Author.Tests.{eq-eqb, le-leb, lt-leb, ne_eqb}
 use Rattle.limits.specs.Files.{file_record_width, step_limit}
 use Rattle.limits.specs.Limits.{word_values}
+use Rattle.limits.specs.declared.Refusal.TheVariants.{NotInOrder}
+use Rattle.std.specs.Prelude.{Err}
 use Rattle.rules.specs.Refusals.{Answer, Step}
 use Rattle.rules.specs.State.{mainframe}
 use Rattle.layout.specs.Areas.{state_in, areas}
 use Rattle.inorder.specs.Areas.{OrderIs}
-use Rattle.step_act.specs.Telling.{told}
-use Rattle.step_act.specs.declared.Outcome.{Outcome}
-use Rattle.step_act.specs.declared.Outcome.TheVariants.{Refused}
+use Rattle.step_act.specs.Telling.{Outcome, told}
 use Rattle.engine.specs.Promises.{answer_of, areas_after}
 use Rattle.engine.specs.inner.Needed.{SteppedAs}
 use Rattle.engine.proofs.Answering.{in_order_after, in_order_answered, out_of_order, out_of_order_untouched, ready_when_fine}
@@ -39,7 +39,7 @@ pub record Answered (t : Step) (c w r m : List ℕ) (o : Outcome) (ready : Bool)
 
 module _ (t : Step) (c w r m : List ℕ) where
   -- 1: "not in order"
-  pub answered_out_of_order : OrderIs false c w r m → Answered t c w r m (Refused 1) false c w r m
+  pub answered_out_of_order : OrderIs false c w r m → Answered t c w r m (Err NotInOrder) false c w r m
   answered_out_of_order h =
       record {
         outcome = (out_of_order c w r m false h t refl).numbers;

@@ -4,21 +4,20 @@ use Prim.Native.Nat.{◌*◌, ◌+◌, ◌-◌, ◌/◌, ◌<◌, ◌≤◌, ℕ
 use native.Mathlib.Omega.{arith}
 use mathlib.Core.Path.{◌∙◌, ◌≡◌, ap, refl, sym}
 use mathlib.Core.Bool.{Bool, false, not, true, true≢false}
-use mathlib.Core.List.{List, []}
-use lib.ListN.{drop, length, take}
-use borrow.Author.Tests.{not-false, not-true}
-use mir.Syntax.{w32, w64}
+use mathlib.Core.List.{List}
+use lib.ListN.{drop, length}
+use mir.Syntax.{w32}
 use mir.Val.{Fits}
 use borrow.Author.Rules.{rules}
+use Rattle.std.specs.Prelude.{Err}
+use Rattle.limits.specs.declared.Refusal.TheVariants.{NotInOrder}
 use Rattle.limits.specs.Files.{file_record_width, line_limit, step_limit}
 use Rattle.limits.specs.inner.Sizes.{file_record_limit, mark_area}
 use Rattle.rules.specs.State.{mainframe}
-use Rattle.layout.specs.Areas.{state_in, areas}
+use Rattle.layout.specs.Areas.{state_in}
 use Rattle.fetch_index.specs.inner.Index.{unranked, IndexKept}
 use Rattle.fetch_index.proofs.Kept.{new_kept}
-use Rattle.step_act.specs.Telling.{outcome_count, outcome_refusal, outcome_value, outcome_words, told}
-use Rattle.step_act.specs.declared.Outcome.{Outcome}
-use Rattle.step_act.specs.declared.Outcome.TheVariants.{Refused}
+use Rattle.step_act.specs.Telling.{Outcome, outcome_count, outcome_value, outcome_words, told}
 use Rattle.engine.specs.inner.Needed.{SteppedKept}
 use Rattle.engine.proofs.Answering.{ready_when_fine}
 use Rattle.step_fields.specs.Records.{step_from}
@@ -27,8 +26,7 @@ use Rattle.lines.specs.Lines.{line_bytes}
 use Rattle.lines.specs.inner.Needed.{Countable, Counted, Room}
 use Rattle.file_record.specs.declared.Stand.{Stand}
 use Rattle.file_lines.specs.inner.Needed.{LinePut, Ahead, AllAhead}
-use Rattle.file_record.specs.inner.Needed.{TotalThere, WordsAdded, outcome_line, stands_at}
-use Rattle.file_chunk.specs.Bytes.{bytes_taken}
+use Rattle.file_record.specs.inner.Needed.{TotalThere, WordsAdded, outcome_line}
 use Rattle.file_chunk.specs.inner.Needed.{Passing, RoomForSteps, Runnable, StepsPassable, StepsRefused, StepsTaken}
 use Rattle.file_chunk.proofs.Passing.{passing_begins, passing_on, passing_one}
 use Rattle.file_chunk.proofs.Records.{Answered, answered_in_order, answered_out_of_order, step_record}
@@ -62,32 +60,20 @@ module _ (ready : Bool) (s : Stand) (chunk : List ℕ) (from end : ℕ) (out c w
 
   -- all are taken: they lead from the first stand to this one
   going_ends : (number at moved i : ℕ) (out' c' w' r' m' : List ℕ) → Going ready s.number s.at s.words chunk from end out c w r m number at moved i out' c' w' r' m' → end ≤ i
-      → StepsTaken s chunk from out c w r m (record { number = number; stopped = false; ready = ready; at = at; words = moved }) i out' c' w' r' m'
-  unfolding stands_at
-  going_ends number at moved i out' c' w' r' m' k e =
-      record {
-        passing =
-            record {
-              able = k.passing.able;
-              is =
-                  k.passing.is
-                  ∙ ap (λ (b : Bool). bytes_taken (record { number = s.number; held = []; stopped = b; areas = areas c w r m; lines = take s.at out; words = s.words }) (drop from chunk))
-                  (sym h.going);
-              whole = k.passing.whole;
-              near = k.passing.near;
-              kept = k.passing.kept;
-              clocks = k.passing.clocks;
-              words = k.passing.words;
-              records = k.passing.records;
-              marks = k.passing.marks;
-            };
+      → StepsTaken s chunk from out c w r m (record { number = number; stopped = s.stopped; ready = s.ready; at = at; words = moved }) end out' c' w' r' m'
+  going_ends number at moved i out' c' w' r' m' g e =
+      let z : i ≡ end = omega (arith, e, g.ahead.ahead.on) in
+      let k = rw z at g in
+      rw (h.going, h.said)
+      (record {
+        passing = k.passing;
         able =
             record {
               within = k.passing.able.within;
               room = k.passing.able.room;
-              over = λ z l. omega (arith, e, k.ahead.ahead.on, l, k.ahead.all (omega (arith, e, k.ahead.ahead.on, l)));
+              over = λ y l. omega (arith, l, k.ahead.all l);
             };
-      }
+      })
 
 module _ (ready : Bool) (number₀ at₀ moved₀ : ℕ) (chunk : List ℕ) (from end : ℕ) (out₀ c₀ w₀ r₀ m₀ : List ℕ) (number at moved i : ℕ) (out c w r m : List ℕ)
     (h : Going ready number₀ at₀ moved₀ chunk from end out₀ c₀ w₀ r₀ m₀ number at moved i out c w r m) (b : i < end) where
@@ -142,28 +128,12 @@ module _ (s : Stand) (chunk : List ℕ) (from end : ℕ) (out c w r m : List ℕ
   pub running_begins : (x : List ℕ) → x ≡ unranked m → Running s.number s.at s.words chunk from end out c w r m s.number s.at s.words from out c w r m x
   running_begins x e = record { going = going_begins true s chunk from end out c w r m h; kept = new_kept c r m x e }
 
-  pub running_ends : (number at moved i : ℕ) (out' c' w' r' m' x : List ℕ) → Running s.number s.at s.words chunk from end out c w r m number at moved i out' c' w' r' m' x → end ≤ i
-      → StepsTaken s chunk from out c w r m (record { number = number; stopped = false; ready = true; at = at; words = moved }) i out' c' w' r' m'
-  running_ends number at moved i out' c' w' r' m' x k e = going_ends true s chunk from end out c w r m h number at moved i out' c' w' r' m' k.going e
+  pub running_ends : {number at moved i : ℕ} {out' c' w' r' m' x : List ℕ} → Running s.number s.at s.words chunk from end out c w r m number at moved i out' c' w' r' m' x → end ≤ i
+      → StepsTaken s chunk from out c w r m (record { number = number; stopped = s.stopped; ready = s.ready; at = at; words = moved }) end out' c' w' r' m'
+  running_ends {number} {at} {moved} {i} {out'} {c'} {w'} {r'} {m'} {x} k e = going_ends true s chunk from end out c w r m h number at moved i out' c' w' r' m' k.going e
 
-module _ (number₀ at₀ moved₀ : ℕ) (chunk : List ℕ) (from end : ℕ) (out₀ c₀ w₀ r₀ m₀ : List ℕ) (number at moved i : ℕ) (out c w r m x : List ℕ)
+module _ {number₀ at₀ moved₀ : ℕ} {chunk : List ℕ} {from end : ℕ} {out₀ c₀ w₀ r₀ m₀ : List ℕ} {number at moved i : ℕ} {out c w r m x : List ℕ}
     (h : Running number₀ at₀ moved₀ chunk from end out₀ c₀ w₀ r₀ m₀ number at moved i out c w r m x) where
-  -- the lent memory keeps its sizes
-  pub lines_sized : length out ≡ length out₀
-  lines_sized = h.going.passing.kept.long
-
-  pub clocks_sized : length c ≡ length c₀
-  clocks_sized = h.going.passing.clocks
-
-  pub words_sized : length w ≡ length w₀
-  words_sized = h.going.passing.words
-
-  pub records_sized : length r ≡ length r₀
-  records_sized = h.going.passing.records
-
-  pub marks_sized : length m ≡ length m₀
-  marks_sized = h.going.passing.marks
-
   module _ (b : i < end) where
     within : i + file_record_width ≤ length chunk
     within = next_within true number₀ at₀ moved₀ chunk from end out₀ c₀ w₀ r₀ m₀ number at moved i out c w r m h.going b
@@ -174,10 +144,6 @@ module _ (number₀ at₀ moved₀ : ℕ) (chunk : List ℕ) (from end : ℕ) (o
     -- the next number is one of 32 bits
     pub next_fits : Fits w32 (number + 1)
     next_fits = omega (arith, numbered)
-
-    -- and its place one of 64
-    pub next_place : Fits w64 end → Fits w64 (i + file_record_width)
-    next_place e = omega (arith, e, b, h.going.ahead.ahead.whole)
 
     -- what the next step and its line ask
     pub next_there : StepThere chunk i c w r m x
@@ -199,13 +165,13 @@ module _ (number₀ at₀ moved₀ : ℕ) (chunk : List ℕ) (from end : ℕ) (o
     next_countable d len k = record { now_counted = k; few = omega (arith, numbered) }
 
     -- one more is taken
-    pub running_more : (o : Outcome) (c' w' r' m' x' out' : List ℕ) (at' moved' : ℕ)
+    pub running_more : {o : Outcome} {c' w' r' m' x' out' : List ℕ} {at' moved' : ℕ}
         → SteppedKept (state_in mainframe c w r m) (step_from (drop i chunk)) o c' w' r' m' x'
         → WordsAdded moved o moved'
         → LinePut out at (outcome_line number o) out' at'
         → length c' ≡ length c → length w' ≡ length w → length r' ≡ length r → length m' ≡ length m
         → Running number₀ at₀ moved₀ chunk from end out₀ c₀ w₀ r₀ m₀ (number + 1) at' moved' (i + file_record_width) out' c' w' r' m' x'
-    running_more o c' w' r' m' x' out' at' moved' d v k ec ew er em =
+    running_more {o} {c'} {w'} {r'} {m'} {x'} {out'} {at'} {moved'} d v k ec ew er em =
         record {
           going =
               going_more true number₀ at₀ moved₀ chunk from end out₀ c₀ w₀ r₀ m₀ number at moved i out c w r m h.going b o c' w' r' m' out' at' moved'
@@ -219,41 +185,34 @@ module _ (number₀ at₀ moved₀ : ℕ) (chunk : List ℕ) (from end : ℕ) (o
 pub record Refusing (number₀ at₀ moved₀ from end : ℕ) (out₀ : List ℕ) (number at i : ℕ) (out : List ℕ) : Type 0 where
   pub ahead : Ahead number i end
   pub room : at + line_limit * ((end - i) / file_record_width) ≤ length out
-  pub long : length out ≡ length out₀
   pub is : (chunk c w r m : List ℕ) → Going false number₀ at₀ moved₀ chunk from end out₀ c w r m number₀ at₀ moved₀ from out₀ c w r m
       → Going false number₀ at₀ moved₀ chunk from end out₀ c w r m number at moved₀ i out c w r m
 
 module _ (s : Stand) (from end : ℕ) (out : List ℕ) where
   pub refusing_begins : RoomForSteps s from end out → Refusing s.number s.at s.words from end out s.number s.at from out
-  refusing_begins h = record { ahead = h.ahead; room = h.room; long = refl; is = λ chunk c w r m k. k }
+  refusing_begins h = record { ahead = h.ahead; room = h.room; is = λ chunk c w r m k. k }
 
-  pub refusing_ends : (number at i : ℕ) (out' : List ℕ) → Refusing s.number s.at s.words from end out number at i out' → end ≤ i
-      → StepsRefused s from end out (record { number = number; stopped = false; ready = false; at = at; words = s.words }) i out'
-  refusing_ends number at i out' k e =
+  pub refusing_ends : {number at i : ℕ} {out' : List ℕ} → Refusing s.number s.at s.words from end out number at i out' → end ≤ i
+      → StepsRefused s from end out (record { number = number; stopped = s.stopped; ready = s.ready; at = at; words = s.words }) end out'
+  refusing_ends {number} {at} {i} {out'} k e =
       record {
         is = λ chunk c w r m h.
             going_ends false s chunk from end out c w r m h number at s.words i out' c w r m (k.is chunk c w r m (going_begins false s chunk from end out c w r m h)) e;
       }
 
-module _ (number₀ at₀ moved₀ from end : ℕ) (out₀ : List ℕ) (number at i : ℕ) (out : List ℕ) (h : Refusing number₀ at₀ moved₀ from end out₀ number at i out) where
-  pub refusing_sized : length out ≡ length out₀
-  refusing_sized = h.long
-
+module _ {number₀ at₀ moved₀ from end : ℕ} {out₀ : List ℕ} {number at i : ℕ} {out : List ℕ} (h : Refusing number₀ at₀ moved₀ from end out₀ number at i out) where
   module _ (b : i < end) where
     pub refusing_fits : Fits w32 (number + 1)
     refusing_fits = omega (arith, b, h.ahead.whole, h.ahead.few)
-
-    pub refusing_place : Fits w64 end → Fits w64 (i + file_record_width)
-    refusing_place e = omega (arith, e, b, h.ahead.whole)
 
     pub refusing_room : Room out at line_limit
     refusing_room = record { room = omega (arith, b, h.ahead.whole, h.room) }
 
     -- one more is refused
-    pub refusing_more : (out' : List ℕ) (at' : ℕ) → LinePut out at (line_bytes number 1 0 0) out' at'
+    pub refusing_more : {n : ℕ} {out' : List ℕ} {at' : ℕ} → n ≡ 1 → LinePut out at (line_bytes number n 0 0) out' at'
         → Refusing number₀ at₀ moved₀ from end out₀ (number + 1) at' (i + file_record_width) out'
-    unfolding outcome_line told outcome_refusal outcome_value outcome_count outcome_words
-    refusing_more out' at' k =
+    unfolding outcome_line told outcome_value outcome_count outcome_words
+    refusing_more {n} {out'} {at'} one k =
         record {
           ahead =
               record {
@@ -262,11 +221,10 @@ module _ (number₀ at₀ moved₀ from end : ℕ) (out₀ : List ℕ) (number a
                 few = omega (arith, b, h.ahead.whole, h.ahead.few);
               };
           room = omega (arith, b, h.ahead.whole, h.room, k.near, k.kept.long);
-          long = k.kept.long ∙ h.long;
           is = λ chunk c w r m g.
               let now = h.is chunk c w r m g in
-              going_more false number₀ at₀ moved₀ chunk from end out₀ c w r m number at moved₀ i out c w r m now b (Refused 1) c w r m out' at' moved₀
-              (answered_out_of_order (step_from (drop i chunk)) c w r m now.passing.able.order) k (record { is = omega arith; few = omega arith }) refl refl refl refl;
+              going_more false number₀ at₀ moved₀ chunk from end out₀ c w r m number at moved₀ i out c w r m now b (Err NotInOrder) c w r m out' at' moved₀
+              (answered_out_of_order (step_from (drop i chunk)) c w r m now.passing.able.order) (rw one at k) (record { is = omega arith; few = omega arith }) refl refl refl refl;
         }
 
 -- ---- which steps follow
@@ -292,11 +250,11 @@ module _ (s : Stand) (chunk : List ℕ) (from : ℕ) (out c w r m : List ℕ) (h
     refusable = record { ahead = a.ahead; room = omega (arith, a.ahead.on, a.within, h.passable.room) }
 
     module _ (z : s.stopped ≡ false) (n : s.number ≡ 0 → ⊥) where
-      pub run_refused : (s' : Stand) (i : ℕ) (out' : List ℕ) → not s.ready ≡ true → StepsRefused s from end out s' i out' → StepsTaken s chunk from out c w r m s' i out' c w r m
+      pub run_refused : (s' : Stand) (i : ℕ) (out' : List ℕ) → s.ready ≡ false → StepsRefused s from end out s' i out' → StepsTaken s chunk from out c w r m s' i out' c w r m
       run_refused s' i out' y d =
-          d.is chunk c w r m (record { passable = h.passable; ahead = a; going = z; said = not-true s.ready y; opened = omega (arith, n) })
+          d.is chunk c w r m (record { passable = h.passable; ahead = a; going = z; said = y; opened = omega (arith, n) })
 
-      pub runnable : not s.ready ≡ false → Runnable true s chunk from end out c w r m
-      runnable y = record { passable = h.passable; ahead = a; going = z; said = not-false s.ready y; opened = omega (arith, n) }
+      pub runnable : s.ready ≡ true → Runnable true s chunk from end out c w r m
+      runnable y = record { passable = h.passable; ahead = a; going = z; said = y; opened = omega (arith, n) }
 
-pub ruleset run_laws = (running_marks, running_begins, running_ends, lines_sized, clocks_sized, words_sized, records_sized, marks_sized, next_fits, next_there, room_for_next, total_there, next_countable, refusing_begins, refusing_ends, refusing_sized, refusing_fits, refusing_place, refusing_room, refusing_more, run_stopped, run_unopened, refusable, run_refused, runnable, rules)
+pub ruleset run_laws = (running_marks, running_begins, running_ends, next_fits, next_there, room_for_next, total_there, next_countable, refusing_begins, refusing_ends, refusing_fits, refusing_room, run_stopped, run_unopened, refusable, run_refused, runnable, rules)

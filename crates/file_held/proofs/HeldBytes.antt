@@ -1,110 +1,76 @@
--- Bytes held: those of a chunk are taken behind them, one by one. One law for each way of the code, and `holding_laws`. Assumes nothing.
-use Prim.Native.Nat.{◌+◌, ◌-◌, ◌<◌, ◌≤◌, suc, ℕ}
+-- Bytes held: those of a chunk taken behind them, and whether the others are 0. Assumes nothing.
+use Prim.Native.Nat.{◌+◌, ◌-◌, ◌<◌, ◌≤◌, min, ℕ}
 use native.Mathlib.Omega.{arith}
-use native.Mathlib.Numerals.{add-one}
 use mathlib.Core.Path.{◌∙◌, ◌≡◌, ap, refl, sym}
-use mathlib.Core.Bool.{and-eq-true_iff, false, true}
+use mathlib.Core.Bool.{Bool, ◌&&◌, and-eq-true_iff, true}
 use mathlib.Core.List.{List, [], ◌++◌, ◌∷◌, append_assoc}
-use lib.ListN.{drop, get_or, length, length-drop, length-set, replicate, set, take}
-use lib.Seq.{drop-cons, drop-drop, drop-set-lt, take-suc-set}
+use lib.ListN.{drop, length, length-drop, length-append, replicate, take, take-append-drop}
+use borrow.Rule.Slice.PartMut.{put_mid}
+use lib.Seq.{drop-drop, length-take-le}
+use Rattle.std.proofs.lemmas.Slice.{drop-put_mid, take-put_mid}
+use Rattle.std.proofs.lemmas.List.{drop-replicate}
+use Rattle.std.specs.List.{list_all}
 use lib.Dec.{eqb}
-use borrow.Author.Tests.{eq-eqb, eqb-true, le-ltb, lt-ltb, ne_eqb}
-use borrow.Author.Rules.{rules}
+use borrow.Author.Tests.{eqb-true, lt-ltb}
 use Rattle.limits.specs.Files.{file_record_width}
 use Rattle.rules.specs.InOrder.{all_zero}
 use Rattle.file_held.specs.inner.Needed.{HeldAll, Holdable, Holding, HeldTogether, ZerosBehind}
 
 -- ---- bytes taken behind those held
 
--- none is taken yet
-pub holds_begin : (held : ℕ) (bytes chunk : List ℕ) (from : ℕ) → Holdable held bytes chunk from → HeldTogether held bytes chunk from held bytes from
-holds_begin held bytes chunk from h = record { holding = h.holding; within = h.within; counted = omega arith; same = refl }
+module _ (held : ℕ) (bytes chunk : List ℕ) (from : ℕ) (h : Holdable held bytes chunk from) (taken : ℕ) (few : taken ≡ min (file_record_width - held) (length chunk - from)) where
+  -- the bytes taken
+  abbrev more : List ℕ
+  more = take taken (drop from chunk)
 
-module _ (held : ℕ) (bytes chunk : List ℕ) (from count : ℕ) (kept : List ℕ) (i : ℕ) (h : HeldTogether held bytes chunk from count kept i) where
-  pub place_held : count < file_record_width → count < length kept
-  place_held l = omega (arith, l, h.holding.long)
+  length_more : length more ≡ taken
+  length_more = length-take-le taken (drop from chunk) (omega (arith, few, length-drop from chunk))
 
-  -- one more
-  pub holds_more : i < length chunk → count < file_record_width → HeldTogether held bytes chunk from (count + 1) (set kept count (get_or chunk i 0)) (i + 1)
-  holds_more l m =
+  within : held ≤ length bytes
+  within = omega (arith, h.holding.few, h.holding.long)
+
+  -- the bytes held then
+  abbrev kept : List ℕ
+  kept = put_mid held taken bytes more
+
+  together : HeldTogether held bytes chunk from (held + taken) kept (from + taken)
+  together =
       record {
         holding =
             record {
-              few = omega (arith, m);
-              long = length-set kept count (get_or chunk i 0) ∙ h.holding.long;
+              few = omega (arith, few, h.holding.few);
+              long =
+                  simp length-append
+                  (omega (arith, few, h.holding.few, h.holding.long, length_more, length-take-le held bytes within, length-drop taken (drop held bytes), length-drop held bytes));
               zeros =
-                  rw (add-one count)
-                  (drop-set-lt (suc count) kept count (get_or chunk i 0) (omega arith)
-                  ∙ ap (λ (j : ℕ). drop j kept) (sym (add-one count))
-                  ∙ sym (drop-drop 1 count kept)
-                  ∙ ap (λ (l : List ℕ). drop 1 l) h.holding.zeros
-                  ∙ one_less (file_record_width - count) (file_record_width - suc count) (omega (arith, m)));
+                  drop-put_mid held taken bytes more (held + taken) (omega arith) within length_more
+                  ∙ sym (drop-drop taken held bytes)
+                  ∙ ap (λ (l : List ℕ). drop taken l) h.holding.zeros
+                  ∙ drop-replicate taken (file_record_width - held) 0
+                  ∙ ap (λ (n : ℕ). replicate n 0) (omega arith);
             };
-        within = omega (arith, l);
-        counted = omega (arith, h.counted);
+        within = omega (arith, few, h.within);
+        counted = omega arith;
         same =
-            rw (add-one count, add-one i, take-suc-set kept count (get_or chunk i 0) (place_held m))
-            (append_assoc (take count kept) (get_or chunk i 0 ∷ []) (drop (suc i) chunk)
-            ∙ ap (λ (l : List ℕ). take count kept ++ l) (sym (drop-cons chunk i 0 l))
-            ∙ h.same);
+            ap (λ (l : List ℕ). l ++ drop (from + taken) chunk) (take-put_mid held taken bytes more (held + taken) (omega (arith, length_more)) within)
+            ∙ append_assoc (take held bytes) more (drop (from + taken) chunk)
+            ∙ ap (λ (l : List ℕ). take held bytes ++ l) (ap (λ (l : List ℕ). more ++ l) (sym (drop-drop taken from chunk)) ∙ take-append-drop taken (drop from chunk));
       }
-    where
-      one_less : (n k : ℕ) → n ≡ k + 1 → drop 1 (replicate {A = ℕ} n 0) ≡ replicate k 0
-      one_less n k e = ap (λ (j : ℕ). drop 1 (replicate {A = ℕ} j 0)) (e ∙ add-one k)
 
-  -- eight are held
-  pub held_eight : file_record_width ≤ count → HeldAll held bytes chunk from (record { count = count; bytes = kept; next = i })
-  held_eight l = record { holds = h; short = λ s. absurd (omega (arith, l, s)) }
-
-  -- the chunk has ended
-  pub held_rest : length chunk ≤ i → HeldAll held bytes chunk from (record { count = count; bytes = kept; next = i })
-  held_rest l = record { holds = h; short = λ s. omega (arith, l, h.within) }
+  pub held_all : (k m : ℕ) (ys : List ℕ) → k ≡ taken → m ≡ taken → ys ≡ take m (drop from chunk)
+      → HeldAll held bytes chunk from (record { count = held + taken; bytes = put_mid held k bytes ys; next = from + taken })
+  held_all k m ys ek em e = rw (e, ek, em) (record { holds = together; short = λ s. omega (arith, few, s, h.within, h.holding.few) })
 
 -- ---- whether the bytes behind those held are 0
 
--- so far, from the first behind those held to a place, all are 0
-pub record ZerosTo (held : ℕ) (bytes : List ℕ) (i : ℕ) : Type 0 where
-  pub long : length bytes ≡ file_record_width
-  pub few : held < file_record_width
-  pub upto : i ≤ file_record_width
-  pub same : all_zero (drop held bytes) ≡ all_zero (drop i bytes)
+-- every byte is tested for 0
+all_tested : (l : List ℕ) → list_all (λ x. eqb x 0) l ≡ all_zero l
+unfolding all_zero
+all_tested [] = refl
+all_tested (x ∷ l) = ap (λ (b : Bool). eqb x 0 && b) (all_tested l)
 
-pub zeros_begin : (held : ℕ) (bytes : List ℕ) → length bytes ≡ file_record_width → held < file_record_width → ZerosTo held bytes held
-zeros_begin held bytes e l = record { long = e; few = l; upto = omega (arith, l); same = refl }
-
-pub too_many_held : (held : ℕ) (bytes : List ℕ) → file_record_width ≤ held → ZerosBehind false held bytes
-too_many_held held bytes l = record { is = rw (le-ltb held file_record_width l) }
-
-module _ (held : ℕ) (bytes : List ℕ) (i : ℕ) (h : ZerosTo held bytes i) where
-  pub zero_place : i < file_record_width → i < length bytes
-  zero_place l = omega (arith, l, h.long)
-
-  pub no_zero : i < file_record_width → (get_or bytes i 0 ≡ 0 → ⊥) → ZerosBehind false held bytes
-  unfolding all_zero
-  no_zero l z =
-      record {
-        is =
-            sym
-            (rw (lt-ltb held file_record_width h.few, h.same, drop-cons bytes i 0 (zero_place l), ne_eqb (get_or bytes i 0) 0 z));
-      }
-
-  pub one_zero_more : i < file_record_width → get_or bytes i 0 ≡ 0 → ZerosTo held bytes (i + 1)
-  unfolding all_zero
-  one_zero_more l z =
-      record {
-        long = h.long;
-        few = h.few;
-        upto = omega (arith, l);
-        same = h.same ∙ rw (drop-cons bytes i 0 (zero_place l), eq-eqb (get_or bytes i 0) 0 z, add-one i);
-      }
-
-  pub all_zeros : file_record_width ≤ i → ZerosBehind true held bytes
-  unfolding all_zero
-  all_zeros l = record { is = sym (rw (lt-ltb held file_record_width h.few, h.same) (none (drop i bytes) (omega (arith, length-drop i bytes, h.long, l)))) }
-    where
-      none : (xs : List ℕ) → length xs ≡ 0 → all_zero xs ≡ true
-      none [] e = refl
-      none (x ∷ xs) e = absurd (omega (arith, e))
+pub zeros_tested : (held : ℕ) (bytes : List ℕ) (b : Bool) → held < file_record_width → b ≡ list_all (λ x. eqb x 0) (drop held bytes) → ZerosBehind b held bytes
+zeros_tested held bytes b h e = record { is = e ∙ all_tested (drop held bytes) ∙ sym (ap (λ (t : Bool). t && all_zero (drop held bytes)) (lt-ltb held file_record_width h)) }
 
 -- bytes that are all 0
 zeros_are : (xs : List ℕ) → all_zero xs ≡ true → xs ≡ replicate (length xs) 0
@@ -123,5 +89,3 @@ holding_of held bytes e l z =
       long = e;
       zeros = zeros_are (drop held bytes) z ∙ ap (λ (n : ℕ). replicate n 0) rest;
     }
-
-pub ruleset holding_laws = (holds_begin, place_held, holds_more, held_eight, held_rest, zeros_begin, too_many_held, zero_place, no_zero, one_zero_more, all_zeros, rules)

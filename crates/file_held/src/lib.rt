@@ -17,42 +17,17 @@ pub struct Held {
 pub fn zeros_behind(held: usize, bytes: [u8; FILE_RECORD_WIDTH]) -> bool
     ensures { ZerosBehind result held bytes }
 {
-    if FILE_RECORD_WIDTH <= held {
-        return false;
-    }
-    let mut i = held;
-    while i < FILE_RECORD_WIDTH {
-        if bytes[i] != 0 {
-            return false;
-        }
-        i = i + 1;
-    }
-    true
+    held < FILE_RECORD_WIDTH && bytes[held..].iter().all(|byte| *byte == 0)
 }
 
 // Takes bytes of the chunk from a place on behind the bytes held, until there are eight or the chunk ends.
-pub fn hold(held: usize, bytes: [u8; FILE_RECORD_WIDTH], chunk: &[u8], from: usize) -> Held
+pub fn hold(held: usize, mut bytes: [u8; FILE_RECORD_WIDTH], chunk: &[u8], from: usize) -> Held
     requires { Holdable held bytes chunk.now from }
     ensures { HeldAll held bytes chunk.now from result }
 {
-    let mut kept = bytes;
-    let mut count = held;
-    let mut i = from;
-    while i < chunk.len() {
-        if FILE_RECORD_WIDTH <= count {
-            return Held {
-                count,
-                bytes: kept,
-                next: i,
-            };
-        }
-        kept[count] = chunk[i];
-        count = count + 1;
-        i = i + 1;
-    }
-    Held {
-        count,
-        bytes: kept,
-        next: i,
-    }
+    let taken = (FILE_RECORD_WIDTH - held).min(chunk.len() - from);
+    let count = held + taken;
+    let next = from + taken;
+    bytes[held..count].copy_from_slice(&chunk[from..next]);
+    Held { count, bytes, next }
 }

@@ -5,11 +5,8 @@ use mathlib.Core.Path.{◌∙◌, ◌≡◌, ap, refl, sym}
 use mathlib.Core.List.{List, ◌++◌}
 use lib.ListN.{drop, length, length-append, take}
 use lib.Seq.{drop_at, drop-drop, length-sets, length-take-le, sets, sets-eq, take_at}
-use mir.Syntax.{w32, w64}
-use mir.Val.{Fits}
 use borrow.Author.Rules.{rules}
 use Rattle.limits.specs.Files.{line_limit}
-use Rattle.lines.specs.Lines.{line_bytes, words_line, most_line}
 use Rattle.lines.specs.inner.Needed.{Room}
 use Rattle.lines.proofs.Lines.{at_most_44_bytes, length_words_line, length_most_line}
 use Rattle.file_lines.specs.inner.Needed.{RestKept, LinePut}
@@ -36,35 +33,12 @@ module _ (out : List ℕ) (at : ℕ) (line : List ℕ) (h : at + length line ≤
       ap (λ (l : List ℕ). take (at + length line) l) (sets-eq line out at h)
       ∙ take_at (take at out ++ line) (drop (at + length line) out) (at + length line) front_long
 
--- a line stored from a place on
-pub line_put : (out : List ℕ) (at n f v k : ℕ) (out' : List ℕ) (end : ℕ) → Room out at line_limit → Fits w32 n → Fits w32 f → Fits w32 v → Fits w32 k
-    → end ≡ at + length (line_bytes n f v k) → out' ≡ sets out at (line_bytes n f v k)
-    → LinePut out at (line_bytes n f v k) out' end
-line_put out at n f v k out' end room fn ff fv fk e s =
-    let short = at_most_44_bytes n f v k fn.fits ff.fits fv.fits fk.fits in
-    let fits : at + length (line_bytes n f v k) ≤ length out = omega (arith, short, room.room) in
-    rw (e, s)
-    (record {
-      kept = line_kept out at (line_bytes n f v k) fits;
-      near = omega (arith, short);
-      lines = line_behind out at (line_bytes n f v k) fits;
-    })
-
--- the last line stored from a place on
-pub last_line_put : (out : List ℕ) (at n : ℕ) (out' : List ℕ) (end : ℕ) → Room out at line_limit → Fits w64 n
-    → end ≡ at + length (words_line n) → out' ≡ sets out at (words_line n) → LinePut out at (words_line n) out' end
-last_line_put out at n out' end room fn e s =
-    let short = length_words_line n fn.fits in
-    let fits : at + length (words_line n) ≤ length out = omega (arith, short, room.room) in
-    rw (e, s) (record { kept = line_kept out at (words_line n) fits; near = omega (arith, short); lines = line_behind out at (words_line n) fits })
-
--- the last line of a forecast
-pub most_line_put : (out : List ℕ) (at n : ℕ) (out' : List ℕ) (end : ℕ) → Room out at line_limit → Fits w32 n
-    → end ≡ at + length (most_line n) → out' ≡ sets out at (most_line n) → LinePut out at (most_line n) out' end
-most_line_put out at n out' end room fn e s =
-    let short = length_most_line n fn.fits in
-    let fits : at + length (most_line n) ≤ length out = omega (arith, short, room.room) in
-    rw (e, s) (record { kept = line_kept out at (most_line n) fits; near = omega (arith, short); lines = line_behind out at (most_line n) fits })
+-- a line of at most 44 bytes stored from a place on
+pub line_put : (out : List ℕ) (at : ℕ) (line : List ℕ) (out' : List ℕ) (end : ℕ) → Room out at line_limit → length line ≤ line_limit
+    → end ≡ at + length line → out' ≡ sets out at line → LinePut out at line out' end
+line_put out at line out' end room short e s =
+    let fits : at + length line ≤ length out = omega (arith, short, room.room) in
+    rw (e, s) (record { kept = line_kept out at line fits; near = omega (arith, short); lines = line_behind out at line fits })
 
 -- ---- what is written stays
 
@@ -89,4 +63,4 @@ rest_kept_again out at out₁ at₁ out₂ at₂ h k =
         ∙ ap (λ (l : List ℕ). drop (at₂ - at₁) l) h.rest
         ∙ drop-drop (at₂ - at₁) at₁ out ∙ ap (λ (n : ℕ). drop n out) e
 
-pub ruleset placing_laws = (line_put, last_line_put, most_line_put, rules)
+pub ruleset placing_laws = (line_put, at_most_44_bytes, length_words_line, length_most_line, rules)

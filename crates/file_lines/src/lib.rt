@@ -66,8 +66,5 @@ pub fn run_end(number: u32, from: usize, chunk: usize) -> usize
 {
     let whole = (chunk - from) / FILE_RECORD_WIDTH;
     let numbers = (FILE_RECORD_LIMIT - number) as usize;
-    if whole < numbers {
-        return from + FILE_RECORD_WIDTH * whole;
-    }
-    from + FILE_RECORD_WIDTH * numbers
+    from + FILE_RECORD_WIDTH * whole.min(numbers)
 }

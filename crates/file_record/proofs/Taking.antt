@@ -1,5 +1,5 @@
--- The line of a step's outcome, and the opening taken. One law for each way of the code, and `taking_laws`. Assumes nothing.
-use Prim.Native.Nat.{◌+◌, ◌-◌, ◌≤◌, ℕ}
+-- The line of a step's outcome, and the opening taken. One law for each way of the code. Assumes nothing.
+use Prim.Native.Nat.{◌+◌, ◌-◌, ℕ}
 use native.Mathlib.Omega.{arith}
 use mathlib.Core.Path.{◌∙◌, ◌≡◌, ap, refl, sym}
 use mathlib.Core.Bool.{Bool, ◌&&◌, false, not, true}
@@ -9,8 +9,10 @@ use lib.Dec.{eqb}
 use mir.Syntax.{w32, w64}
 use mir.Val.{Fits}
 use borrow.Author.Tests.{eq-eqb, ne_eqb}
-use borrow.Author.Rules.{rules}
+use Rattle.std.specs.Prelude.{Ok, Err}
 use Rattle.limits.specs.Files.{file_record_width, line_limit}
+use Rattle.limits.specs.declared.Refusal.{Refusal}
+use Rattle.limits.specs.Refused.{number_of}
 use Rattle.rules.specs.InOrder.{is_in_order}
 use Rattle.rules.specs.State.{mainframe}
 use Rattle.rules.proofs.inorder.InOrderWhen.{in_order_when}
@@ -21,9 +23,8 @@ use Rattle.inorder.specs.Areas.{areas_in_order}
 use Rattle.inorder.specs.Areas.{OrderIs}
 use Rattle.opening.specs.Promises.{areas_opened, open_refusal}
 use Rattle.opening.proofs.Following.{opened_ready}
-use Rattle.step_act.specs.Telling.{outcome_count, outcome_refusal, outcome_value, outcome_words, told}
-use Rattle.step_act.specs.declared.Outcome.{Outcome}
-use Rattle.step_act.specs.declared.Outcome.TheVariants.{Done, Refused}
+use Rattle.step_access.specs.declared.Answered.{Answered}
+use Rattle.step_act.specs.Telling.{Outcome, outcome_count, outcome_value, outcome_words, told}
 use Rattle.lines.specs.Lines.{line_bytes, refusal_line}
 use Rattle.lines.specs.inner.Needed.{Room}
 use Rattle.file_record.specs.Records.{opening_taken}
@@ -35,36 +36,30 @@ use Rattle.file_record.specs.inner.Needed.{OpenedAs, Takeable, RecordTaken, Tota
 
 module _ (out : List ℕ) (at number : ℕ) (out' : List ℕ) (end : ℕ) where
   -- the line of a step that was done
-  pub done_line : (o : Outcome) (value count words : ℕ) → o ≡ Done value count words → LinePut out at (line_bytes number 0 value count) out' end
-      → LinePut out at (outcome_line number o) out' end
-  unfolding outcome_line told outcome_refusal outcome_value outcome_count
-  done_line o value count words e h = rw e h
+  pub done_line : (o : Outcome) (a : Answered) → o ≡ Ok a → LinePut out at (line_bytes number 0 a.value a.count) out' end → LinePut out at (outcome_line number o) out' end
+  unfolding outcome_line told outcome_value outcome_count
+  done_line o a e h = rw e h
 
   -- of one that was refused
-  pub refused_line : (o : Outcome) (refusal n : ℕ) → o ≡ Refused refusal → (n ≡ refusal) × (n ≤ 255) → LinePut out at (line_bytes number n 0 0) out' end
-      → LinePut out at (outcome_line number o) out' end
-  unfolding outcome_line told outcome_refusal outcome_value outcome_count
-  refused_line o refusal n e f h = rw (e, ← f.0) h
+  pub refused_line : (o : Outcome) (r : Refusal) (n : ℕ) → o ≡ Err r → n ≡ number_of r → LinePut out at (line_bytes number n 0 0) out' end → LinePut out at (outcome_line number o) out' end
+  unfolding outcome_line told outcome_value outcome_count
+  refused_line o r n e f h = rw (e, ← f) h
 
 -- ---- the words of a step
 
--- those of one that was done
-pub words_done : (o : Outcome) (value count words : ℕ) → o ≡ Done value count words → words ≡ (told o).words
-unfolding told outcome_words
-words_done o value count words e = rw e refl
+module _ (total : ℕ) (o : Outcome) where
+  -- of one that was done: the sum is a number of 64 bits
+  pub total_fits : (number n : ℕ) → TotalThere total number → Fits w32 n → Fits w64 (total + n)
+  total_fits number n h f = omega (arith, h.few, h.bounded, f.fits)
 
--- of one that was refused
-pub words_refused : (o : Outcome) (refusal : ℕ) → o ≡ Refused refusal → 0 ≡ (told o).words
-unfolding told outcome_words
-words_refused o refusal e = rw e refl
+  pub words_done : (a : Answered) (n : ℕ) → o ≡ Ok a → n ≡ a.words → Fits w32 a.words → WordsAdded total o (total + n)
+  unfolding told outcome_words
+  words_done a n e f k = rw (e, f) (record { is = refl; few = omega (arith, k.fits) })
 
-module _ (total number : ℕ) (o : Outcome) (n : ℕ) (h : TotalThere total number) (is : n ≡ (told o).words) (fits : Fits w32 n) where
-  -- the sum is a number of 64 bits
-  pub total_fits : Fits w64 (total + n)
-  total_fits = omega (arith, h.few, h.bounded, fits.fits)
-
-  pub words_added : WordsAdded total o (total + n)
-  words_added = record { is = ap (λ (k : ℕ). total + k) is; few = omega (arith, is, fits.fits) }
+  -- of one that was refused
+  pub words_refused : (r : Refusal) → o ≡ Err r → WordsAdded total o total
+  unfolding told outcome_words
+  words_refused r e = rw e (record { is = omega arith; few = omega arith })
 
 -- ---- the order of the areas
 
@@ -99,10 +94,10 @@ stands number stopped ready end moved out a lines b e f =
 module _ (s : Stand) (bytes : List ℕ) (from : ℕ) (out c w r m : List ℕ) where
   -- a refused opening: nothing is laid
   module _ (n : ℕ) (c' w' r' m' : List ℕ) (k : ℕ) (out' : List ℕ) (end : ℕ) (h : Takeable s bytes from out c w r m)
-      (o : OpenedAs (take file_record_width (drop from bytes)) c w r m n c' w' r' m') (e : (k ≡ n) × (k ≤ 255)) (p : LinePut out s.at (line_bytes 0 k 0 0) out' end) where
+      (o : OpenedAs (take file_record_width (drop from bytes)) c w r m n c' w' r' m') (e : k ≡ n) (p : LinePut out s.at (line_bytes 0 k 0 0) out' end) where
     opening_line : take end out' ≡ take s.at out ++ refusal_line 0 (open_refusal (take file_record_width (drop from bytes)) (areas c w r m))
     unfolding refusal_line
-    opening_line = p.lines ∙ ap (λ (j : ℕ). take s.at out ++ line_bytes 0 j 0 0) (e.0 ∙ o.refusal)
+    opening_line = p.lines ∙ ap (λ (j : ℕ). take s.at out ++ line_bytes 0 j 0 0) (e ∙ o.refusal)
 
     pub refused_opening_taken : (n ≡ 0 → ⊥)
         → RecordTaken (opening_taken (stands_at s out (areas c w r m)) (take file_record_width (drop from bytes))) s out (record { number = 1; stopped = true; ready = s.ready; at = end; words = 0 }) out' c' w' r' m'
@@ -153,5 +148,3 @@ opened_as bytes from c w r m n c' w' r' m' e f =
       refusal = e ∙ ap (λ (j : ℕ). open_refusal (take j (drop from bytes)) (areas c w r m)) k;
       laid = f ∙ ap (λ (j : ℕ). areas_opened (take j (drop from bytes)) (areas c w r m)) k;
     }
-
-pub ruleset taking_laws = (done_line, refused_line, words_done, words_refused, total_fits, words_added, refused_opening_taken, accepted_opening_taken, room_for_line, opened_as, rules)

@@ -1,16 +1,16 @@
 // The records of a step file that are no steps, the opening and one too many, and the line of each record.
 #![tactic(auto)]
 
-ghost use Rattle.std.specs.Prelude.{◌≡◌, ◌+◌, ◌≤◌, length, take, drop};
+ghost use Rattle.std.specs.Prelude.{◌+◌, ◌≤◌, length, take, drop};
 ghost use Rattle.limits.specs.Files.{file_record_width, line_limit};
+ghost use Rattle.limits.specs.Refused.{refusal_in};
 ghost use Rattle.layout.specs.Areas.{areas};
-ghost use Rattle.step_act.specs.Telling.{told};
 ghost use Rattle.lines.specs.inner.Needed.{Room, Counted};
 ghost use Rattle.file_record.specs.Records.{opening_taken};
 ghost use Rattle.file_lines.specs.inner.Needed.{LinePut};
 ghost use Rattle.file_record.specs.inner.Needed.{outcome_line, stands_at, Takeable, StoppedAt, RecordTaken, TotalThere, WordsAdded, OpenedAs};
 
-use limits::FILE_RECORD_WIDTH;
+use limits::{FILE_RECORD_WIDTH, Refusal};
 use step_act::Outcome;
 
 // What stands between two records: the number of the next, whether the run has stopped, whether the areas are in order, how many
@@ -25,6 +25,7 @@ pub struct Stand {
 }
 
 // The opening; a refused one ends the run.
+#[tactic(auto, using(crate::proofs::Taking::room_for_line))]
 pub fn take_opening(
     stand: Stand,
     bytes: &[u8],
@@ -38,22 +39,15 @@ pub fn take_opening(
     requires { Takeable stand bytes.now from lines.old clocks.old words.old records.old marks.old }
     ensures { RecordTaken (opening_taken (stands_at stand lines.old (areas clocks.old words.old records.old marks.old)) (take file_record_width (drop from bytes.now))) stand lines.old result lines.new clocks.new words.new records.new marks.new }
 {
-    let refusal = open_at(bytes, from, clocks, words, records, marks);
-    let at = file_lines::put_record_line(lines, stand.at, 0, wide(refusal), 0, 0);
-    let number = 1;
-    if refusal != 0 {
-        return Stand {
-            number,
-            stopped: true,
-            ready: stand.ready,
-            at,
-            words: 0,
-        };
-    }
+    let (refusal, stopped, ready) = match open_at(bytes, from, clocks, words, records, marks) {
+        Ok(()) => (0, false, true),
+        Err(refusal) => (u32::from(refusal.number()), true, stand.ready),
+    };
+    let at = file_lines::put_record_line(lines, stand.at, 0, refusal, 0, 0);
     Stand {
-        number,
-        stopped: false,
-        ready: true,
+        number: 1,
+        stopped,
+        ready,
         at,
         words: 0,
     }
@@ -64,17 +58,17 @@ pub fn too_many(stand: Stand, lines: &mut [u8]) -> Stand
     requires { Room lines.old stand.at line_limit }
     ensures { StoppedAt stand lines.old result lines.new }
 {
-    let at = file_lines::put_record_line(lines, stand.at, stand.number, 16, 0, 0);
+    let refusal = u32::from(Refusal::TooManySteps.number());
+    let at = file_lines::put_record_line(lines, stand.at, stand.number, refusal, 0, 0);
     Stand {
-        number: stand.number,
         stopped: true,
-        ready: stand.ready,
         at,
-        words: stand.words,
+        ..stand
     }
 }
 
 // Writes the line of a step from a place on where the digits of its number are at hand, and says the place behind it.
+// A call for each way, so that the line of an accepted step is compiled with the refusal 0: with one call each step takes five instructions more.
 pub fn put_next(
     out: &mut [u8],
     at: usize,
@@ -88,48 +82,40 @@ pub fn put_next(
     ensures { LinePut out.old at (outcome_line number outcome) out.new result }
 {
     match outcome {
-        Outcome::Done {
-            value,
-            count,
-            words: _,
-        } => file_lines::put_counted_line(out, at, digits, len, number, 0, value, count),
-        Outcome::Refused(refusal) => file_lines::put_counted_line(
-            out,
-            at,
-            digits,
-            len,
-            number,
-            wide(refusal),
-            0,
-            0,
-        ),
+        Ok(answered) => {
+            file_lines::put_counted_line(
+                out,
+                at,
+                digits,
+                len,
+                number,
+                0,
+                answered.value,
+                answered.count,
+            )
+        }
+        Err(refusal) => {
+            let refusal = u32::from(refusal.number());
+            file_lines::put_counted_line(out, at, digits, len, number, refusal, 0, 0)
+        }
     }
 }
 
 // The words that have moved with those of a step's outcome, before which so many had, and the step has this number, which is named for the contract
 // alone: 64 bits are enough for the steps of a file.
+#[tactic(auto, using(crate::proofs::Taking::total_fits))]
 pub fn add_words(total: u64, number: u32, outcome: Outcome) -> u64
     requires { TotalThere total number }
     ensures { WordsAdded total outcome result }
 {
-    total + words_of(outcome) as u64
-}
-
-// How many words a step's outcome says: none where it was refused.
-fn words_of(outcome: Outcome) -> u32
-    ensures { result ≡ (told outcome).words }
-{
     match outcome {
-        Outcome::Done {
-            value: _,
-            count: _,
-            words,
-        } => words,
-        Outcome::Refused(_) => 0,
+        Ok(answered) => total + u64::from(answered.words),
+        Err(_) => total,
     }
 }
 
 // Opens a mainframe by the eight bytes from a place on.
+#[tactic(auto, using(crate::proofs::Taking::opened_as))]
 fn open_at(
     bytes: &[u8],
     from: usize,
@@ -137,16 +123,10 @@ fn open_at(
     words: &mut [u32],
     records: &mut [u8],
     marks: &mut [u8],
-) -> u8
+) -> Result<(), Refusal>
     requires { from + file_record_width ≤ length bytes.now }
-    ensures { OpenedAs (take file_record_width (drop from bytes.now)) clocks.old words.old records.old marks.old result clocks.new words.new records.new marks.new }
+    ensures { OpenedAs (take file_record_width (drop from bytes.now)) clocks.old words.old records.old marks.old (refusal_in result) clocks.new words.new records.new marks.new }
 {
     let end = from + FILE_RECORD_WIDTH;
     opening::open_mainframe(&bytes[from..end], clocks, words, records, marks)
-}
-
-fn wide(x: u8) -> u32
-    ensures { (result ≡ x) × (result ≤ 255) }
-{
-    x as u32
 }

@@ -1,6 +1,6 @@
 -- What the forecast program promises of a whole run. Assumes nothing.
-use Rattle.std.specs.Prelude.{ℕ, ◌<◌, ◌≡◌, true, List, [], ◌++◌}
-use Rattle.whole_reads.specs.Promises.{Flows, is_fine}
+use Rattle.std.specs.Prelude.{ℕ, ◌<◌, ◌≡◌, true, List, [], ◌++◌, None}
+use Rattle.whole_reads.specs.Promises.{Flows}
 use Rattle.forecast_file.specs.Files.{forecast_lines}
 use Rattle.forecast.specs.declared.Halt.{Halt}
 
@@ -12,4 +12,4 @@ pub record ForecastTold (h : Halt) (buffer out : List ℕ) : Type 0 where
   pub made : List ℕ
   pub written : List ℕ
   pub flows : Flows read taken made written h.flow buffer out
-  pub all : 0 < h.turns → is_fine h.flow.failure ≡ true → (rest : List ℕ) → (h.flow.ended ≡ true → rest ≡ []) → written ≡ forecast_lines (read ++ rest)
+  pub all : 0 < h.turns → h.flow.failure ≡ None → (rest : List ℕ) → (h.flow.ended ≡ true → rest ≡ []) → written ≡ forecast_lines (read ++ rest)

@@ -46,10 +46,8 @@ fn main(rt: HostRuntime) {
         &mut output,
         &mut wrong,
     );
-    let flow = halt.flow;
-    let failure = flow.failure;
     whole_calls::tell(
-        failure,
+        halt.flow.failure,
         b"forecast: standard input could not be read",
         b"forecast: standard output could not be written",
         &wrong,
@@ -73,17 +71,15 @@ fn run_all<R: Read, W: Write>(
 {
     let mut flow = whole_reads::new_flow();
     let mut reach = forecast_file::begin_forecast();
-    let mut turns = u64::MAX;
-    while 0 < turns {
+    for turns in (1..=u64::MAX).rev() {
         if whole_calls::is_over(flow, buffer.len()) {
             return Halt { flow, turns };
         }
         let work = turn(flow, reach, buffer, lines, own, marks, input, output, wrong);
         flow = work.flow;
         reach = work.reach;
-        turns = turns - 1;
     }
-    Halt { flow, turns }
+    Halt { flow, turns: 0 }
 }
 
 // Does what comes next.
@@ -101,17 +97,16 @@ fn turn<R: Read, W: Write>(
     requires { FlowGoing (Held reach own.old marks.old) flow buffer.old lines.old }
     ensures { FlowGoing (Held result.reach own.new marks.new) result.flow buffer.new lines.new }
 {
-    let action = whole_reads::what_next(flow, buffer.len());
-    match action {
-        Next::Read => {
-            let on = whole_calls::read_on(flow, buffer, input, wrong);
-            Work { flow: on, reach }
-        }
+    match whole_reads::what_next(flow, buffer.len()) {
+        Next::Read => Work {
+            flow: whole_calls::read_on(flow, buffer, input, wrong),
+            reach,
+        },
         Next::Take => take_on(flow, reach, buffer, lines, own, marks),
-        Next::Write => {
-            let on = whole_calls::write_on(flow, lines, output, wrong);
-            Work { flow: on, reach }
-        }
+        Next::Write => Work {
+            flow: whole_calls::write_on(flow, lines, output, wrong),
+            reach,
+        },
         Next::Stop => Work { flow, reach },
     }
 }
@@ -128,12 +123,9 @@ fn take_on(
     requires { TakesNext (Held reach own.old marks.old) flow buffer.now lines.old }
     ensures { FlowGoing (Held result.reach own.new marks.new) result.flow buffer.now lines.new }
 {
-    let have = flow.have;
-    let taken = forecast_file::take(reach, &buffer[..have], flow.ended, lines, own, marks);
-    let on = whole_reads::note_take(flow, taken.made, taken.done);
-    let next = taken.reach;
+    let taken = forecast_file::take(reach, &buffer[..flow.have], flow.ended, lines, own, marks);
     Work {
-        flow: on,
-        reach: next,
+        flow: whole_reads::note_take(flow, taken.made, taken.done),
+        reach: taken.reach,
     }
 }

@@ -1,11 +1,12 @@
 -- The lines of a stop and the last lines: one law for each way of the code, `figure_laws`, `end_laws` and `finish_laws`. Assumes nothing.
-use Prim.Native.Nat.{ℕ, ◌+◌, ◌-◌, ◌≤◌}
+use Prim.Native.Nat.{ℕ, ◌-◌, ◌≤◌}
 use native.Mathlib.Omega.{arith}
 use mathlib.Core.Path.{◌≡◌, refl, sym, ap, ap₂, subst, ◌∙◌}
-use mathlib.Core.Bool.{Bool, true, false, not, ◌||◌, true≢false}
+use mathlib.Core.Bool.{Bool, true, false, true≢false}
+use mathlib.Core.Logic.{◌⊎◌, inl, inr}
 use mathlib.Core.List.{List, [], ◌++◌, append-nil, append_assoc}
 use lib.ListN.{length, take}
-use borrow.Author.Tests.{eq-eqb, ne_eqb, not-false, not-true}
+use borrow.Author.Tests.{eq-eqb, ne_eqb}
 use borrow.Author.Rules.{rules}
 use Rattle.limits.specs.Files.{line_limit}
 use Rattle.lines.specs.Lines.{line_bytes, refusal_line, most_line}
@@ -32,10 +33,6 @@ no_line : (out : List ℕ) (at : ℕ) → at ≤ length out → LinePut out at [
 no_line out at h = record { kept = rest_kept_all out at h; near = omega arith; lines = sym (append-nil (take at out)) }
 
 module _ (p : PartWay) (part out m : List ℕ) (h : Finishable p part out m) where
-  -- there is room for a line
-  pub end_room : Room out p.at line_limit
-  end_room = record { room = omega (arith, h.able.room) }
-
   -- the forecast has stopped
   pub end_stopped : p.stopped ≡ true → EndPut p part out m p.at out
   unfolding cut_line way_at
@@ -63,33 +60,22 @@ module _ (p : PartWay) (part out m : List ℕ) (h : Finishable p part out m) whe
       end_within out' end z l =
           record { is = λ own. rw (going, ne_eqb p.reach.number 0 opened, ne_eqb (length part - p.next) 0 (λ e. z (omega (arith, e, h.able.within)))) (l.is own) }
 
-pub ruleset end_laws = (end_room, end_stopped, end_unopened, end_foreseen, end_whole, end_within, rules)
+pub ruleset end_laws = (end_stopped, end_unopened, end_foreseen, end_whole, end_within, rules)
 
 -- ---- the last lines
 
-both_false : (a b : Bool) → (a || b) ≡ false → (a ≡ false) × (b ≡ false)
-both_false true b e = absurd (true≢false e)
-both_false false b e = (refl, e)
-
-first_true : (a b : Bool) → (a || b) ≡ true → b ≡ false → a ≡ true
-first_true true b e f = refl
-first_true false b e f = absurd (true≢false (sym e ∙ f))
-
 module _ (p : PartWay) (part : List ℕ) (ended : Bool) (out m : List ℕ) (h : Finishable p part out m) where
   -- more is to come
-  pub not_finished : (o : Bool) → o ≡ (p.stopped || ended) → not o ≡ true → Finished p part ended out m (record { reach = p.reach; made = p.at; done = false }) out
-  not_finished o e z =
+  pub not_finished : p.stopped ≡ false → ended ≡ false → Finished p part ended out m (record { reach = p.reach; made = p.at; done = false }) out
+  not_finished going more =
       record {
         reach = refl;
         kept = rest_kept_all out p.at (omega (arith, h.able.room));
-        on = λ d. (neither.0, (neither.1, refl));
+        on = λ d. (going, (more, refl));
         all = λ d. absurd (true≢false (sym d));
         stopped = λ d. absurd (true≢false (sym d));
-        ends = λ d. absurd (true≢false (sym d ∙ neither.1));
+        ends = λ d. absurd (true≢false (sym d ∙ more));
       }
-    where
-      neither : (p.stopped ≡ false) × (ended ≡ false)
-      neither = both_false p.stopped ended (sym e ∙ not-true o z)
 
   module _ (end : ℕ) (out₁ : List ℕ) (k : EndPut p part out m end out₁) where
     -- there is room for the last line
@@ -104,16 +90,20 @@ module _ (p : PartWay) (part : List ℕ) (ended : Bool) (out m : List ℕ) (h : 
         ∙ append_assoc (take p.at out) (cut_line (way_at p out own m) (length part - p.next)) (most_line p.reach.most)
 
     -- all is done
-    pub finished : (o : Bool) → o ≡ (p.stopped || ended) → not o ≡ false → (out₂ : List ℕ) (made : ℕ) → LinePut out₁ end (most_line p.reach.most) out₂ made
+    pub finished : (p.stopped ≡ true) ⊎ ((p.stopped ≡ false) × (ended ≡ true)) → (out₂ : List ℕ) (made : ℕ) → LinePut out₁ end (most_line p.reach.most) out₂ made
         → Finished p part ended out m (record { reach = p.reach; made = made; done = true }) out₂
-    finished o e z out₂ made l =
+    finished over out₂ made l =
         record {
           reach = refl;
           kept = rest_kept_again out p.at out₁ end out₂ made (k.is h.own).kept l.kept;
           on = λ d. absurd (true≢false d);
           all = λ d own. last_lines_put out₂ made l own;
-          stopped = λ d u. first_true p.stopped ended (sym e ∙ not-false o z) u;
+          stopped = λ d u. by_stop over u;
           ends = λ d. refl;
         }
+      where
+        by_stop : (p.stopped ≡ true) ⊎ ((p.stopped ≡ false) × (ended ≡ true)) → ended ≡ false → p.stopped ≡ true
+        by_stop (inl z) u = z
+        by_stop (inr z) u = absurd (true≢false (sym z.1 ∙ u))
 
 pub ruleset finish_laws = (not_finished, most_room, finished, rules)

@@ -4,12 +4,17 @@ use Prim.Native.Nat.{ℕ, suc, ◌+◌, ◌-◌, ◌/◌, ◌≤◌, ◌<◌}
 use native.Mathlib.Omega.{arith}
 use mathlib.Core.Path.{◌≡◌, refl, sym, ap, ap₂, ◌∙◌}
 use mathlib.Core.Bool.{Bool, true, false, cond, true≢false, ◌&&◌}
+use mathlib.Core.Logic.{◌⊎◌, inl, inr}
 use mathlib.Core.List.{List, ◌++◌}
 use lib.ListN.{length, take, drop}
 use lib.Dec.{eqb}
 use lib.Seq.{drop-drop, length-take-le}
 use borrow.Author.Tests.{eq-eqb, ne_eqb, lt-leb}
 use borrow.Author.Rules.{rules}
+use Rattle.std.specs.Result.{is_err}
+use Rattle.std.specs.Prelude.{Result, Ok, Err}
+use Rattle.limits.specs.Refused.{number_of, refusal_in}
+use Rattle.limits.specs.declared.Refusal.{Refusal}
 use Rattle.limits.specs.Files.{file_record_width, line_limit, step_limit}
 use Rattle.limits.specs.inner.Sizes.{file_record_limit}
 use Rattle.rules.specs.State.{mainframe}
@@ -18,9 +23,9 @@ use Rattle.rules.specs.Opening.{Opening, opening_refusal}
 use Rattle.rules.specs.Forecast.{Forecast, opened_for}
 use Rattle.opening.specs.Promises.{opening_of}
 use Rattle.lines.specs.Lines.{line_bytes, refusal_line}
-use Rattle.lines.specs.inner.Needed.{Room}
 use Rattle.file_lines.specs.inner.Needed.{RestKept, LinePut}
 use Rattle.file_lines.proofs.Placing.{rest_kept_all, rest_kept_again}
+use Rattle.limits.proofs.Refused.{number_of_pos}
 use Rattle.forecast_step.specs.Memory.{forecast_in}
 use Rattle.forecast_step.specs.inner.Needed.{OpeningGiven, OpeningForeseen, MarksForeseen}
 use Rattle.forecast_file.specs.Standing.{Foresight, opening_foreseen, too_many_foreseen, record_foreseen, records_foreseen}
@@ -92,20 +97,15 @@ module _ (s : Reach) (part out own m : List ℕ) (h : FirstTakeable s part out o
   unfolding nothing_taken
   first_begins = none_passed (nothing_taken s) part out own m h.able
 
-  -- it is taken before
-  pub first_before : (s.number ≡ 0 → ⊥) → OpeningPassed s part out own m (record { reach = s; stopped = false; next = 0; at = 0 }) out own m
-  first_before n = record { passing = first_begins; on = record { able = first_begins.able; opened = λ z e. absurd (n e) } }
-
-  -- fewer than eight bytes are there
-  pub first_short : length part < file_record_width → OpeningPassed s part out own m (record { reach = s; stopped = false; next = 0; at = 0 }) out own m
-  first_short l = record { passing = first_begins; on = record { able = first_begins.able; opened = λ z e. omega (arith, l) } }
+  -- it is taken before, or fewer than eight bytes are there
+  pub first_none : (s.number ≡ 0 → ⊥) ⊎ ((s.number ≡ 0) × (length part < file_record_width)) → OpeningPassed s part out own m (record { reach = s; stopped = false; next = 0; at = 0 }) out own m
+  first_none none = record { passing = first_begins; on = record { able = first_begins.able; opened = λ z e. short none e } }
+    where
+      short : (s.number ≡ 0 → ⊥) ⊎ ((s.number ≡ 0) × (length part < file_record_width)) → s.number ≡ 0 → length part < 0 + file_record_width
+      short (inl n) e = absurd (n e)
+      short (inr l) e = l.1
 
   module _ (n : s.number ≡ 0) (l : file_record_width ≤ length part) where
-    -- there is room for the line
-    pub first_room : Room out 0 line_limit
-    unfolding nothing_taken
-    first_room = record { room = omega (arith, h.able.room) }
-
     -- the opening lies there
     pub first_there : OpeningGiven (take (file_record_width - 0) (drop 0 part)) own m
     unfolding nothing_taken
@@ -132,7 +132,7 @@ module _ (s : Reach) (part out own m : List ℕ) (h : FirstTakeable s part out o
           λ i. record { number = 1; stopped = b; forecast = e i; most = 0; lines = e₂ i }
 
       -- it is refused
-      pub first_refused : (refusal ≡ 0 → ⊥) → OpeningPassed s part out own m (record { reach = record { number = 1; most = 0 }; stopped = true; next = file_record_width; at = at }) out' own' m'
+      first_refused : (refusal ≡ 0 → ⊥) → OpeningPassed s part out own m (record { reach = record { number = 1; most = 0 }; stopped = true; next = file_record_width; at = at }) out' own' m'
       first_refused z = first_taken true (λ c. absurd (true≢false c)) is
         where
           two : opening_refusal mainframe (opening_of bytes) ≡ 2
@@ -144,7 +144,7 @@ module _ (s : Reach) (part out own m : List ℕ) (h : FirstTakeable s part out o
               ∙ sym (rw (eq-eqb s.number 0 n, two) refl)
 
       -- it is accepted
-      pub first_accepted : refusal ≡ 0 → OpeningPassed s part out own m (record { reach = record { number = 1; most = 0 }; stopped = false; next = file_record_width; at = at }) out' own' m'
+      first_accepted : refusal ≡ 0 → OpeningPassed s part out own m (record { reach = record { number = 1; most = 0 }; stopped = false; next = file_record_width; at = at }) out' own' m'
       first_accepted z = first_taken false (λ c. z) is
         where
           none : opening_refusal mainframe (opening_of bytes) ≡ 0
@@ -155,7 +155,14 @@ module _ (s : Reach) (part out own m : List ℕ) (h : FirstTakeable s part out o
               stands false (opened_for mainframe (opening_of bytes).counts) 0 (o.after ∙ ap (λ (b : Bool). cond b (opened_for mainframe (opening_of bytes).counts) (forecast_in own m)) (eq-eqb refusal 0 z)) z
               ∙ sym (rw (eq-eqb s.number 0 n, none) refl)
 
-pub ruleset first_laws = (first_before, first_short, first_room, first_there, first_refused, first_accepted, rules)
+    -- it is taken: what the call says tells which
+    pub first_opened : (opened : Result (Unit {0}) Refusal) (own' m' : List ℕ) → OpeningForeseen (take (file_record_width - 0) (drop 0 part)) own m (refusal_in opened) own' m'
+        → (refusal : ℕ) → refusal ≡ refusal_in opened → (b : Bool) → b ≡ is_err opened → (out' : List ℕ) (at : ℕ) → LinePut out 0 (line_bytes 0 refusal 0 0) out' at
+        → OpeningPassed s part out own m (record { reach = record { number = 1; most = 0 }; stopped = b; next = file_record_width; at = at }) out' own' m'
+    first_opened (Ok x) own' m' o refusal is b stops out' at put = rw stops (first_accepted 0 own' m' o out' at (rw is at put) refl)
+    first_opened (Err r) own' m' o refusal is b stops out' at put = rw stops (first_refused (number_of r) own' m' o out' at (rw is at put) (number_of_pos r))
+
+pub ruleset first_laws = (first_none, first_there, first_opened, rules)
 
 -- ---- one too many
 
@@ -169,9 +176,6 @@ module _ (p : PartWay) (part out m : List ℕ) where
   last_short l = record { is = λ own h. record { passing = none_passed p part out own m h; few_left = λ z. omega (arith, l) } }
 
   module _ (k : LastTakeable p part out m) (l : file_record_width ≤ length part - p.next) (going : p.stopped ≡ false) where
-    pub last_room : Room out p.at line_limit
-    last_room = record { room = omega (arith, k.able.room) }
-
     pub last_foreseen : MarksForeseen m
     last_foreseen = record { own = k.own; foreseen = k.able.sound.foreseen going (omega (arith, k.over going (omega (arith, l)))) }
 
@@ -198,4 +202,4 @@ module _ (p : PartWay) (part out m : List ℕ) where
             ap (λ (l : List ℕ). record { number = p.reach.number; stopped = true; forecast = forecast_in own m; most = p.reach.most; lines = l }) (put.is own).lines
             ∙ sym (rw (ne_eqb p.reach.number 0 (λ e. omega (arith, e, last)), lt-leb p.reach.number step_limit (omega (arith, last))) refl)
 
-pub ruleset last_laws = (last_stopped, last_short, last_room, last_foreseen, last_taken, rules)
+pub ruleset last_laws = (last_stopped, last_short, last_foreseen, last_taken, rules)

@@ -1,26 +1,23 @@
 -- The steps that follow in a part: one step, and all of them, one after the other. One law for each way of the code, `step_laws`, `run_laws` and
 -- `steps_laws`. Rests on Passing. Assumes nothing.
-use Prim.Native.Nat.{ℕ, suc, ◌+◌, ◌-◌, ◌≤◌, ◌<◌, max}
+use Prim.Native.Nat.{ℕ, suc, ◌+◌, ◌≤◌, ◌<◌, max}
 use native.Mathlib.Omega.{arith}
 use mathlib.Core.Path.{◌≡◌, refl, sym, ap, ap₂, subst, ◌∙◌}
 use mathlib.Core.Bool.{Bool, true, false, true≢false}
 use mathlib.Core.List.{List, ◌++◌}
 use lib.ListN.{length, take, drop}
-use mir.Syntax.{w32, w64}
-use mir.Val.{Fits}
 use borrow.Author.Rules.{rules}
-use Rattle.limits.specs.Files.{file_record_width, line_limit, step_limit}
-use Rattle.limits.specs.inner.Sizes.{file_record_limit}
+use Rattle.limits.specs.Files.{file_record_width, step_limit}
 use Rattle.rules.specs.State.{mainframe}
 use Rattle.rules.specs.Refusals.{Step, step_of}
 use Rattle.rules.specs.Forecast.{Forecast, forecast_refusal, forecast_next, dirty_for}
 use Rattle.step_fields.specs.Records.{step_from}
 use Rattle.step_fields.specs.inner.Needed.{FieldsAre}
 use Rattle.lines.specs.Lines.{line_bytes}
-use Rattle.lines.specs.inner.Needed.{Counted, Countable, Room}
+use Rattle.lines.specs.inner.Needed.{Counted, Countable}
 use Rattle.file_lines.specs.inner.Needed.{LinePut, AllAhead}
 use Rattle.forecast_step.specs.Memory.{forecast_in}
-use Rattle.forecast_step.specs.inner.Needed.{Foreseen, StepForeseen, MarksForeseen, FiguresShown}
+use Rattle.forecast_step.specs.inner.Needed.{StepForeseen, MarksForeseen, FiguresShown}
 use Rattle.forecast_file.specs.Standing.{Foresight, step_foreseen, record_foreseen}
 use Rattle.forecast_file.specs.declared.PartWay.{PartWay}
 use Rattle.forecast_file.specs.declared.Stepped.{Stepped}
@@ -34,21 +31,7 @@ use Rattle.forecast_file.proofs.Passing.{none_passed, passing_on, passing_one}
 pub stepped_foreseen : (own m : List ℕ) (t : Step) (refusal : ℕ) (own' m' : List ℕ) → StepForeseen own m t refusal own' m' → MarksForeseen m'
 stepped_foreseen own m t refusal own' m' h = record { own = own'; foreseen = h.foreseen }
 
--- their sum is a number of 32 bits
-pub figures_fit : (m : List ℕ) (n d : ℕ) → FiguresShown m n d → Fits w32 (n + d)
-figures_fit m n d h = omega (arith, h.few)
-
 module _ (part : List ℕ) (i : ℕ) (out : List ℕ) (at : ℕ) (own m : List ℕ) (h : Steppable part i out at own m) where
-  -- what it asks
-  pub step_there : i + file_record_width ≤ length part
-  step_there = h.there
-
-  pub step_foreseen_lem : Foreseen own m
-  step_foreseen_lem = h.foreseen
-
-  pub step_room : Room out at line_limit
-  step_room = record { room = h.room }
-
   -- it is taken
   pub step_taken_lem : (number k p o v refusal : ℕ) (own' m' : List ℕ) (n d : ℕ) (out' : List ℕ) (end : ℕ) → FieldsAre part i k p o v → StepForeseen own m (step_of k p o v) refusal own' m'
       → FiguresShown m' n d → LinePut out at (line_bytes number refusal n d) out' end → StepTaken part i number out at own m (record { at = end; sum = n + d }) out' own' m'
@@ -65,7 +48,7 @@ module _ (part : List ℕ) (i : ℕ) (out : List ℕ) (at : ℕ) (own m : List �
           ap (λ (x : ℕ). line_bytes number x n d) (s.refused ∙ ap (λ (t : Step). forecast_refusal mainframe (forecast_in own m) t) f.is)
           ∙ ap₂ (λ (x y : ℕ). line_bytes number (forecast_refusal mainframe (forecast_in own m) (step_from (drop i part))) x y) (g.is_standing own') (g.is_dirty own')
 
-pub ruleset step_laws = (stepped_foreseen, figures_fit, step_there, step_foreseen_lem, step_room, step_taken_lem, rules)
+pub ruleset step_laws = (stepped_foreseen, step_taken_lem, rules)
 
 -- ---- one after the other
 
@@ -73,8 +56,6 @@ pub ruleset step_laws = (stepped_foreseen, figures_fit, step_there, step_foresee
 pub record StepsGoing (number₀ most₀ at₀ i₀ : ℕ) (part : List ℕ) (end : ℕ) (out₀ own₀ m₀ : List ℕ) (number most at i : ℕ) (out own m : List ℕ) : Type 0 where
   pub passing :
       PartPassing (record { reach = record { number = number₀; most = most₀ }; stopped = false; next = i₀; at = at₀ }) part out₀ own₀ m₀ (record { reach = record { number = number; most = most }; stopped = false; next = i; at = at }) out own m
-  pub entries : length own ≡ length own₀
-  pub marks : length m ≡ length m₀
   pub ahead : AllAhead number i end (length part)
   pub opened : 1 ≤ number
 
@@ -97,8 +78,6 @@ module _ (p : PartWay) (part : List ℕ) (end : ℕ) (out own m : List ℕ) (h :
               aligned = h.able.aligned;
               room = h.able.room;
             });
-        entries = refl;
-        marks = refl;
         ahead = h.ahead;
         opened = h.opened;
       }
@@ -106,10 +85,11 @@ module _ (p : PartWay) (part : List ℕ) (end : ℕ) (out own m : List ℕ) (h :
   -- all are taken
   pub going_ends : (number most at i : ℕ) (out' own' m' : List ℕ)
       → StepsGoing p.reach.number p.reach.most p.at p.next part end out own m number most at i out' own' m' → end ≤ i
-      → StepsPassed p part out own m (record { reach = record { number = number; most = most }; stopped = false; next = i; at = at }) out' own' m'
+      → StepsPassed p part out own m (record { reach = record { number = number; most = most }; stopped = false; next = end; at = at }) out' own' m'
   unfolding leads way_at
   going_ends number most at i out' own' m' k e =
-      record {
+      rw last
+      (record {
         passing =
             record {
               able = k.passing.able;
@@ -117,20 +97,13 @@ module _ (p : PartWay) (part : List ℕ) (end : ℕ) (out own m : List ℕ) (h :
               kept = k.passing.kept;
             };
         over = λ z l. omega (arith, e, k.ahead.ahead.on, l, k.ahead.all (omega (arith, e, k.ahead.ahead.on, l)));
-      }
+      })
+    where
+      last : end ≡ i
+      last = omega (arith, e, k.ahead.ahead.on)
 
 module _ (number₀ most₀ at₀ i₀ : ℕ) (part : List ℕ) (end : ℕ) (out₀ own₀ m₀ : List ℕ) (number most at i : ℕ) (out own m : List ℕ)
     (h : StepsGoing number₀ most₀ at₀ i₀ part end out₀ own₀ m₀ number most at i out own m) where
-  -- the lent memory keeps its sizes
-  pub lines_sized : length out ≡ length out₀
-  lines_sized = h.passing.kept.long
-
-  pub entries_sized : length own ≡ length own₀
-  entries_sized = h.entries
-
-  pub marks_sized : length m ≡ length m₀
-  marks_sized = h.marks
-
   module _ (b : i < end) where
     -- the next record stands in the part, and is a step
     next_within : i + file_record_width ≤ length part
@@ -138,14 +111,6 @@ module _ (number₀ most₀ at₀ i₀ : ℕ) (part : List ℕ) (end : ℕ) (out
 
     next_numbered : number ≤ step_limit
     next_numbered = omega (arith, b, h.ahead.ahead.whole, h.ahead.ahead.few)
-
-    -- the next number is one of 32 bits
-    pub next_fits : Fits w32 (number + 1)
-    next_fits = omega (arith, next_numbered)
-
-    -- and its place one of 64
-    pub next_place : Fits w64 end → Fits w64 (i + file_record_width)
-    next_place e = omega (arith, e, b, h.ahead.ahead.whole)
 
     -- what it asks
     pub next_there : Steppable part i out at own m
@@ -166,8 +131,6 @@ module _ (number₀ most₀ at₀ i₀ : ℕ) (part : List ℕ) (end : ℕ) (out
               (record { reach = record { number = number + 1; most = most' }; stopped = false; next = i + file_record_width; at = r.at }) out' own' m' h.passing
               (passing_one now part out own m h.passing.able refl (omega (arith, next_within)) (record { number = number + 1; most = most' }) false r.at out' own' m'
               (record { few = omega (arith, next_numbered); entries = d.foreseen.entries; marks = d.foreseen.marks; foreseen = λ z l. d.foreseen }) d.put.near d.put.kept is);
-          entries = d.foreseen.entries ∙ sym h.passing.able.sound.entries ∙ h.entries;
-          marks = d.foreseen.marks ∙ sym h.passing.able.sound.marks ∙ h.marks;
           ahead =
               record {
                 ahead =
@@ -207,15 +170,11 @@ module _ (number₀ most₀ at₀ i₀ : ℕ) (part : List ℕ) (end : ℕ) (out
             next_number d.after (e ∙ ap (λ (x : ℕ). max most x) (d.sum ∙ ap (λ (k : Forecast). k.standing + dirty_for k) d.after)) (d.put.lines ∙ ap line d.after)
             ∙ sym (one_step (way_at (record { reach = record { number = number; most = most }; stopped = false; next = i; at = at }) out own m) (drop i part) h.opened next_numbered)
 
-pub ruleset run_laws = (going_begins, going_ends, lines_sized, entries_sized, marks_sized, next_fits, next_place, next_there, next_countable, going_more, rules)
+pub ruleset run_laws = (going_begins, going_ends, next_there, next_countable, going_more, rules)
 
 -- ---- which steps follow
 
 module _ (p : PartWay) (part out own m : List ℕ) (h : StepsTakeable p part out own m) where
-  -- where the records of the part begin and end
-  pub steps_few : (p.reach.number ≤ file_record_limit) × (p.next ≤ length part)
-  steps_few = (h.able.sound.few, h.able.within)
-
   -- none, where the forecast has stopped
   pub steps_stopped : p.stopped ≡ true → StepsPassed p part out own m p out own m
   steps_stopped y = record { passing = none_passed p part out own m h.able; over = λ z l. absurd (true≢false (sym y ∙ z)) }
@@ -227,4 +186,4 @@ module _ (p : PartWay) (part out own m : List ℕ) (h : StepsTakeable p part out
   pub steps_runnable : (end : ℕ) → AllAhead p.reach.number p.next end (length part) → p.stopped ≡ false → (p.reach.number ≡ 0 → ⊥) → StepsAhead p part end out own m
   steps_runnable end a z n = record { able = h.able; ahead = a; going = z; opened = omega (arith, n) }
 
-pub ruleset steps_laws = (steps_few, steps_stopped, steps_unopened, steps_runnable, rules)
+pub ruleset steps_laws = (steps_stopped, steps_unopened, steps_runnable, rules)

@@ -1,14 +1,16 @@
 // The forecast of a step file: its records taken in parts of whole records, and their lines.
 #![tactic(auto)]
 
-ghost use Rattle.std.specs.Prelude.{◌≡◌, ◌||◌, max};
+ghost use Rattle.std.specs.Prelude.{◌≡◌};
 ghost use Rattle.lines.specs.inner.Needed.{Counted, Room};
 ghost use Rattle.limits.specs.Files.{line_limit};
+ghost use Rattle.limits.specs.Refused.{number_of, refusal_in};
 ghost use Rattle.forecast_step.specs.inner.Needed.{MarksForeseen};
 ghost use Rattle.forecast_file.specs.Promises.{Begun, TakenAs};
 ghost use Rattle.forecast_file.specs.inner.Needed.{MemorySound, PartTakeable, FirstTakeable, OpeningPassed, StepsTakeable, StepsPassed, Steppable, StepTaken, StepsAhead, LastTakeable, LastPassed, nothing_taken, WholePassed, Finishable, EndPut, Finished, FiguresPut};
 
-use limits::FILE_RECORD_WIDTH;
+use limits::{FILE_RECORD_WIDTH, Refusal, refusal_or_0};
+use step_fields::Step;
 
 // How far a file has been forecast: the number of the next record, and the largest sum of records and dirty pages so far.
 #[derive(Clone, Copy)]
@@ -43,6 +45,7 @@ pub struct Stepped {
 }
 
 // No record has been taken.
+#[tactic(auto, using(crate::proofs::Taking::begin_laws))]
 pub fn begin_forecast() -> Reach
     ensures { Begun result }
 {
@@ -51,6 +54,7 @@ pub fn begin_forecast() -> Reach
 
 // Takes a part of a file: whole records, and where the file has ended what is left of one. The last line follows where the file has ended or the
 // forecast has stopped.
+#[tactic(auto, using(crate::proofs::Taking::taking_laws))]
 pub fn take(
     reach: Reach,
     part: &[u8],
@@ -68,6 +72,7 @@ pub fn take(
 }
 
 // Takes the whole records of a part, until the forecast stops: the opening, and those behind it.
+#[tactic(auto, using(crate::proofs::Taking::taking_laws))]
 fn take_whole(
     reach: Reach,
     part: &[u8],
@@ -83,6 +88,7 @@ fn take_whole(
 }
 
 // Takes the records behind the opening: the steps, and one too many.
+#[tactic(auto, using(crate::proofs::Taking::taking_laws))]
 fn take_behind(
     before: PartWay,
     part: &[u8],
@@ -98,6 +104,7 @@ fn take_behind(
 }
 
 // Takes the opening, if no record is taken yet and the part has a whole one.
+#[tactic(auto, using(crate::proofs::Passing::first_laws))]
 fn take_first(
     reach: Reach,
     part: &[u8],
@@ -108,42 +115,27 @@ fn take_first(
     requires { FirstTakeable reach part.now lines.old own.old marks.old }
     ensures { OpeningPassed reach part.now lines.old own.old marks.old result lines.new own.new marks.new }
 {
-    if reach.number != 0 {
-        return PartWay {
-            reach,
-            stopped: false,
-            next: 0,
-            at: 0,
-        };
-    }
-    if part.len() < FILE_RECORD_WIDTH {
-        return PartWay {
-            reach,
-            stopped: false,
-            next: 0,
-            at: 0,
-        };
-    }
-    let refusal = forecast_step::open(&part[0..FILE_RECORD_WIDTH], own, marks);
-    let at = file_lines::put_record_line(lines, 0, 0, refusal as u32, 0, 0);
-    let opened = Reach { number: 1, most: 0 };
-    if refusal != 0 {
-        return PartWay {
-            reach: opened,
-            stopped: true,
-            next: FILE_RECORD_WIDTH,
-            at,
-        };
-    }
-    PartWay {
-        reach: opened,
+    let start = PartWay {
+        reach,
         stopped: false,
+        next: 0,
+        at: 0,
+    };
+    if reach.number != 0 || part.len() < FILE_RECORD_WIDTH {
+        return start;
+    }
+    let opened = forecast_step::open(&part[..FILE_RECORD_WIDTH], own, marks);
+    let refusal = u32::from(refusal_or_0(opened));
+    PartWay {
+        reach: Reach { number: 1, most: 0 },
+        stopped: opened.is_err(),
         next: FILE_RECORD_WIDTH,
-        at,
+        at: file_lines::put_record_line(lines, 0, 0, refusal, 0, 0),
     }
 }
 
 // Takes the steps that follow, unless the forecast has stopped or has no opening.
+#[tactic(auto, using(crate::proofs::Steps::steps_laws))]
 fn take_steps(
     before: PartWay,
     part: &[u8],
@@ -154,10 +146,7 @@ fn take_steps(
     requires { StepsTakeable before part.now lines.old own.old marks.old }
     ensures { StepsPassed before part.now lines.old own.old marks.old result lines.new own.new marks.new }
 {
-    if before.stopped {
-        return before;
-    }
-    if before.reach.number == 0 {
+    if before.stopped || before.reach.number == 0 {
         return before;
     }
     let end = file_lines::run_end(before.reach.number, before.next, part.len());
@@ -165,6 +154,7 @@ fn take_steps(
 }
 
 // Takes the steps up to a place: the inner loop of the forecast.
+#[tactic(auto, using(crate::proofs::Steps::run_laws))]
 fn take_run(
     before: PartWay,
     part: &[u8],
@@ -179,27 +169,25 @@ fn take_run(
     let mut number = before.reach.number;
     let mut most = before.reach.most;
     let mut at = before.at;
-    let mut i = before.next;
-    let mut digits = [48u8; 8];
+    let mut digits = [b'0'; 8];
     let mut len = lines::counter(&mut digits, number);
-    while i < end {
+    for i in (before.next..end).step_by(FILE_RECORD_WIDTH) {
         let stepped = take_step(part, i, lines, at, digits, len, number, own, marks);
         at = stepped.at;
-        most = larger(most, stepped.sum);
+        most = most.max(stepped.sum);
         len = lines::count_on(&mut digits, len, number);
-        number = number + 1;
-        i = i + FILE_RECORD_WIDTH;
+        number += 1;
     }
-    let last = Reach { number, most };
     PartWay {
-        reach: last,
+        reach: Reach { number, most },
         stopped: false,
-        next: i,
+        next: end,
         at,
     }
 }
 
 // Takes the step in the record from a place on, and writes its line.
+#[tactic(auto, using(crate::proofs::Steps::step_laws))]
 fn take_step(
     part: &[u8],
     i: usize,
@@ -215,116 +203,98 @@ fn take_step(
     requires counted { Counted digits len number }
     ensures { StepTaken part.now i number lines.old at own.old marks.old result lines.new own.new marks.new }
 {
-    let fields = step_fields::fields_at(part, i);
-    let refusal = forecast_step::foresee(
-        fields.kind,
-        fields.processor,
-        fields.object,
-        fields.value,
-        own,
-        marks,
-    );
+    let foreseen = forecast_step::foresee(Step::in_record(part, i), own, marks);
+    let refusal = u32::from(refusal_or_0(foreseen));
     let figures = forecast_step::figures_of(marks);
-    let sum = figures.standing + figures.dirty;
-    let behind = file_lines::put_counted_line(
+    let at = file_lines::put_counted_line(
         lines,
         at,
         digits,
         len,
         number,
-        refusal as u32,
+        refusal,
         figures.standing,
         figures.dirty,
     );
-    Stepped { at: behind, sum }
-}
-
-// The larger of two sums.
-fn larger(most: u32, sum: u32) -> u32
-    ensures { result ≡ max most sum }
-{
-    if most < sum {
-        return sum;
+    Stepped {
+        at,
+        sum: figures.standing + figures.dirty,
     }
-    most
 }
 
 // Takes the record that is one too many, if the forecast has not stopped and the part has a whole one left.
+#[tactic(auto, using(crate::proofs::Passing::last_laws))]
 fn take_last(before: PartWay, part: &[u8], lines: &mut [u8], marks: &[u8]) -> PartWay
     requires { LastTakeable before part.now lines.old marks.now }
     ensures { LastPassed before part.now lines.old marks.now result lines.new }
 {
-    if before.stopped {
+    if before.stopped || part.len() - before.next < FILE_RECORD_WIDTH {
         return before;
     }
-    if part.len() - before.next < FILE_RECORD_WIDTH {
-        return before;
-    }
-    let reach = before.reach;
-    let at = put_figures(lines, before.at, reach.number, 16, marks);
+    let refusal = Refusal::TooManySteps;
     PartWay {
-        reach,
         stopped: true,
         next: before.next + FILE_RECORD_WIDTH,
-        at,
+        at: put_figures(lines, before.at, before.reach.number, refusal, marks),
+        ..before
     }
 }
 
 // Writes the last lines where the file has ended or the forecast has stopped.
+#[tactic(auto, using(crate::proofs::Ending::finish_laws))]
 fn finish(before: PartWay, part: &[u8], ended: bool, lines: &mut [u8], marks: &[u8]) -> PartTaken
     requires { Finishable before part.now lines.old marks.now }
     ensures { Finished before part.now ended lines.old marks.now result lines.new }
 {
     let reach = before.reach;
-    if !is_over(before.stopped, ended) {
-        return PartTaken {
+    if before.stopped || ended {
+        let at = put_end(before, part, lines, marks);
+        PartTaken {
+            reach,
+            made: file_lines::end_with_most(lines, at, reach.most),
+            done: true,
+        }
+    } else {
+        PartTaken {
             reach,
             made: before.at,
             done: false,
-        };
+        }
     }
-    let at = put_end(before, part, lines, marks);
-    let made = file_lines::end_with_most(lines, at, reach.most);
-    PartTaken {
-        reach,
-        made,
-        done: true,
-    }
-}
-
-// Whether no part follows.
-fn is_over(stopped: bool, ended: bool) -> bool
-    ensures { result ≡ (stopped || ended) }
-{
-    if stopped {
-        return true;
-    }
-    ended
 }
 
 // Writes line 15 where the file ends within a record or before the opening, and says the place behind it.
+#[tactic(auto, using(crate::proofs::Ending::end_laws))]
 fn put_end(before: PartWay, part: &[u8], lines: &mut [u8], marks: &[u8]) -> usize
     requires { Finishable before part.now lines.old marks.now }
     ensures { EndPut before part.now lines.old marks.now result lines.new }
 {
+    let refusal = Refusal::EndsShort;
     if before.stopped {
-        return before.at;
+        before.at
+    } else if before.reach.number == 0 {
+        file_lines::put_record_line(lines, before.at, 0, u32::from(refusal.number()), 0, 0)
+    } else if part.len() == before.next {
+        before.at
+    } else {
+        put_figures(lines, before.at, before.reach.number, refusal, marks)
     }
-    if before.reach.number == 0 {
-        return file_lines::put_record_line(lines, before.at, 0, 15, 0, 0);
-    }
-    if part.len() == before.next {
-        return before.at;
-    }
-    put_figures(lines, before.at, before.reach.number, 15, marks)
 }
 
 // Writes a line with the figures that the marks have, and says the place behind it.
-fn put_figures(lines: &mut [u8], at: usize, number: u32, refusal: u32, marks: &[u8]) -> usize
+#[tactic(auto, using(crate::proofs::Ending::figure_laws))]
+fn put_figures(lines: &mut [u8], at: usize, number: u32, refusal: Refusal, marks: &[u8]) -> usize
     requires room { Room lines.old at line_limit }
     requires marks_foreseen { MarksForeseen marks.now }
-    ensures { FiguresPut lines.old at number refusal marks.now lines.new result }
+    ensures { FiguresPut lines.old at number (number_of refusal) marks.now lines.new result }
 {
     let figures = forecast_step::figures_of(marks);
-    file_lines::put_record_line(lines, at, number, refusal, figures.standing, figures.dirty)
+    file_lines::put_record_line(
+        lines,
+        at,
+        number,
+        u32::from(refusal.number()),
+        figures.standing,
+        figures.dirty,
+    )
 }

@@ -1,6 +1,6 @@
 -- A write, and what an accepted step does by its kind: what the steps ask holds, and what they leave is the forecast's. One law for each way of the
 -- code, `write_laws` and `act_laws`. Rests on Foreseeing. Assumes nothing.
-use Prim.Native.Nat.{ℕ, ◌/◌, ◌≤◌, ◌<◌}
+use Prim.Native.Nat.{ℕ, ◌/◌, ◌<◌}
 use native.Mathlib.Omega.{arith}
 use mathlib.Core.Path.{◌≡◌, refl, sym, ap, ◌∙◌}
 use mathlib.Core.Bool.{Bool, true, false, not}
@@ -8,7 +8,6 @@ use mathlib.Core.Logic.{◌⊎◌, inl, inr}
 use mathlib.Core.List.{List, [], ◌∷◌}
 use lib.ListN.{length, get_or, set, length-set}
 use lib.Dec.{eqb}
-use borrow.Author.Tests.{eqb-true, eqb-false}
 use borrow.Author.Rules.{rules}
 use Rattle.limits.specs.Limits.{page_width, job_limit}
 use Rattle.rules.specs.State.{mainframe, Counts, Marks, dirty_at, State, own, has_arrived}
@@ -17,10 +16,13 @@ use Rattle.rules.specs.Refusals.{Step, step_of, Action, Read, Write, Acquire, Re
 use Rattle.rules.specs.Forecast.{bare, written_for, forecast_after}
 use Rattle.rules.proofs.Foretold.{seen_in, refusal_foretold}
 use Rattle.rules.proofs.inorder.Accepted.{Accepted, accepted_says, present_says, object_there, acquire_there, release_there, late_enqueue, late_dequeue}
-use Rattle.rules.proofs.inorder.KindsOfSteps.{known_says, object_in, kind_reads, kind_writes, kind_acquires, kind_releases, kind_arrives, kind_wants, kind_adds, kind_totals, kind_enqueues, kind_dequeues}
+use Rattle.rules.proofs.inorder.KindsOfSteps.{object_in, kind_reads, kind_writes, kind_acquires, kind_releases, kind_arrives, kind_wants, kind_adds, kind_totals, kind_enqueues, kind_dequeues}
 use Rattle.layout.specs.Areas.{dirty_place, marks_in, state_in}
 use Rattle.layout.specs.inner.Marks.{dirty_mark, jobs_mark}
 use Rattle.layout.proofs.MarkLaws.{dirty_mark_written}
+use Rattle.step_fields.specs.Kinds.{number_of_kind}
+use Rattle.step_fields.specs.declared.kinds.Kind.{Kind}
+use Rattle.step_fields.specs.declared.kinds.Kind.TheVariants as kinds
 use Rattle.refusals.specs.inner.Needed.{WriteOf}
 use Rattle.refusals.specs.inner.Parts.{seen}
 use Rattle.refusals.proofs.ByKind.{page_of_word_lem}
@@ -58,16 +60,6 @@ pub ruleset write_laws = (page_of_word_lem, page_stays, page_marked, rules)
 
 -- ---- an accepted step
 
-is_read : (k : ℕ) → 1 ≤ k → k ≤ 6 → (k ≡ 2 → ⊥) → (k ≡ 3 → ⊥) → (k ≡ 4 → ⊥) → (k ≡ 5 → ⊥) → (k ≡ 6 → ⊥) → k ≡ 1
-is_read k from to a b c d e = omega arith
-
-eight_or_nine : (k : ℕ) → 8 ≤ k → k ≤ 11 → (k ≡ 10 → ⊥) → (k ≡ 11 → ⊥) → (k ≡ 8) ⊎ (k ≡ 9)
-eight_or_nine k from to a b = go (eqb k 8) refl
-  where
-    go : (c : Bool) → eqb k 8 ≡ c → (k ≡ 8) ⊎ (k ≡ 9)
-    go true e = inl (eqb-true k 8 e)
-    go false e = inr (let no = eqb-false k 8 e in omega arith)
-
 late_by : (s : State) (t : Step) (a : Action) → Accepted mainframe s t → action_of t ≡ a → late_refusal mainframe s (own s t.processor) t.processor a ≡ 0
 late_by s t a h e = rw (← e) h.not_late
 
@@ -78,7 +70,10 @@ enqueue_finds_room s t v h e = late_enqueue mainframe s (own s t.processor) t.pr
 dequeue_finds_job : (s : State) (t : Step) → Accepted mainframe s t → action_of t ≡ Dequeue → s.marks.jobs ≡ 0 → ⊥
 dequeue_finds_job s t h e = late_dequeue mainframe s (own s t.processor) t.processor (late_by s t Dequeue h e)
 
-module _ (own m : List ℕ) (k p o : ℕ) (h : AcceptedForeseen own m k p o) where
+module _ (own m : List ℕ) (kind : Kind) (p o : ℕ) (h : AcceptedForeseen own m (number_of_kind kind) p o) where
+  abbrev k : ℕ
+  k = number_of_kind kind
+
   accepted : Accepted mainframe h.foreseen.state (step_of k p o h.value)
   accepted =
       accepted_says mainframe h.foreseen.state (step_of k p o h.value)
@@ -96,7 +91,7 @@ module _ (own m : List ℕ) (k p o : ℕ) (h : AcceptedForeseen own m k p o) whe
   left_by a own' m' e d = rw e d
 
   -- a write has its word
-  pub write_there : k ≡ 2 → WriteOf m p o
+  pub write_there : kind ≡ kinds.Write → WriteOf m p o
   unfolding step_of object_bound object_in mainframe seen state_in
   write_there e =
       record {
@@ -104,104 +99,100 @@ module _ (own m : List ℕ) (k p o : ℕ) (h : AcceptedForeseen own m k p o) whe
         word =
             omega (
               arith,
-              object_there mainframe h.foreseen.state (step_of k p o h.value) (Write o h.value) (kind_writes k p o h.value e) accepted.fields_fit,
+              object_there mainframe h.foreseen.state (step_of k p o h.value) (Write o h.value) (kind_writes k p o h.value (ap number_of_kind e)) accepted.fields_fit,
               ap (λ (n : Counts). n.pages) (counts_seen own m h.foreseen),
               (counted_foreseen own m h.foreseen).pages,
             );
       }
 
   -- a write was done
-  pub write_shown : (m' : List ℕ) → k ≡ 2 → PageWritten m m' p o → Shows own m' (forecast_after mainframe (forecast_in own m) p (action_of (step_of k p o 0)))
+  pub write_shown : (m' : List ℕ) → kind ≡ kinds.Write → PageWritten m m' p o → Shows own m' (forecast_after mainframe (forecast_in own m) p (action_of (step_of k p o 0)))
   unfolding forecast_after
-  write_shown m' e d = left_by (Write o 0) own m' (kind_writes k p o 0 e) (record { entries = h.foreseen.entries; marks = d.marks; is = d.is own })
+  write_shown m' e d = left_by (Write o 0) own m' (kind_writes k p o 0 (ap number_of_kind e)) (record { entries = h.foreseen.entries; marks = d.marks; is = d.is own })
 
   on_lock : o < h.foreseen.state.counts.locks → LockForeseen own m p o
   unfolding seen state_in
   on_lock l = record { acts = acts; lock = omega (arith, l, ap (λ (n : Counts). n.locks) (counts_seen own m h.foreseen)) }
 
   -- an acquire has its lock
-  pub acquire_on_lock : k ≡ 3 → LockForeseen own m p o
-  acquire_on_lock e = on_lock (acquire_there mainframe h.foreseen.state (step_of k p o h.value) o (kind_acquires k p o h.value e) accepted)
+  pub acquire_on_lock : kind ≡ kinds.Acquire → LockForeseen own m p o
+  acquire_on_lock e = on_lock (acquire_there mainframe h.foreseen.state (step_of k p o h.value) o (kind_acquires k p o h.value (ap number_of_kind e)) accepted)
 
   -- an acquire was done
-  pub acquire_shown : (own' m' : List ℕ) → k ≡ 3 → Shows own' m' (forecast_after mainframe (forecast_in own m) p (Acquire o))
+  pub acquire_shown : (own' m' : List ℕ) → kind ≡ kinds.Acquire → Shows own' m' (forecast_after mainframe (forecast_in own m) p (Acquire o))
       → Shows own' m' (forecast_after mainframe (forecast_in own m) p (action_of (step_of k p o 0)))
-  acquire_shown own' m' e d = left_by (Acquire o) own' m' (kind_acquires k p o 0 e) d
+  acquire_shown own' m' e d = left_by (Acquire o) own' m' (kind_acquires k p o 0 (ap number_of_kind e)) d
 
   -- a release has its lock
-  pub release_on_lock : k ≡ 4 → LockForeseen own m p o
-  release_on_lock e = on_lock (release_there mainframe h.foreseen.state (step_of k p o h.value) o (kind_releases k p o h.value e) accepted)
+  pub release_on_lock : kind ≡ kinds.Release → LockForeseen own m p o
+  release_on_lock e = on_lock (release_there mainframe h.foreseen.state (step_of k p o h.value) o (kind_releases k p o h.value (ap number_of_kind e)) accepted)
 
   -- a release was done
-  pub release_shown : (own' m' : List ℕ) → k ≡ 4 → Shows own' m' (forecast_after mainframe (forecast_in own m) p (Release o))
+  pub release_shown : (own' m' : List ℕ) → kind ≡ kinds.Release → Shows own' m' (forecast_after mainframe (forecast_in own m) p (Release o))
       → Shows own' m' (forecast_after mainframe (forecast_in own m) p (action_of (step_of k p o 0)))
-  release_shown own' m' e d = left_by (Release o) own' m' (kind_releases k p o 0 e) d
+  release_shown own' m' e d = left_by (Release o) own' m' (kind_releases k p o 0 (ap number_of_kind e)) d
 
   -- the processor of an arrival has not arrived
-  pub arrival_foreseen : k ≡ 5 → ArrivalForeseen own m p
+  pub arrival_foreseen : kind ≡ kinds.Arrive → ArrivalForeseen own m p
   unfolding step_of has_arrived
   arrival_foreseen e = record { acts = acts; not_arrived = ap (λ (n : Marks). not (eqb (get_or n.arrived p 0) 0)) (marks_seen own m h.foreseen) ∙ accepted.not_arrived }
 
   -- an arrival was done
-  pub arrival_shown : (own' m' : List ℕ) → k ≡ 5 → Shows own' m' (forecast_after mainframe (forecast_in own m) p Arrive)
+  pub arrival_shown : (own' m' : List ℕ) → kind ≡ kinds.Arrive → Shows own' m' (forecast_after mainframe (forecast_in own m) p Arrive)
       → Shows own' m' (forecast_after mainframe (forecast_in own m) p (action_of (step_of k p o 0)))
-  arrival_shown own' m' e d = left_by Arrive own' m' (kind_arrives k p o 0 e) d
+  arrival_shown own' m' e d = left_by Arrive own' m' (kind_arrives k p o 0 (ap number_of_kind e)) d
 
   -- the wish was set
-  pub wish_shown : (m' : List ℕ) → k ≡ 6 → Wanted m m' → Shows own m' (forecast_after mainframe (forecast_in own m) p (action_of (step_of k p o 0)))
+  pub wish_shown : (m' : List ℕ) → kind ≡ kinds.Want → Wanted m m' → Shows own m' (forecast_after mainframe (forecast_in own m) p (action_of (step_of k p o 0)))
   unfolding forecast_after want wants_collection bare forecast_in seen_in seen
-  wish_shown m' e d = left_by Want own m' (kind_wants k p o 0 e) (record { entries = h.foreseen.entries; marks = d.marks; is = marks_shown own m m' _ (d.is [] [] []) })
+  wish_shown m' e d = left_by Want own m' (kind_wants k p o 0 (ap number_of_kind e)) (record { entries = h.foreseen.entries; marks = d.marks; is = marks_shown own m m' _ (d.is [] [] []) })
 
   jobs_are : jobs_mark m ≡ h.foreseen.state.marks.jobs
   unfolding seen state_in marks_in
   jobs_are = ap (λ (n : Marks). n.jobs) (marks_seen own m h.foreseen)
 
   -- an enqueue finds room
-  pub room_foreseen : k ≡ 10 → RoomForeseen own m p
+  pub room_foreseen : kind ≡ kinds.Enqueue → RoomForeseen own m p
   unfolding mainframe
   room_foreseen e =
       let some_room : (jobs_mark m ≡ job_limit → ⊥) =
-      λ z. enqueue_finds_room h.foreseen.state (step_of k p o h.value) h.value accepted (kind_enqueues k p o h.value e) (sym jobs_are ∙ z) in
+      λ z. enqueue_finds_room h.foreseen.state (step_of k p o h.value) h.value accepted (kind_enqueues k p o h.value (ap number_of_kind e)) (sym jobs_are ∙ z) in
       record {
         acts = acts;
         queue = record { marks = h.foreseen.marks; first = first_foreseen own m h.foreseen; room = omega (arith, jobs_foreseen own m h.foreseen, some_room) };
       }
 
   -- a job was added
-  pub enqueue_shown : (own' m' : List ℕ) → k ≡ 10 → Shows own' m' (forecast_after mainframe (forecast_in own m) p (Enqueue 0))
+  pub enqueue_shown : (own' m' : List ℕ) → kind ≡ kinds.Enqueue → Shows own' m' (forecast_after mainframe (forecast_in own m) p (Enqueue 0))
       → Shows own' m' (forecast_after mainframe (forecast_in own m) p (action_of (step_of k p o 0)))
-  enqueue_shown own' m' e d = left_by (Enqueue 0) own' m' (kind_enqueues k p o 0 e) d
+  enqueue_shown own' m' e d = left_by (Enqueue 0) own' m' (kind_enqueues k p o 0 (ap number_of_kind e)) d
 
   -- a dequeue finds a job
-  pub job_foreseen : k ≡ 11 → JobForeseen own m p
+  pub job_foreseen : kind ≡ kinds.Dequeue → JobForeseen own m p
   unfolding mainframe
   job_foreseen e =
-      let some : (jobs_mark m ≡ 0 → ⊥) = λ z. dequeue_finds_job h.foreseen.state (step_of k p o h.value) accepted (kind_dequeues k p o h.value e) (sym jobs_are ∙ z) in
+      let some : (jobs_mark m ≡ 0 → ⊥) = λ z. dequeue_finds_job h.foreseen.state (step_of k p o h.value) accepted (kind_dequeues k p o h.value (ap number_of_kind e)) (sym jobs_are ∙ z) in
       record {
         acts = acts;
         queue = record { marks = h.foreseen.marks; first = first_foreseen own m h.foreseen; some = omega (arith, some); few = jobs_foreseen own m h.foreseen };
       }
 
   -- the oldest job was removed
-  pub dequeue_shown : (own' m' : List ℕ) → k ≡ 11 → Shows own' m' (forecast_after mainframe (forecast_in own m) p Dequeue)
+  pub dequeue_shown : (own' m' : List ℕ) → kind ≡ kinds.Dequeue → Shows own' m' (forecast_after mainframe (forecast_in own m) p Dequeue)
       → Shows own' m' (forecast_after mainframe (forecast_in own m) p (action_of (step_of k p o 0)))
-  dequeue_shown own' m' e d = left_by Dequeue own' m' (kind_dequeues k p o 0 e) d
+  dequeue_shown own' m' e d = left_by Dequeue own' m' (kind_dequeues k p o 0 (ap number_of_kind e)) d
 
   -- the other kinds leave all as it is
-  pub others_leave : (k ≡ 2 → ⊥) → (k ≡ 3 → ⊥) → (k ≡ 4 → ⊥) → (k ≡ 5 → ⊥) → (k ≡ 6 → ⊥) → (k ≡ 10 → ⊥) → (k ≡ 11 → ⊥)
-      → Shows own m (forecast_after mainframe (forecast_in own m) p (action_of (step_of k p o 0)))
-  unfolding step_of forecast_after
-  others_leave no_write no-acquire no_release no_arrival no-wish no-enqueue no-dequeue = go (known_says k accepted.known_kind_lem)
+  pub others_leave : (kind ≡ kinds.Read) ⊎ (kind ≡ kinds.TallyAdd) ⊎ (kind ≡ kinds.TallyRead) → Shows own m (forecast_after mainframe (forecast_in own m) p (action_of (step_of k p o 0)))
+  unfolding forecast_after
+  others_leave is = go is
     where
       as_it_was : Shows own m (forecast_in own m)
       as_it_was = record { entries = h.foreseen.entries; marks = h.foreseen.marks; is = refl }
 
-      tally : (k ≡ 8) ⊎ (k ≡ 9) → Shows own m (forecast_after mainframe (forecast_in own m) p (action_of (step_of k p o 0)))
-      tally (inl e) = left_by (TallyAdd o 0) own m (kind_adds k p o 0 e) as_it_was
-      tally (inr e) = left_by (TallyRead o) own m (kind_totals k p o 0 e) as_it_was
-
-      go : ((1 ≤ k) × (k ≤ 6)) ⊎ ((8 ≤ k) × (k ≤ 11)) → Shows own m (forecast_after mainframe (forecast_in own m) p (action_of (step_of k p o 0)))
-      go (inl l) = left_by (Read o) own m (kind_reads k p o 0 (is_read k l.0 l.1 no_write no-acquire no_release no_arrival no-wish)) as_it_was
-      go (inr l) = tally (eight_or_nine k l.0 l.1 no-enqueue no-dequeue)
+      go : (kind ≡ kinds.Read) ⊎ (kind ≡ kinds.TallyAdd) ⊎ (kind ≡ kinds.TallyRead) → Shows own m (forecast_after mainframe (forecast_in own m) p (action_of (step_of k p o 0)))
+      go (inl e) = left_by (Read o) own m (kind_reads k p o 0 (ap number_of_kind e)) as_it_was
+      go (inr (inl e)) = left_by (TallyAdd o 0) own m (kind_adds k p o 0 (ap number_of_kind e)) as_it_was
+      go (inr (inr e)) = left_by (TallyRead o) own m (kind_totals k p o 0 (ap number_of_kind e)) as_it_was
 
 pub ruleset act_laws = (write_there, write_shown, acquire_on_lock, acquire_shown, release_on_lock, release_shown, arrival_foreseen, arrival_shown, wish_shown, room_foreseen, enqueue_shown, job_foreseen, dequeue_shown, others_leave, rules)

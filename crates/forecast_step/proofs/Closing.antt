@@ -7,13 +7,13 @@ use native.Mathlib.Decide.{dec_lt, ℕ_discrete}
 use mathlib.Core.Path.{◌≡◌, refl, sym, ap, ◌∙◌}
 use mathlib.Core.Bool.{Bool, true, false, cond, not}
 use mathlib.Core.List.{List, [], ◌∷◌, ◌++◌, map}
-use lib.ListN.{length, get_or, take, drop, set, length-set, replicate, length-replicate, get_or-replicate}
-use lib.Seq.{set-get_or, sets, length-sets}
+use lib.ListN.{length, get_or, take, drop, length-take, length-drop, set, length-set, replicate, length-replicate, get_or-replicate}
+use lib.Seq.{get_or-take, get_or-drop, set-get_or, sets, length-sets}
 use lib.Dec.{eqb}
 use borrow.Author.Tests.{eq-eqb, ne_eqb}
 use borrow.Author.Rules.{rules}
 use mir.Syntax.{w8}
-use mir.Val.{Fits}
+use mir.Val.{Fits, bool_byte}
 use Rattle.lists.specs.Tables.{put, total, tabulate}
 use Rattle.lists.proofs.Counting.{any_counted}
 use Rattle.lists.proofs.Tables.{total_same, put_within}
@@ -45,43 +45,46 @@ use Rattle.forecast_step.proofs.Foreseeing.{entry_at, foreseen_in_order, pages_f
 
 -- ---- the dirty pages of a processor, mark by mark
 
--- the first g marks from a place on are counted
-pub record PageMarksCounted (m : List ℕ) (from sum g : ℕ) : Type 0 where
-  pub marks : length m ≡ mark_area
-  pub there : from + page_limit ≤ mark_area
-  pub upto : g ≤ page_limit
+-- the first g of the dirty marks of a processor are counted
+pub record PageMarksCounted (marks : List ℕ) (sum g : ℕ) : Type 0 where
+  pub long : length marks ≡ page_limit
   pub few : sum ≤ g
-  pub same : sum ≡ total g (λ i. cond (not (eqb (get_or m (from + i) 0) 0)) 1 0)
+  pub same : sum ≡ total g (λ i. cond (not (eqb (get_or marks i 0) 0)) 1 0)
 
-module _ (m : List ℕ) (p : ℕ) (h : PagesOf m p) where
-  pages_have_marks : MarksOf m p
-  pages_have_marks = record { marks = h.counted.marks; from = h.from; to = h.to }
+-- the next counts 1 or 0
+pub pages_counting_more : (marks : List ℕ) (sum g : ℕ) → PageMarksCounted marks sum g → (r : ℕ) → r ≡ bool_byte (not (eqb (get_or marks g 0) 0)) → PageMarksCounted marks (sum + r) (g + 1)
+unfolding total
+pages_counting_more marks sum g h r e =
+    let is = flag (not (eqb (get_or marks g 0) 0)) in
+    record { long = h.long; few = omega (arith, h.few, e, is.1); same = rw (add-one g, ← h.same, ← is.0, e) }
+  where
+    flag : (b : Bool) → (bool_byte b ≡ cond b 1 0) × (bool_byte b ≤ 1)
+    flag true = (refl, omega arith)
+    flag false = (refl, omega arith)
+
+module _ (m : List ℕ) (p : ℕ) (h : PagesOf m p) (from : ℕ) (e : from ≡ dirty_place mainframe p 0) where
+  pub marks_there : from + page_limit ≤ length m
+  marks_there = last_dirty_there m p (record { marks = h.counted.marks; from = h.from; to = h.to }) from e
+
+  marks_long : length (take (from + page_limit - from) (drop from m)) ≡ page_limit
+  marks_long = omega (arith, length-take (from + page_limit - from) (drop from m), length-drop from m, marks_there)
 
   -- none is counted yet
-  pub pages_counting_begins : (from : ℕ) → from ≡ dirty_place mainframe p 0 → PageMarksCounted m from 0 0
+  pub pages_counting_begins : PageMarksCounted (take (from + page_limit - from) (drop from m)) 0 0
   unfolding total
-  pages_counting_begins from e =
-      record { marks = h.counted.marks; there = omega (arith, h.counted.marks, last_dirty_there m p pages_have_marks from e); upto = omega arith; few = omega arith; same = refl }
+  pages_counting_begins = record { long = marks_long; few = omega arith; same = refl }
 
-module _ (m : List ℕ) (from sum g : ℕ) (h : PageMarksCounted m from sum g) where
-  -- the next counts 1 or 0
-  pub pages_counting_more : (r : ℕ) → g < page_limit → r ≡ cond (not (eqb (get_or m (from + g) 0) 0)) 1 0 → r ≤ 1 → PageMarksCounted m from (sum + r) (g + 1)
-  unfolding total
-  pages_counting_more r l e f =
-      record { marks = h.marks; there = h.there; upto = omega arith; few = omega (arith, h.few, f); same = rw (add-one g, ← h.same, e) }
-
-  -- all are counted
-  pub pages_counting_ends : (p x : ℕ) → PagesOf m p → from ≡ dirty_place mainframe p 0 → page_limit ≤ g → (x ≡ sum) × (x < 256)
-      → x ≡ dirty_below (seen m).pages p (page_count m)
-  unfolding dirty_place mainframe mark_at
-  pages_counting_ends zero x there e l is = absurd (omega (arith, there.from))
-  pages_counting_ends (suc i) x there e l is =
-      let all : g ≡ page_limit = omega (arith, h.upto) in
-      is.0 ∙ h.same
-      ∙ ap (λ (j : ℕ). total j (λ k. cond (not (eqb (get_or m (from + k) 0) 0)) 1 0)) all
-      ∙ total_same page_limit (λ k. cond (not (eqb (get_or m (from + k) 0) 0)) 1 0) (λ k. mark_at m (i * page_limit + k))
-      (λ k b. ap (λ (at : ℕ). cond (not (eqb (get_or m at 0) 0)) 1 0) (omega (arith, e)))
-      ∙ marks_of_processor m there.counted i (omega (arith, there.to))
+-- all are counted
+pub pages_counting_ends : (m : List ℕ) (p from sum g x : ℕ) → PagesOf m p → from ≡ dirty_place mainframe p 0 → PageMarksCounted (take (from + page_limit - from) (drop from m)) sum g → g ≡ page_limit → x ≡ sum
+    → x ≡ dirty_below (seen m).pages p (page_count m)
+unfolding dirty_place mainframe mark_at
+pages_counting_ends m zero from sum g x there e h all is = absurd (omega (arith, there.from))
+pages_counting_ends m (suc i) from sum g x there e h all is =
+    is ∙ h.same
+    ∙ ap (λ (j : ℕ). total j (λ k. cond (not (eqb (get_or (take (from + page_limit - from) (drop from m)) k 0) 0)) 1 0)) all
+    ∙ total_same page_limit (λ k. cond (not (eqb (get_or (take (from + page_limit - from) (drop from m)) k 0) 0)) 1 0) (λ k. mark_at m (i * page_limit + k))
+    (λ k b. ap (λ (x : ℕ). cond (not (eqb x 0)) 1 0) (get_or-take (from + page_limit - from) (drop from m) k 0 (omega (arith, b)) ∙ get_or-drop from m k 0 ∙ ap (λ (at : ℕ). get_or m at 0) (omega (arith, e))))
+    ∙ marks_of_processor m there.counted i (omega (arith, there.to))
 
 -- ---- its marks cleared
 
@@ -153,7 +156,7 @@ pages_cleaned m p h = row_cleaned m p h (replicate page_limit 0) (length-replica
 -- ---- the interval closed
 
 -- the own entries behind nobody's, one of them raised by 1 or not at all
-entries_raised : (own : List ℕ) (p r : ℕ) (b : Bool) → 1 ≤ p → p ≤ length own → r ≡ cond b 1 0
+entries_raised : (own : List ℕ) (p r : ℕ) (b : Bool) → 1 ≤ p → p ≤ length own → r ≡ bool_byte b
     → 0 ∷ set own (p - 1) (get_or own (p - 1) 0 + r) ≡ cond b (put 0 (0 ∷ own) p (get_or (0 ∷ own) p 0 + 1)) (0 ∷ own)
 unfolding put
 entries_raised own zero r b from to e = absurd (omega (arith, from))
@@ -176,11 +179,15 @@ module _ (own m : List ℕ) (p : ℕ) (h : ActsForeseen own m p) where
   own_entry_there = omega (arith, h.from, (pages_foreseen own m p h).to, h.foreseen.entries)
 
   -- and is small
-  pub own_entry_fits : (r : ℕ) → r ≤ 1 → Fits w8 (get_or own (p - 1) 0 + r)
+  pub own_entry_fits : (r : ℕ) (b : Bool) → r ≡ bool_byte b → Fits w8 (get_or own (p - 1) 0 + r)
   unfolding forecast_in seen_in own_for mainframe seen
-  own_entry_fits r f =
+  own_entry_fits r b f =
       let few : get_or (0 ∷ own) p 0 ≤ interval_limit = (foreseen_in_order own m h.foreseen).own_fits_lem p in
-      omega (arith, f, few, entry_at own p h.from)
+      omega (arith, f, small b, few, entry_at own p h.from)
+    where
+      small : (b : Bool) → bool_byte b ≤ 1
+      small true = omega arith
+      small false = omega arith
 
   module _ (d n : ℕ) (dirty : d ≡ dirty_below (seen m).pages p (page_count m)) (stands : (n ≡ standing_count m) × (n < 65536)) where
     -- a record for each dirty page has room
@@ -196,7 +203,7 @@ module _ (own m : List ℕ) (p : ℕ) (h : ActsForeseen own m p) where
       recorded_marks = record { marks = ap length recorded ∙ standing_length m (n + d) h.foreseen.marks; from = h.from; to = (pages_foreseen own m p h).to }
 
       -- records, own entry and dirty marks are those of the forecast's closing
-      pub closing_shown : (m₂ : List ℕ) (r : ℕ) → r ≡ cond (not (eqb d 0)) 1 0 → m₂ ≡ sets m₁ (dirty_place mainframe p 0) (replicate page_limit 0)
+      pub closing_shown : (m₂ : List ℕ) (r : ℕ) → r ≡ bool_byte (not (eqb d 0)) → m₂ ≡ sets m₁ (dirty_place mainframe p 0) (replicate page_limit 0)
           → Shows (set own (p - 1) (get_or own (p - 1) 0 + r)) m₂ (closed_for (forecast_in own m) p)
       unfolding forecast_in seen seen_in
       closing_shown m₂ r raises clean =
@@ -206,7 +213,7 @@ module _ (own m : List ℕ) (p : ℕ) (h : ActsForeseen own m p) where
             is =
                 ap (λ (s : State). seen_in s raised)
                 (ap seen clean ∙ pages_cleaned m₁ p recorded_marks ∙ ap (λ (s : State). with_pages s (cleaned s.pages p)) (ap seen recorded ∙ standing_now))
-                ∙ closed_by (seen m) (0 ∷ own) raised p (n + d) (entries_raised own p r (any_dirty (seen m) p) h.from within (raises ∙ ap (λ (b : Bool). cond b 1 0) any_is)) standing_is;
+                ∙ closed_by (seen m) (0 ∷ own) raised p (n + d) (entries_raised own p r (any_dirty (seen m) p) h.from within (raises ∙ ap bool_byte any_is)) standing_is;
           }
         where
           raised : List ℕ
@@ -224,7 +231,7 @@ module _ (own m : List ℕ) (p : ℕ) (h : ActsForeseen own m p) where
           standing_is : n + d ≡ (seen m).records.standing + dirty_below (seen m).pages p (seen m).counts.pages
           standing_is = unfold seen state_in records_in in rw (stands.0, dirty)
 
-pub ruleset count_laws = (pages_counting_begins, pages_counting_more, pages_counting_ends, rules)
+pub ruleset count_laws = (marks_there, pages_counting_begins, pages_counting_more, pages_counting_ends, rules)
 
 pub ruleset clean_laws = (last_dirty_there, page_marks_part, rules)
 

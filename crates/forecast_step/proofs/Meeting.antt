@@ -7,7 +7,6 @@ use mathlib.Core.List.{List, [], ◌∷◌}
 use lib.ListN.{length, set, length-set, replicate, length-replicate}
 use lib.Seq.{sets, length-sets}
 use lib.Dec.{eqb}
-use borrow.Author.Tests.{not-true, not-false}
 use borrow.Author.Rules.{rules}
 use Rattle.limits.specs.Limits.{processor_limit}
 use Rattle.limits.specs.Places.{first_arrived, wanted_place}
@@ -70,14 +69,14 @@ module _ (own m : List ℕ) (h : BothLent own m) (m₁ : List ℕ) (cleared : m�
     wish_is = is ∙ ap (λ (x : ℕ). not (eqb x 0)) (sym (wanted_read [] [] [] m₁) ∙ ap (λ (f : Forecast). f.marks.wanted) round_shown)
 
     -- nothing is collected
-    pub round_plain : not b ≡ true → Shows own m₁ (round_completed (forecast_in own m))
+    pub round_plain : b ≡ false → Shows own m₁ (round_completed (forecast_in own m))
     unfolding round_completed
-    round_plain e = record { entries = h.entries; marks = cleared_lent.marks; is = rw (← wish_is, not-true b e) round_shown }
+    round_plain e = record { entries = h.entries; marks = cleared_lent.marks; is = rw (← wish_is, e) round_shown }
 
     -- garbage is collected
-    pub round_collects : (own' m₂ : List ℕ) → not b ≡ false → Shows own' m₂ (collected_for (forecast_in own m₁)) → Shows own' m₂ (round_completed (forecast_in own m))
+    pub round_collects : (own' m₂ : List ℕ) → b ≡ true → Shows own' m₂ (collected_for (forecast_in own m₁)) → Shows own' m₂ (round_completed (forecast_in own m))
     unfolding round_completed
-    round_collects own' m₂ e k = record { entries = k.entries; marks = k.marks; is = rw (← wish_is, not-false b e) (k.is ∙ ap collected_for round_shown) }
+    round_collects own' m₂ e k = record { entries = k.entries; marks = k.marks; is = rw (← wish_is, e) (k.is ∙ ap collected_for round_shown) }
 
 -- ---- an arrival
 
@@ -108,14 +107,14 @@ module _ (own m : List ℕ) (p : ℕ) (h : ArrivalForeseen own m p) where
         answer_is = one.is [] [] [] ∙ last_arrives (seen m) p h.acts.from h.acts.to h.not_arrived
 
         -- others are awaited
-        pub not_the_last : not b ≡ true → Shows own₁ m₂ (forecast_after mainframe (forecast_in own m) p Arrive)
+        pub not_the_last : b ≡ false → Shows own₁ m₂ (forecast_after mainframe (forecast_in own m) p Arrive)
         unfolding forecast_after completed_for
-        not_the_last e = record { entries = k.entries; marks = marked_lent.marks; is = rw (← answer_is, not-true b e) barrier_shown }
+        not_the_last e = record { entries = k.entries; marks = marked_lent.marks; is = rw (← answer_is, e) barrier_shown }
 
         -- the last completes the round
-        pub last_completes : (own₂ m₃ : List ℕ) → not b ≡ false → Shows own₂ m₃ (round_completed (forecast_in own₁ m₂)) → Shows own₂ m₃ (forecast_after mainframe (forecast_in own m) p Arrive)
+        pub last_completes : (own₂ m₃ : List ℕ) → b ≡ true → Shows own₂ m₃ (round_completed (forecast_in own₁ m₂)) → Shows own₂ m₃ (forecast_after mainframe (forecast_in own m) p Arrive)
         unfolding forecast_after completed_for round_completed
-        last_completes own₂ m₃ e r = record { entries = r.entries; marks = r.marks; is = rw (← answer_is, not-false b e) (r.is ∙ ap round_completed barrier_shown) }
+        last_completes own₂ m₃ e r = record { entries = r.entries; marks = r.marks; is = rw (← answer_is, e) (r.is ∙ ap round_completed barrier_shown) }
 
 pub ruleset collect_laws = (emptied_marks, collection_shown, rules)
 

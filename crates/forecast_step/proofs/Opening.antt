@@ -6,7 +6,7 @@ use mathlib.Core.Bool.{Bool, true, false, cond, not, ◌&&◌}
 use mathlib.Core.List.{List}
 use lib.ListN.{length, replicate}
 use lib.Dec.{eqb}
-use borrow.Author.Tests.{eq-eqb, not-false, not-true}
+use borrow.Author.Tests.{eq-eqb, not-true}
 use borrow.Author.Rules.{rules}
 use Rattle.limits.specs.Files.{file_record_width}
 use Rattle.limits.specs.Limits.{processor_limit}
@@ -52,7 +52,7 @@ module _ (bytes own m : List ℕ) (h : OpeningGiven bytes own m) (fits : Bool) (
   opening_refused z =
       record { refused = refusal_by_lem false (not-true fits z); after = refl; entries = h.entries; marks = h.marks; foreseen = λ e. absurd (omega (arith, e)) }
 
-  module _ (z : not fits ≡ false) where
+  module _ (z : fits ≡ true) where
     -- the marks may be laid
     pub marks_there : MarksOpenable bytes m
     marks_there = record { marks = h.marks; opening = h.opening }
@@ -61,7 +61,7 @@ module _ (bytes own m : List ℕ) (h : OpeningGiven bytes own m) (fits : Bool) (
     pub opening_laid : (own' m' : List ℕ) → own' ≡ replicate (length own) 0 → m' ≡ opened_marks bytes → OpeningForeseen bytes own m 0 own' m'
     opening_laid own' m' eo em =
         record {
-          refused = refusal_by_lem true (not-false fits z);
+          refused = refusal_by_lem true z;
           after = shown;
           entries = ap length zeros;
           marks = ap length em ∙ (unfold opened_marks in refl);
@@ -70,7 +70,7 @@ module _ (bytes own m : List ℕ) (h : OpeningGiven bytes own m) (fits : Bool) (
                 entries = ap length zeros;
                 marks = ap length em ∙ (unfold opened_marks in refl);
                 state = opened mainframe (opening_of bytes).counts;
-                in_order = opened_in_order mainframe (opening_of bytes).counts (opening_counts mainframe (opening_of bytes) (sym (refusal_by_lem true (not-false fits z))));
+                in_order = opened_in_order mainframe (opening_of bytes).counts (opening_counts mainframe (opening_of bytes) (sym (refusal_by_lem true z)));
                 foretold = rw shown (opened_foretold mainframe (opening_of bytes).counts);
               };
         }

@@ -1,14 +1,13 @@
 -- Enqueue and dequeue by the marks and the own entries, put together from closing and the marks of the queue: one law for each way of the code, and
 -- `queue_laws`. Rests on Foreseeing. Assumes nothing.
 use Prim.Native.Nat.{ℕ, ◌+◌, ◌-◌}
-use native.Mathlib.Omega.{arith}
 use mathlib.Core.Path.{◌≡◌, ap, ◌∙◌}
 use mathlib.Core.List.{List, []}
 use borrow.Author.Rules.{rules}
-use Rattle.rules.specs.State.{mainframe, Marks, with_queue}
+use Rattle.rules.specs.State.{mainframe, with_queue}
 use Rattle.rules.specs.Steps.{place_behind}
 use Rattle.rules.specs.Refusals.{Enqueue, Dequeue}
-use Rattle.rules.specs.Forecast.{Forecast, bare, closed_for, marks_for, forecast_after}
+use Rattle.rules.specs.Forecast.{Forecast, closed_for, marks_for, forecast_after}
 use Rattle.rules.proofs.Foretold.{seen_in}
 use Rattle.layout.specs.Areas.{marks_in, state_in}
 use Rattle.layout.specs.inner.Marks.{first_mark, jobs_mark}

@@ -6,8 +6,10 @@ use mathlib.Core.Path.{◌≡◌, refl, sym, ap, ◌∙◌}
 use mathlib.Core.Bool.{true}
 use mathlib.Core.List.{List, ◌∷◌}
 use lib.ListN.{length, get_or}
-use borrow.Author.Tests.{eq-eqb, ne_eqb}
+use borrow.Author.Tests.{ne_eqb}
 use borrow.Author.Rules.{rules}
+use Rattle.limits.specs.Refused.{number_of}
+use Rattle.limits.specs.declared.Refusal.{Refusal}
 use Rattle.rules.specs.State.{mainframe}
 use Rattle.rules.specs.Refusals.{Step, step_of, action_of, known_kind, refusal_by, next_in_order}
 use Rattle.rules.specs.Forecast.{Forecast, own_for, forecast_refusal, forecast_after, forecast_next}
@@ -15,8 +17,11 @@ use Rattle.rules.proofs.Foretold.{seen_in, refusal_seen, refusal_foretold, next_
 use Rattle.rules.proofs.inorder.Accepted.{accepted_says}
 use Rattle.rules.proofs.inorder.Kept.{next_keeps_order}
 use Rattle.rules.proofs.inorder.KindsOfSteps.{by_kind}
+use Rattle.step_fields.specs.Kinds.{number_of_kind}
+use Rattle.step_fields.specs.declared.kinds.Kind.{Kind}
 use Rattle.refusals.specs.inner.Needed.{FittingStep}
 use Rattle.refusals.specs.inner.Parts.{seen, early_refusal, refusal_of_kind}
+use Rattle.limits.proofs.Refused.{number_of_pos}
 use Rattle.refusals.proofs.Refusing.{early_decides, step_fits, kind_decides}
 use Rattle.forecast_step.specs.Memory.{forecast_in}
 use Rattle.forecast_step.specs.inner.Needed.{Foreseen, StepForeseen}
@@ -30,15 +35,17 @@ table_shown : (own m : List ℕ) (t : Step) → refusal_by mainframe (seen m) (g
 unfolding forecast_refusal own_for forecast_in seen_in seen
 table_shown own m t = refusal_seen mainframe (seen m) (0 ∷ own) (get_or (0 ∷ own) t.processor 0) t
 
-module _ (own m : List ℕ) (k p o v x : ℕ) (early : x ≡ early_refusal (seen m) k p o v) where
+module _ (own m : List ℕ) (k p o v : ℕ) where
   -- a row up to 17 refuses
-  pub refused_early : (x ≡ 0 → ⊥) → x ≡ forecast_refusal mainframe (forecast_in own m) (step_of k p o v)
-  refused_early z = early_decides m k p o v x early (get_or (0 ∷ own) (step_of k p o v).processor 0) z ∙ table_shown own m (step_of k p o v)
+  pub refused_early : (r : Refusal) → number_of r ≡ early_refusal (seen m) k p o v → number_of r ≡ forecast_refusal mainframe (forecast_in own m) (step_of k p o v)
+  refused_early r early =
+      early_decides m k p o v (number_of r) early (get_or (0 ∷ own) (step_of k p o v).processor 0) (number_of_pos r)
+      ∙ table_shown own m (step_of k p o v)
 
-  module _ (none : x ≡ 0) (h : Foreseen own m) where
+  module _ (h : Foreseen own m) (none : 0 ≡ early_refusal (seen m) k p o v) where
     -- the step fits
     pub step_fitting : FittingStep m k p o
-    step_fitting = step_fits m k p o v x early none (counted_foreseen own m h)
+    step_fitting = step_fits m k p o v 0 none refl (counted_foreseen own m h)
 
     -- its processor has an own entry
     pub fitting_from : 1 ≤ p
@@ -48,10 +55,10 @@ module _ (own m : List ℕ) (k p o v x : ℕ) (early : x ≡ early_refusal (seen
     own_entry_read = omega (arith, step_fitting.by.from, step_fitting.by.to, h.entries)
 
     -- a later row refuses, or none
-    pub refused_late : (r : ℕ) → r ≡ refusal_of_kind (seen m) (get_or own (p - 1) 0) k p o → r ≡ forecast_refusal mainframe (forecast_in own m) (step_of k p o v)
+    pub refused_late : (n : ℕ) → n ≡ refusal_of_kind (seen m) (get_or own (p - 1) 0) k p o → n ≡ forecast_refusal mainframe (forecast_in own m) (step_of k p o v)
     unfolding step_of
-    refused_late r e =
-        kind_decides m k p o v x early none (get_or own (p - 1) 0) r e
+    refused_late n e =
+        kind_decides m k p o v 0 none refl (get_or own (p - 1) 0) n e
         ∙ ap (λ (n : ℕ). refusal_by mainframe (seen m) n (step_of k p o v)) (entry_at own p fitting_from)
         ∙ table_shown own m (step_of k p o v)
 
@@ -80,25 +87,26 @@ stepped : (own m : List ℕ) (t : Step) (x : ℕ) (own' m' : List ℕ) → Fores
     → Shows own' m' (forecast_next mainframe (forecast_in own m) t) → StepForeseen own m t x own' m'
 stepped own m t x own' m' h e k = record { refused = e; after = k.is; foreseen = next_foreseen own m t own' m' h k }
 
-module _ (own m : List ℕ) (k p o v x : ℕ) (h : Foreseen own m) (e : x ≡ forecast_refusal mainframe (forecast_in own m) (step_of k p o v)) where
+module _ (own m : List ℕ) (k p o v : ℕ) (h : Foreseen own m) where
   -- a refused step leaves both areas as they were
-  pub step_refused : (x ≡ 0 → ⊥) → StepForeseen own m (step_of k p o v) x own m
+  pub step_refused : (r : Refusal) → number_of r ≡ forecast_refusal mainframe (forecast_in own m) (step_of k p o v) → StepForeseen own m (step_of k p o v) (number_of r) own m
   unfolding forecast_next
-  step_refused z = stepped own m (step_of k p o v) x own m h e (record { entries = h.entries; marks = h.marks; is = rw (← e, ne_eqb x 0 z) })
+  step_refused r e =
+      stepped own m (step_of k p o v) (number_of r) own m h e (record { entries = h.entries; marks = h.marks; is = rw (← e, ne_eqb (number_of r) 0 (number_of_pos r)) })
 
-  module _ (none : x ≡ 0) where
+  module _ (none : 0 ≡ forecast_refusal mainframe (forecast_in own m) (step_of k p o v)) (kind : Kind) (is : number_of_kind kind ≡ k) where
     -- one that no row refuses may act
-    pub step_accepted : AcceptedForeseen own m k p o
-    step_accepted = record { foreseen = h; value = v; accepted = sym e ∙ none }
+    pub step_accepted : AcceptedForeseen own m (number_of_kind kind) p o
+    step_accepted = record { foreseen = h; value = v; accepted = rw is (sym none) }
 
     -- and has acted
-    pub step_done : (own' m' : List ℕ) → Shows own' m' (forecast_after mainframe (forecast_in own m) p (action_of (step_of k p o 0))) → StepForeseen own m (step_of k p o v) 0 own' m'
+    pub step_done : (own' m' : List ℕ) → Shows own' m' (forecast_after mainframe (forecast_in own m) p (action_of (step_of (number_of_kind kind) p o 0))) → StepForeseen own m (step_of k p o v) 0 own' m'
     unfolding forecast_next step_of
     step_done own' m' d =
-        stepped own m (step_of k p o v) 0 own' m' h (sym none ∙ e)
-        (record { entries = d.entries; marks = d.marks; is = rw (← e, eq-eqb x 0 none) (d.is ∙ sym (value_unused (forecast_in own m) k p o v known)) })
+        stepped own m (step_of k p o v) 0 own' m' h none
+        (record { entries = d.entries; marks = d.marks; is = rw (← none) ((rw is at d.is) ∙ sym (value_unused (forecast_in own m) k p o v known)) })
       where
         known : known_kind k ≡ true
-        known = (accepted_says mainframe h.state (step_of k p o v) (refusal_foretold mainframe h.state (forecast_in own m) (step_of k p o v) h.foretold ∙ sym e ∙ none)).known_kind_lem
+        known = (accepted_says mainframe h.state (step_of k p o v) (refusal_foretold mainframe h.state (forecast_in own m) (step_of k p o v) h.foretold ∙ sym none)).known_kind_lem
 
 pub ruleset step_laws = (step_refused, step_accepted, step_done, rules)

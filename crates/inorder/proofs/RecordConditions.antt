@@ -19,7 +19,7 @@ use Rattle.rules.proofs.inorder.Conditions.{record_tests, record_tests_lem}
 use Rattle.layout.specs.Areas.{records_in, state_in, standing_count}
 use Rattle.layout.specs.inner.Marks.{page_count, processor_count, slot_interval, slot_length, slot_page, slot_processor}
 use Rattle.inorder_records.specs.inner.Tests.{notice_holds, diff_holds, record_holds, notices_differ, unlike, records_hold_with}
-use Rattle.inorder_records.proofs.RecordTests.{Notice, notice_says}
+use Rattle.inorder_records.proofs.Notices.{Notice, notice_says}
 use Rattle.inorder.specs.inner.Tests.{own_entries}
 use Rattle.inorder.proofs.StateReads.{record_processor, record_interval, record_page, record_length, record_diff, same_notice_read, own_of_read}
 use Rattle.inorder.proofs.ClocksWhen.{held}

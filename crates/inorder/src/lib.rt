@@ -19,31 +19,28 @@ ghost use Rattle.inorder.specs.inner.Needed.{RowsThere, ClocksThere, ClocksOne, 
 use inorder_marks::{marks_hold, pages_of, zeros_at};
 use inorder_records::records_hold;
 use layout::marks::{lock_count, page_count, processor_count, standing_count};
-use layout::{clock_at, wide};
+use layout::{clock_at, right_sizes};
 use limits::{
-    CLOCK_AREA, CLOCK_WIDTH, COPY_LIMIT, FIRST_APPLIED_ROW, FIRST_INTERVAL_ROW, FIRST_JOB_ROW,
-    FIRST_LOCK_ROW, FIRST_TALLY, INTERVAL_LIMIT, JOB_LIMIT, LAST_INTERVAL, LOCK_LIMIT, MARK_AREA,
-    OWN_STEP, PAGE_LIMIT, PAGE_WIDTH, PROCESSOR_LIMIT, RECORD_AREA, RECORD_LIMIT, TALLY_LIMIT,
-    WORD_AREA,
+    CLOCK_WIDTH, COPY_LIMIT, FIRST_APPLIED_ROW, FIRST_INTERVAL_ROW, FIRST_JOB_ROW, FIRST_LOCK_ROW,
+    FIRST_TALLY, INTERVAL_LIMIT, JOB_LIMIT, LAST_INTERVAL, LOCK_LIMIT, OWN_STEP, PAGE_LIMIT,
+    PAGE_WIDTH, PROCESSOR_LIMIT, RECORD_LIMIT, TALLY_LIMIT,
 };
 
+// The counts that the marks hold: of present processors, pages and locks, and of the records that stand.
+#[derive(Clone, Copy)]
+struct Counts {
+    processors: usize,
+    pages: usize,
+    locks: usize,
+    standing: usize,
+}
+
 // Whether lent memory is in order: its areas have the fixed sizes, and the state that they hold is in order.
+#[tactic(auto, using(crate::proofs::Sizes::order_laws))]
 pub fn in_order(clocks: &[u8], words: &[u32], records: &[u8], marks: &[u8]) -> bool
     ensures { OrderIs result clocks.now words.now records.now marks.now }
 {
-    if clocks.len() != CLOCK_AREA {
-        return false;
-    }
-    if words.len() != WORD_AREA {
-        return false;
-    }
-    if records.len() != RECORD_AREA {
-        return false;
-    }
-    if marks.len() != MARK_AREA {
-        return false;
-    }
-    areas_hold(clocks, words, records, marks)
+    right_sizes(clocks, words, records, marks) && areas_hold(clocks, words, records, marks)
 }
 
 // Whether no entry of the row of clocks at a place exceeds that of another clock. It looks at all eight, which is faster than to stop early.
@@ -52,14 +49,8 @@ fn row_within(clocks: &[u8], most: [u8; CLOCK_WIDTH], at: usize) -> bool
     ensures { result ≡ every processor_limit (entry_within most clocks.now at) }
 {
     let mut all = true;
-    let mut i: usize = 0;
-    while i < CLOCK_WIDTH {
-        if most[i] < clocks[at + i] {
-            all = false;
-            i = i + 1;
-        } else {
-            i = i + 1;
-        }
+    for i in 0..CLOCK_WIDTH {
+        all &= clocks[at + i] <= most[i];
     }
     all
 }
@@ -69,29 +60,21 @@ fn rows_within(clocks: &[u8], most: [u8; CLOCK_WIDTH], first: usize, n: usize) -
     requires { PlacesThere clocks.now (clock_width * first) (clock_width * n) }
     ensures { result ≡ every n (is_row_within most clocks.now first) }
 {
-    let mut i: usize = 0;
-    while i < n {
-        if !row_within(clocks, most, CLOCK_WIDTH * (first + i)) {
-            return false;
-        }
-        i = i + 1;
-    }
-    true
+    (0..n).all(|i| row_within(clocks, most, CLOCK_WIDTH * (first + i)))
 }
 
 // Whether of n rows of clocks from a row on the first `there` do not exceed another clock, and the others are zeros.
+#[tactic(auto, unfolding(crate::specs::inner::Tests::rows_hold))]
 fn rows_hold(clocks: &[u8], most: [u8; CLOCK_WIDTH], first: usize, n: usize, there: usize) -> bool
     requires { RowsThere clocks.now first n there }
     ensures { result ≡ rows_hold most clocks.now first n there }
 {
-    if !rows_within(clocks, most, first, there) {
-        return false;
-    }
-    zeros_at(
-        clocks,
-        CLOCK_WIDTH * (first + there),
-        CLOCK_WIDTH * (n - there),
-    )
+    rows_within(clocks, most, first, there)
+        && zeros_at(
+            clocks,
+            CLOCK_WIDTH * (first + there),
+            CLOCK_WIDTH * (n - there),
+        )
 }
 
 // The own entries of the processors: each a row and a place behind the one before.
@@ -100,10 +83,8 @@ fn own_entries(clocks: &[u8]) -> [u8; CLOCK_WIDTH]
     ensures { result ≡ own_entries clocks.now }
 {
     let mut own = [0; CLOCK_WIDTH];
-    let mut k: usize = 0;
-    while k < PROCESSOR_LIMIT {
+    for k in 0..PROCESSOR_LIMIT {
         own[k] = clocks[CLOCK_WIDTH + OWN_STEP * k];
-        k = k + 1;
     }
     own
 }
@@ -112,30 +93,21 @@ fn own_entries(clocks: &[u8]) -> [u8; CLOCK_WIDTH]
 fn own_fit(own: [u8; CLOCK_WIDTH]) -> bool
     ensures { result ≡ every processor_limit (own_fits own) }
 {
-    let mut k: usize = 0;
-    while k < PROCESSOR_LIMIT {
-        if LAST_INTERVAL < own[k] {
-            return false;
-        }
-        k = k + 1;
-    }
-    true
+    own.iter().all(|entry| *entry <= LAST_INTERVAL)
 }
 
 // Whether the clocks applied to the pages of one processor are in order.
+#[tactic(auto, unfolding(crate::specs::inner::Tests::applied_hold))]
 fn applied_of(clocks: &[u8], processors: usize, pages: usize, k: usize) -> bool
     requires { ClocksOne clocks.now pages k }
     ensures { result ≡ applied_hold clocks.now processors pages k }
 {
-    let there = pages_of(processors, pages, k);
-    let clock = clock_at(clocks, k + 1);
-    let most = clock.entries;
     rows_hold(
         clocks,
-        most,
+        clock_at(clocks, k + 1).entries,
         FIRST_APPLIED_ROW + PAGE_LIMIT * k,
         PAGE_LIMIT,
-        there,
+        pages_of(processors, pages, k),
     )
 }
 
@@ -144,17 +116,11 @@ fn applied_hold(clocks: &[u8], processors: usize, pages: usize) -> bool
     requires { (length clocks.now ≡ clock_area) × (pages ≤ page_limit) }
     ensures { result ≡ every processor_limit (applied_hold clocks.now processors pages) }
 {
-    let mut k: usize = 0;
-    while k < PROCESSOR_LIMIT {
-        if !applied_of(clocks, processors, pages, k) {
-            return false;
-        }
-        k = k + 1;
-    }
-    true
+    (0..PROCESSOR_LIMIT).all(|k| applied_of(clocks, processors, pages, k))
 }
 
 // Whether the clocks of the intervals of one processor are in order.
+#[tactic(auto, unfolding(crate::specs::inner::Tests::intervals_hold))]
 fn intervals_of(clocks: &[u8], own: [u8; CLOCK_WIDTH], k: usize) -> bool
     requires { IntervalsOne own clocks.now k }
     ensures { result ≡ intervals_hold own clocks.now k }
@@ -164,7 +130,7 @@ fn intervals_of(clocks: &[u8], own: [u8; CLOCK_WIDTH], k: usize) -> bool
         own,
         FIRST_INTERVAL_ROW + INTERVAL_LIMIT * k,
         INTERVAL_LIMIT,
-        wide(own[k]),
+        usize::from(own[k]),
     )
 }
 
@@ -173,43 +139,21 @@ fn intervals_hold(clocks: &[u8], own: [u8; CLOCK_WIDTH]) -> bool
     requires { (length clocks.now ≡ clock_area) × OwnFit own }
     ensures { result ≡ every processor_limit (intervals_hold own clocks.now) }
 {
-    let mut k: usize = 0;
-    while k < PROCESSOR_LIMIT {
-        if !intervals_of(clocks, own, k) {
-            return false;
-        }
-        k = k + 1;
-    }
-    true
+    (0..PROCESSOR_LIMIT).all(|k| intervals_of(clocks, own, k))
 }
 
 // Whether all clocks are in order.
-fn clocks_hold(
-    clocks: &[u8],
-    own: [u8; CLOCK_WIDTH],
-    processors: usize,
-    pages: usize,
-    locks: usize,
-) -> bool
-    requires { ClocksThere clocks.now processors pages locks }
-    ensures { result ≡ clocks_hold_with own clocks.now processors pages locks }
+#[tactic(auto, unfolding(crate::specs::inner::Tests::clocks_hold_with))]
+fn clocks_hold(clocks: &[u8], own: [u8; CLOCK_WIDTH], counts: Counts) -> bool
+    requires { ClocksThere clocks.now counts.processors counts.pages counts.locks }
+    ensures { result ≡ clocks_hold_with own clocks.now counts.processors counts.pages counts.locks }
 {
-    if !own_fit(own) {
-        return false;
-    }
-    if !rows_hold(clocks, own, 0, FIRST_LOCK_ROW, processors + 1) {
-        return false;
-    }
-    if !rows_hold(clocks, own, FIRST_LOCK_ROW, LOCK_LIMIT, locks) {
-        return false;
-    }
-    if !rows_hold(clocks, own, FIRST_JOB_ROW, JOB_LIMIT, JOB_LIMIT) {
-        return false;
-    }
-    if !applied_hold(clocks, processors, pages) {
-        return false;
-    }
-    intervals_hold(clocks, own)
+    own_fit(own)
+        && rows_hold(clocks, own, 0, FIRST_LOCK_ROW, counts.processors + 1)
+        && rows_hold(clocks, own, FIRST_LOCK_ROW, LOCK_LIMIT, counts.locks)
+        && rows_hold(clocks, own, FIRST_JOB_ROW, JOB_LIMIT, JOB_LIMIT)
+        && applied_hold(clocks, counts.processors, counts.pages)
+        && intervals_hold(clocks, own)
 }
 
 // Whether n words from a place on are 0. It looks at all of them, which is faster than to stop early.
@@ -218,19 +162,14 @@ fn words_zero(words: &[u32], at: usize, n: usize) -> bool
     ensures { result ≡ every n (zero_at words.now at) }
 {
     let mut all = true;
-    let mut i: usize = 0;
-    while i < n {
-        if words[at + i] == 0 {
-            i = i + 1;
-        } else {
-            all = false;
-            i = i + 1;
-        }
+    for word in &words[at..at + n] {
+        all &= *word == 0;
     }
     all
 }
 
 // Whether the absent pages of one processor are zeros: its copies or its twins, as the rows from `first` on are the copies or the twins.
+#[tactic(auto, unfolding(crate::specs::inner::Tests::words_hold))]
 fn words_of(words: &[u32], first: usize, processors: usize, pages: usize, k: usize) -> bool
     requires { WordsOne words.now first pages k }
     ensures { result ≡ words_hold words.now first processors pages k }
@@ -248,17 +187,11 @@ fn words_hold(words: &[u32], first: usize, processors: usize, pages: usize) -> b
     requires { (length words.now ≡ word_area) × (first ≤ copy_limit) × (pages ≤ page_limit) }
     ensures { result ≡ every processor_limit (words_hold words.now first processors pages) }
 {
-    let mut k: usize = 0;
-    while k < PROCESSOR_LIMIT {
-        if !words_of(words, first, processors, pages, k) {
-            return false;
-        }
-        k = k + 1;
-    }
-    true
+    (0..PROCESSOR_LIMIT).all(|k| words_of(words, first, processors, pages, k))
 }
 
 // Whether absent processors have added nothing to a tally.
+#[tactic(auto, unfolding(crate::specs::inner::Tests::adds_hold))]
 fn adds_hold(words: &[u32], processors: usize) -> bool
     requires { (length words.now ≡ word_area) × (processors ≤ processor_limit) }
     ensures { result ≡ adds_hold words.now processors }
@@ -271,84 +204,54 @@ fn adds_hold(words: &[u32], processors: usize) -> bool
 }
 
 // Whether the counts are in range, and the records that stand have their slots.
-fn counts_hold(processors: usize, pages: usize, locks: usize, standing: usize) -> bool
-    ensures { result ≡ counts_hold processors pages locks standing }
+#[tactic(auto, unfolding(crate::specs::inner::Tests::counts_hold))]
+fn counts_hold(counts: Counts) -> bool
+    ensures { result ≡ counts_hold counts.processors counts.pages counts.locks counts.standing }
 {
-    if processors == 0 {
-        return false;
-    }
-    if PROCESSOR_LIMIT < processors {
-        return false;
-    }
-    if pages == 0 {
-        return false;
-    }
-    if PAGE_LIMIT < pages {
-        return false;
-    }
-    if locks == 0 {
-        return false;
-    }
-    if LOCK_LIMIT < locks {
-        return false;
-    }
-    standing <= RECORD_LIMIT
+    (1..=PROCESSOR_LIMIT).contains(&counts.processors)
+        && (1..=PAGE_LIMIT).contains(&counts.pages)
+        && (1..=LOCK_LIMIT).contains(&counts.locks)
+        && counts.standing <= RECORD_LIMIT
 }
 
 // Whether all four areas are in order, with the own entries and the counts that they hold.
+#[tactic(auto, using(crate::proofs::AreaTests::own_fit_clocks), unfolding(crate::specs::inner::Tests::areas_hold_with))]
 fn all_hold(
     clocks: &[u8],
     words: &[u32],
     records: &[u8],
     marks: &[u8],
     own: [u8; CLOCK_WIDTH],
-    processors: usize,
-    pages: usize,
-    locks: usize,
-    standing: usize,
+    counts: Counts,
 ) -> bool
-    requires { AreasThere clocks.now words.now records.now marks.now processors pages locks standing }
-    ensures { result ≡ areas_hold_with own clocks.now words.now records.now marks.now processors pages locks standing }
+    requires { AreasThere clocks.now words.now records.now marks.now counts.processors counts.pages counts.locks counts.standing }
+    ensures { result ≡ areas_hold_with own clocks.now words.now records.now marks.now counts.processors counts.pages counts.locks counts.standing }
 {
-    if !clocks_hold(clocks, own, processors, pages, locks) {
-        return false;
-    }
-    if !words_hold(words, 0, processors, pages) {
-        return false;
-    }
-    if !words_hold(words, COPY_LIMIT, processors, pages) {
-        return false;
-    }
-    if !adds_hold(words, processors) {
-        return false;
-    }
-    if !marks_hold(marks, own, processors, pages, locks, standing) {
-        return false;
-    }
-    records_hold(records, own, processors, pages, standing)
-}
-
-// Whether the counts in the marks are in range and all four areas in order.
-fn areas_hold(clocks: &[u8], words: &[u32], records: &[u8], marks: &[u8]) -> bool
-    requires { Lent clocks.now words.now records.now marks.now }
-    ensures { result ≡ areas_hold clocks.now words.now records.now marks.now }
-{
-    let processors = processor_count(marks);
-    let pages = page_count(marks);
-    let locks = lock_count(marks);
-    let standing = standing_count(marks);
-    if !counts_hold(processors, pages, locks, standing) {
-        return false;
-    }
-    all_hold(
-        clocks,
-        words,
-        records,
-        marks,
-        own_entries(clocks),
+    let Counts {
         processors,
         pages,
         locks,
         standing,
-    )
+    } = counts;
+    clocks_hold(clocks, own, counts)
+        && words_hold(words, 0, processors, pages)
+        && words_hold(words, COPY_LIMIT, processors, pages)
+        && adds_hold(words, processors)
+        && marks_hold(marks, own, processors, pages, locks, standing)
+        && records_hold(records, own, processors, pages, standing)
+}
+
+// Whether the counts in the marks are in range and all four areas in order.
+#[tactic(auto, unfolding(crate::specs::inner::Tests::areas_hold))]
+fn areas_hold(clocks: &[u8], words: &[u32], records: &[u8], marks: &[u8]) -> bool
+    requires { Lent clocks.now words.now records.now marks.now }
+    ensures { result ≡ areas_hold clocks.now words.now records.now marks.now }
+{
+    let counts = Counts {
+        processors: processor_count(marks),
+        pages: page_count(marks),
+        locks: lock_count(marks),
+        standing: standing_count(marks),
+    };
+    counts_hold(counts) && all_hold(clocks, words, records, marks, own_entries(clocks), counts)
 }

@@ -8,15 +8,15 @@ ghost use Rattle.limits.specs.Limits.{page_limit, processor_limit};
 ghost use Rattle.limits.specs.inner.Sizes.{notice_table, slot_width};
 ghost use Rattle.layout.specs.inner.Needed.{RowThere};
 ghost use Rattle.inorder_records.specs.inner.Tests.{notice_holds, diff_holds, record_holds, unlike, notice_place, records_hold_with};
-ghost use Rattle.inorder_records.specs.inner.Needed.{OwnFit, SlotThere, SlotsThere, NoticeFits, NoticesFit, Blank};
+ghost use Rattle.inorder_records.specs.inner.Needed.{OwnFit, SlotThere, SlotsThere, NoticeFits, NoticesFit};
 
 use clock::{IntervalId, PageId, ProcessorId};
 use diff::check;
 use layout::slots::{slot_diff, slot_interval, slot_length, slot_page, slot_processor};
-use layout::wide;
 use limits::{CLOCK_WIDTH, DIFF_LIMIT, NOTICE_ROW, NOTICE_TABLE, PAGE_LIMIT};
 
 // Whether all records are in order.
+#[tactic(auto, unfolding(crate::specs::inner::Tests::records_hold_with))]
 pub fn records_hold(
     records: &[u8],
     own: [u8; CLOCK_WIDTH],
@@ -27,13 +27,11 @@ pub fn records_hold(
     requires { (SlotsThere records.now standing) × (processors ≤ processor_limit) × (pages ≤ page_limit) × (OwnFit own) }
     ensures { result ≡ records_hold_with own records.now processors pages standing }
 {
-    if !records_sound(records, own, processors, pages, standing) {
-        return false;
-    }
-    records_unlike(records, standing)
+    records_sound(records, own, processors, pages, standing) && records_unlike(records, standing)
 }
 
 // Whether a record's numbers are those of a present processor and page and of an interval that was made.
+#[tactic(auto, unfolding(crate::specs::inner::Tests::notice_holds))]
 fn notice_holds(
     own: [u8; CLOCK_WIDTH],
     processors: usize,
@@ -45,33 +43,20 @@ fn notice_holds(
     requires { processors ≤ processor_limit }
     ensures { result ≡ notice_holds own processors pages p.0 n.0 g.0 }
 {
-    if p.0 == 0 {
-        return false;
-    }
-    if processors < p.0 {
-        return false;
-    }
-    if pages <= g.0 {
-        return false;
-    }
-    if n.0 == 0 {
-        return false;
-    }
-    n.0 <= wide(own[p.0 - 1])
+    p.0 != 0 && p.0 <= processors && g.0 < pages && n.0 != 0 && n.0 <= usize::from(own[p.0 - 1])
 }
 
 // Whether the diff in a slot fits the slot and is legal.
+#[tactic(auto, using(limits::proofs::Refused::ok_is_0), unfolding(crate::specs::inner::Tests::diff_holds))]
 fn diff_holds(records: &[u8], i: usize) -> bool
     requires { RowThere slot_width records.now i }
     ensures { result ≡ diff_holds records.now i }
 {
-    if DIFF_LIMIT < slot_length(records, i) {
-        return false;
-    }
-    check(slot_diff(records, i)) == 0
+    slot_length(records, i) <= DIFF_LIMIT && check(slot_diff(records, i)).is_ok()
 }
 
 // Whether the record in a slot is sound.
+#[tactic(auto, unfolding(crate::specs::inner::Tests::record_holds))]
 fn record_holds(
     records: &[u8],
     own: [u8; CLOCK_WIDTH],
@@ -82,17 +67,14 @@ fn record_holds(
     requires { (SlotThere records.now i) × (processors ≤ processor_limit) }
     ensures { result ≡ record_holds own records.now processors pages i }
 {
-    if !notice_holds(
+    notice_holds(
         own,
         processors,
         pages,
         slot_processor(records, i),
         slot_interval(records, i),
         slot_page(records, i),
-    ) {
-        return false;
-    }
-    diff_holds(records, i)
+    ) && diff_holds(records, i)
 }
 
 // Whether every record that stands is.
@@ -106,24 +88,17 @@ fn records_sound(
     requires { (SlotsThere records.now standing) × (processors ≤ processor_limit) }
     ensures { result ≡ every standing (record_holds own records.now processors pages) }
 {
-    let mut i: usize = 0;
-    while i < standing {
+    // A `for`: with `all` the table of records_unlike is laid even where no record stands, which is slower.
+    for i in 0..standing {
         if !record_holds(records, own, processors, pages, i) {
             return false;
         }
-        i = i + 1;
     }
     true
 }
 
-// A table in which no record is marked.
-fn none_seen() -> [u8; NOTICE_TABLE]
-    ensures { Blank notice_table result }
-{
-    [0; NOTICE_TABLE]
-}
-
-// The place of a record's processor, interval and page in such a table.
+// The place of a record's processor, interval and page in a table that has one for each.
+#[tactic(auto, unfolding(crate::specs::inner::Tests::notice_place))]
 fn notice_place(records: &[u8], i: usize) -> usize
     requires { (SlotThere records.now i) × (NoticeFits records.now i) }
     ensures value { result ≡ notice_place records.now i }
@@ -136,19 +111,18 @@ fn notice_place(records: &[u8], i: usize) -> usize
 }
 
 // Whether no two records that stand are of one processor, interval and page: each is marked in the table.
+#[tactic(auto, using(crate::proofs::Notices::notices_checked))]
 fn records_unlike(records: &[u8], standing: usize) -> bool
     requires { (SlotsThere records.now standing) × (NoticesFit records.now standing) }
     ensures { result ≡ every standing (unlike records.now) }
 {
-    let mut seen = none_seen();
-    let mut i: usize = 0;
-    while i < standing {
+    let mut seen = [false; NOTICE_TABLE];
+    for i in 0..standing {
         let place = notice_place(records, i);
-        if seen[place] != 0 {
+        if seen[place] {
             return false;
         }
-        seen[place] = 1;
-        i = i + 1;
+        seen[place] = true;
     }
     true
 }

@@ -17,7 +17,7 @@ use Rattle.rules.specs.State.{mainframe, Processor, Lock, Applied, Interval, Job
 use Rattle.rules.proofs.inorder.Facts.{Sized, InOrder}
 use Rattle.lists.specs.Tables.{tabulate}
 use Rattle.layout.specs.Layout.{row_of, per_processor, join_rows}
-use Rattle.layout.specs.Areas.{clock_row, clock_rows, copy_row, twin_row, word_rows, tally_place, value_place, word_places, arrived_place, holder_place, dirty_place, awaited_place, turn_place, first_place, jobs_place, mark_places, clocks_in, pages_in, records_in, marks_in, shared_in, state_in, clock_bytes, area_words, record_bytes, mark_bytes, sizes_right, areas, holding, standing_count}
+use Rattle.layout.specs.Areas.{clock_row, clock_rows, copy_row, twin_row, word_rows, tally_place, value_place, word_places, arrived_place, holder_place, dirty_place, awaited_place, turn_place, first_place, jobs_place, mark_places, clocks_in, pages_in, records_in, marks_in, shared_in, state_in, clock_bytes, area_words, record_bytes, mark_bytes, sizes_right, right_sizes, areas, holding, standing_count}
 use Rattle.layout.specs.inner.Needed.{Lent, Holds}
 use Rattle.layout.specs.inner.Marks.{lock_count, page_count, processor_count, wish_mark}
 use Rattle.lists.proofs.Tabulated.{length_tabulate}
@@ -287,6 +287,17 @@ right_lent c w r m e =
       records = eqb-true (length r) record_area two.1;
       marks = eqb-true (length m) mark_area three.1;
     }
+
+-- the four tests one after the other
+pub sizes_is : (c w r m : List ℕ)
+    → right_sizes (areas c w r m) ≡ (eqb (length c) clock_area && eqb (length w) word_area && eqb (length r) record_area && eqb (length m) mark_area)
+unfolding right_sizes areas sizes_right clock_rows word_places word_rows mark_places first_place jobs_place slot_size mainframe
+sizes_is c w r m = refl
+
+-- the same of the areas as one
+pub sized_lent : (c w r m : List ℕ) → right_sizes (areas c w r m) ≡ true → Lent c w r m
+unfolding right_sizes areas
+sized_lent c w r m e = right_lent c w r m e
 
 -- ---- the areas as one
 

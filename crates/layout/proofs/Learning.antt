@@ -1,11 +1,10 @@
--- One clock learns another: what this leaves of the clocks, one law for each way of the code, and `learn_laws`. Assumes nothing.
+-- One clock learns another: what this leaves of the clocks. Assumes nothing.
 use Prim.Native.Nat.{ℕ, ◌*◌}
 use native.Mathlib.Omega.{arith}
 use mathlib.Core.Path.{◌≡◌, ◌∙◌}
 use mathlib.Core.List.{List}
 use lib.ListN.{length}
 use lib.Seq.{sets}
-use borrow.Author.Rules.{rules}
 use Rattle.limits.specs.inner.Sizes.{clock_area, clock_width}
 use Rattle.clock.specs.Clocks.{joined}
 use Rattle.clock.proofs.Laws.{length_joined}
@@ -16,12 +15,6 @@ use Rattle.layout.specs.Areas.{clock_row, clocks_in}
 use Rattle.layout.specs.Layout.{row_of}
 use Rattle.layout.proofs.ClockLaws.{holder_row_there, clock_read, clock_written}
 use Rattle.layout.proofs.RowLaws.{length_row}
-use Rattle.layout.proofs.Rows.{clock_row_there as row_there}
-
--- what is laid into the learner's row
-pub learned_row : (c c' : List ℕ) (to from : ℕ) (own news both : List ℕ) → own ≡ row_of clock_width c to → news ≡ row_of clock_width c from → both ≡ joined own news
-    → c' ≡ sets c (clock_width * to) both → c' ≡ sets c (clock_width * to) (joined (row_of clock_width c to) (row_of clock_width c from))
-learned_row c c' to from own news both eo en eb e = e ∙ rw (eb, eo, en)
 
 -- a holder's row that learned another holder's is that clock learned
 module _ (c : List ℕ) (to from : Holder) (long : length c ≡ clock_area) (t : Within mainframe to) (f : Within mainframe from) where
@@ -41,5 +34,3 @@ module _ (c : List ℕ) (to from : Holder) (long : length c ≡ clock_area) (t :
   unfolding learned
   learned_clock =
       clock_written c both to long t length_both ∙ rw (clock_read c to t, clock_read c from f)
-
-pub ruleset learn_laws = (row_there, learned_row, rules)

@@ -5,7 +5,7 @@
 pub mod marks;
 pub mod slots;
 
-ghost use Rattle.std.specs.Prelude.{◌≡◌, cond, [], ◌*◌, ◌<◌, ◌≤◌, length, get_or, replicate};
+ghost use Rattle.std.specs.Prelude.{◌≡◌, [], ◌*◌, ◌<◌, get_or};
 ghost use Rattle.std.proofs.lemmas.List.Edits.{sets};
 ghost use Rattle.limits.specs.Limits.{job_limit, lock_limit, page_limit, page_width};
 ghost use Rattle.limits.specs.inner.Sizes.{clock_row_limit, clock_width, word_row_limit};
@@ -13,28 +13,56 @@ ghost use Rattle.clock.specs.Clocks.{joined};
 ghost use Rattle.rules.specs.State.{mainframe};
 ghost use Rattle.lists.specs.Tables.{tabulate};
 ghost use Rattle.layout.specs.Layout.{row_of};
-ghost use Rattle.layout.specs.Areas.{lock_row, applied_row, interval_row, job_row, copy_row, twin_row};
+ghost use Rattle.layout.specs.Areas.{lock_row, applied_row, interval_row, job_row, copy_row, twin_row, areas, right_sizes};
 ghost use Rattle.layout.specs.inner.Needed.{RowThere, OnPage, MadeInterval, TwoRows, ClocksOf, OwnEntry};
 
 use clock::{Clock, IntervalId, PageId, ProcessorId};
 use limits::{
-    CLOCK_WIDTH, COPY_LIMIT, FIRST_APPLIED_ROW, FIRST_INTERVAL_ROW, FIRST_JOB_ROW, FIRST_LOCK_ROW,
-    INTERVAL_LIMIT, OWN_STEP, PAGE_LIMIT, PAGE_WIDTH,
+    CLOCK_AREA, CLOCK_WIDTH, COPY_LIMIT, FIRST_APPLIED_ROW, FIRST_INTERVAL_ROW, FIRST_JOB_ROW,
+    FIRST_LOCK_ROW, INTERVAL_LIMIT, MARK_AREA, OWN_STEP, PAGE_LIMIT, PAGE_WIDTH, RECORD_AREA,
+    WORD_AREA,
 };
+
+// Whether the four areas have the fixed sizes.
+#[tactic(auto, using(crate::proofs::Encoding::sizes_is))]
+pub fn right_sizes(clocks: &[u8], words: &[u32], records: &[u8], marks: &[u8]) -> bool
+    ensures { result ≡ right_sizes (areas clocks.now words.now records.now marks.now) }
+{
+    clocks.len() == CLOCK_AREA
+        && words.len() == WORD_AREA
+        && records.len() == RECORD_AREA
+        && marks.len() == MARK_AREA
+}
+
+// The N elements in a row of an area.
+#[tactic(auto, unfolding(crate::specs::Layout::row_of))]
+fn row_at<T: Copy, const N: usize>(area: &[T], row: usize) -> [T; N]
+    requires { RowThere N area.now row }
+    ensures { result ≡ row_of N area.now row }
+{
+    let at = N * row;
+    area[at..at + N].try_into().unwrap()
+}
+
+// N elements laid into their row of an area. By a loop, since with `copy_from_slice` a page read and laid took 7 ns and not 4.5.
+fn put_row<T: Copy, const N: usize>(area: &mut [T], row: usize, elements: [T; N])
+    requires { RowThere N area.old row }
+    ensures { area.new ≡ sets area.old (N * row) elements }
+{
+    let at = N * row;
+    for i in 0..N {
+        area[at + i] = elements[i];
+    }
+}
 
 // The clock in a row of eight entries.
 pub fn clock_at(clocks: &[u8], row: usize) -> Clock
     requires { RowThere clock_width clocks.now row }
     ensures { result.entries ≡ row_of clock_width clocks.now row }
 {
-    let at = CLOCK_WIDTH * row;
-    let mut entries = [0; CLOCK_WIDTH];
-    let mut i: usize = 0;
-    while i < CLOCK_WIDTH {
-        entries[i] = clocks[at + i];
-        i = i + 1;
+    Clock {
+        entries: row_at(clocks, row),
     }
-    Clock { entries }
 }
 
 // A clock laid into its row.
@@ -42,13 +70,7 @@ pub fn put_clock(clocks: &mut [u8], row: usize, clock: Clock)
     requires { RowThere clock_width clocks.old row }
     ensures { clocks.new ≡ sets clocks.old (clock_width * row) clock.entries }
 {
-    let entries = clock.entries;
-    let at = CLOCK_WIDTH * row;
-    let mut i: usize = 0;
-    while i < CLOCK_WIDTH {
-        clocks[at + i] = entries[i];
-        i = i + 1;
-    }
+    put_row(clocks, row, clock.entries);
 }
 
 // The clock in one row becomes its join with the clock in another, which keeps its entries.
@@ -62,6 +84,7 @@ pub fn learn(clocks: &mut [u8], to: usize, from: usize)
 }
 
 // The own entry of a processor: how many intervals it has made.
+#[tactic(auto, using(crate::proofs::Rows::row_laws))]
 pub fn own_entry(clocks: &[u8], p: ProcessorId) -> u8
     requires { ClocksOf clocks.now p.0 }
     ensures { OwnEntry clocks.now p.0 result }
@@ -74,14 +97,7 @@ pub fn page_at(words: &[u32], row: usize) -> [u32; PAGE_WIDTH]
     requires { RowThere page_width words.now row }
     ensures { result ≡ row_of page_width words.now row }
 {
-    let at = PAGE_WIDTH * row;
-    let mut page = [0; PAGE_WIDTH];
-    let mut i: usize = 0;
-    while i < PAGE_WIDTH {
-        page[i] = words[at + i];
-        i = i + 1;
-    }
-    page
+    row_at(words, row)
 }
 
 // A page laid into its row.
@@ -89,12 +105,7 @@ pub fn put_page(words: &mut [u32], row: usize, page: [u32; PAGE_WIDTH])
     requires { RowThere page_width words.old row }
     ensures { words.new ≡ sets words.old (page_width * row) page }
 {
-    let at = PAGE_WIDTH * row;
-    let mut i: usize = 0;
-    while i < PAGE_WIDTH {
-        words[at + i] = page[i];
-        i = i + 1;
-    }
+    put_row(words, row, page);
 }
 
 // A page copied from one row to another.
@@ -106,19 +117,8 @@ pub fn copy_page(words: &mut [u32], from: usize, to: usize)
     put_page(words, to, page);
 }
 
-// Every byte of an area becomes 0.
-pub fn clear(area: &mut [u8])
-    ensures { area.new ≡ replicate (length area.old) 0 }
-{
-    let n = area.len();
-    let mut i: usize = 0;
-    while i < n {
-        area[i] = 0;
-        i = i + 1;
-    }
-}
-
 // The row of a lock's clock.
+#[tactic(auto, unfolding(rules::specs::State::mainframe, crate::specs::Areas::lock_row))]
 pub fn lock_row(lock: usize) -> usize
     requires { lock < lock_limit }
     ensures { (result ≡ lock_row mainframe lock) × (result < clock_row_limit) }
@@ -127,6 +127,7 @@ pub fn lock_row(lock: usize) -> usize
 }
 
 // The row of the clock applied to a page of a processor.
+#[tactic(auto, unfolding(rules::specs::State::mainframe, crate::specs::Areas::applied_row))]
 pub fn applied_row(p: ProcessorId, g: PageId) -> usize
     requires { OnPage p.0 g.0 }
     ensures value { result ≡ applied_row mainframe p.0 g.0 }
@@ -136,6 +137,7 @@ pub fn applied_row(p: ProcessorId, g: PageId) -> usize
 }
 
 // The row of the clock that an interval of a processor keeps.
+#[tactic(auto, unfolding(rules::specs::State::mainframe, crate::specs::Areas::interval_row))]
 pub fn interval_row(p: ProcessorId, i: IntervalId) -> usize
     requires { MadeInterval p.0 i.0 }
     ensures value { result ≡ interval_row mainframe p.0 i.0 }
@@ -145,6 +147,7 @@ pub fn interval_row(p: ProcessorId, i: IntervalId) -> usize
 }
 
 // The row of the clock at a place of the queue.
+#[tactic(auto, unfolding(rules::specs::State::mainframe, crate::specs::Areas::job_row))]
 pub fn job_row(place: usize) -> usize
     requires { place < job_limit }
     ensures { (result ≡ job_row mainframe place) × (result < clock_row_limit) }
@@ -153,6 +156,7 @@ pub fn job_row(place: usize) -> usize
 }
 
 // The row of a processor's copy of a page.
+#[tactic(auto, unfolding(rules::specs::State::mainframe, crate::specs::Areas::copy_row))]
 pub fn copy_row(p: ProcessorId, g: PageId) -> usize
     requires { OnPage p.0 g.0 }
     ensures value { result ≡ copy_row mainframe p.0 g.0 }
@@ -162,6 +166,7 @@ pub fn copy_row(p: ProcessorId, g: PageId) -> usize
 }
 
 // The row of a processor's twin of a page.
+#[tactic(auto, unfolding(rules::specs::State::mainframe, crate::specs::Areas::twin_row, crate::specs::Areas::copy_row))]
 pub fn twin_row(p: ProcessorId, g: PageId) -> usize
     requires { OnPage p.0 g.0 }
     ensures value { result ≡ twin_row mainframe p.0 g.0 }
@@ -171,17 +176,15 @@ pub fn twin_row(p: ProcessorId, g: PageId) -> usize
 }
 
 // The clocks applied to the pages of a processor, a row for each page.
+#[tactic(auto, using(crate::proofs::Rows::row_laws))]
 pub fn applied_at(clocks: &[u8], p: ProcessorId) -> [[u8; CLOCK_WIDTH]; PAGE_LIMIT]
     requires { ClocksOf clocks.now p.0 }
     ensures { result ≡ tabulate page_limit (λ g. row_of clock_width clocks.now (applied_row mainframe p.0 g)) }
 {
-    let mut rows = [[0u8; CLOCK_WIDTH]; PAGE_LIMIT];
-    let mut g: usize = 0;
-    while g < PAGE_LIMIT {
-        let clock = clock_at(clocks, applied_row(p, PageId(g)));
-        let row = clock.entries;
+    let mut rows = [[0; CLOCK_WIDTH]; PAGE_LIMIT];
+    for g in 0..PAGE_LIMIT {
+        let row = row_at(clocks, applied_row(p, PageId(g)));
         rows[g] = row;
-        g = g + 1;
     }
     rows
 }
@@ -191,25 +194,5 @@ pub fn applied_clock(rows: [[u8; CLOCK_WIDTH]; PAGE_LIMIT], g: PageId) -> Clock
     requires { g.0 < page_limit }
     ensures { result.entries ≡ get_or rows g.0 [] }
 {
-    let at = g.0;
-    let entries = rows[at];
-    Clock { entries }
-}
-
-// A byte as a number.
-pub fn wide(x: u8) -> usize
-    ensures { (result ≡ x) × (result < 256) }
-{
-    x as usize
-}
-
-// 1 for true, 0 for false.
-pub fn flag(set: bool) -> u8
-    ensures value { result ≡ cond set 1 0 }
-    ensures upper_bound { result ≤ 1 }
-{
-    if set {
-        return 1;
-    }
-    0
+    Clock { entries: rows[g.0] }
 }

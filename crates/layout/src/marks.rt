@@ -1,6 +1,10 @@
 // The marks by name: counts, the records that stand, the wish, who has arrived, who holds a lock, which pages are dirty, who waits for which lock
 // at which turn, the oldest job and how many wait.
-// Every contract is an equation over the list of the marks, with a definition of specs/Areas.antt.
+// Every contract is an equation over the list of the marks, with a definition of specs/Areas.antt. Some functions differ in a place alone: one with
+// the place as a parameter would be no plainer, since the name says what the mark means.
+// The proofs of this file see the places behind their names.
+#![tactic(auto, unfolding(rules::specs::State::mainframe, crate::specs::Areas::standing_count, crate::specs::Areas::arrived_place, crate::specs::Areas::holder_place, crate::specs::Areas::dirty_place, crate::specs::Areas::awaited_place, crate::specs::Areas::turn_place, crate::specs::Areas::first_place, crate::specs::Areas::jobs_place, crate::specs::inner::Marks::with_standing))]
+
 ghost use Rattle.std.specs.Prelude.{◌≡◌, not, ◌<◌, ◌≤◌, length, set, replicate, eqb};
 ghost use Rattle.std.proofs.lemmas.List.Edits.{sets};
 ghost use Rattle.limits.specs.Limits.{job_limit, lock_limit, processor_limit, record_limit};
@@ -11,7 +15,6 @@ ghost use Rattle.layout.specs.Areas.{standing_count, arrived_place, holder_place
 ghost use Rattle.layout.specs.inner.Marks.{processor_count, page_count, lock_count, with_standing, wish_mark, arrived_mark, holder_mark, dirty_mark, awaited_mark, turn_mark, first_mark, jobs_mark};
 ghost use Rattle.layout.specs.inner.Needed.{OnPage, MarksOf, LockMark, PageMark};
 
-use crate::{clear, wide};
 use clock::{PageId, ProcessorId};
 use limits::{
     FIRST_ARRIVED, FIRST_AWAITED, FIRST_DIRTY, FIRST_HOLDER, FIRST_TURN, LOCKS_PLACE, PAGE_LIMIT,
@@ -24,7 +27,7 @@ pub fn processor_count(marks: &[u8]) -> usize
     requires { length marks.now ≡ mark_area }
     ensures { (result ≡ processor_count marks.now) × (result < 256) }
 {
-    wide(marks[PROCESSORS_PLACE])
+    usize::from(marks[PROCESSORS_PLACE])
 }
 
 // How many pages.
@@ -32,7 +35,7 @@ pub fn page_count(marks: &[u8]) -> usize
     requires { length marks.now ≡ mark_area }
     ensures { (result ≡ page_count marks.now) × (result < 256) }
 {
-    wide(marks[PAGES_PLACE])
+    usize::from(marks[PAGES_PLACE])
 }
 
 // How many locks.
@@ -40,7 +43,7 @@ pub fn lock_count(marks: &[u8]) -> usize
     requires { length marks.now ≡ mark_area }
     ensures { (result ≡ lock_count marks.now) × (result < 256) }
 {
-    wide(marks[LOCKS_PLACE])
+    usize::from(marks[LOCKS_PLACE])
 }
 
 // How many records stand.
@@ -48,7 +51,7 @@ pub fn standing_count(marks: &[u8]) -> usize
     requires { length marks.now ≡ mark_area }
     ensures { (result ≡ standing_count marks.now) × (result < 65536) }
 {
-    wide(marks[STANDING_PLACE]) + 256 * wide(marks[STANDING_HIGH])
+    usize::from(u16::from_le_bytes([marks[STANDING_PLACE], marks[STANDING_HIGH]]))
 }
 
 // So many records stand.
@@ -56,8 +59,9 @@ pub fn put_standing_count(marks: &mut [u8], n: usize)
     requires { (length marks.old ≡ mark_area) × (n ≤ record_limit) }
     ensures { marks.new ≡ with_standing marks.old n }
 {
-    marks[STANDING_PLACE] = (n % 256) as u8;
-    marks[STANDING_HIGH] = (n / 256) as u8;
+    let [low, high] = (n as u16).to_le_bytes();
+    marks[STANDING_PLACE] = low;
+    marks[STANDING_HIGH] = high;
 }
 
 // Whether collection is wanted.
@@ -97,7 +101,7 @@ pub fn clear_arrived(marks: &mut [u8])
     requires { length marks.old ≡ mark_area }
     ensures { marks.new ≡ sets marks.old first_arrived (replicate processor_limit 0) }
 {
-    clear(&mut marks[FIRST_ARRIVED..FIRST_HOLDER]);
+    marks[FIRST_ARRIVED..FIRST_HOLDER].fill(0);
 }
 
 // The holder of a lock; 0 is nobody.
@@ -105,7 +109,7 @@ pub fn holder_of(marks: &[u8], lock: usize) -> ProcessorId
     requires { LockMark marks.now lock }
     ensures { result.0 ≡ holder_mark marks.now lock }
 {
-    ProcessorId(wide(marks[FIRST_HOLDER + lock]))
+    ProcessorId(usize::from(marks[FIRST_HOLDER + lock]))
 }
 
 // A processor, or nobody, becomes the holder of a lock.
@@ -113,7 +117,7 @@ pub fn put_holder(marks: &mut [u8], lock: usize, p: ProcessorId)
     requires { LockMark marks.old lock × (p.0 ≤ processor_limit) }
     ensures { marks.new ≡ set marks.old (holder_place mainframe lock) p.0 }
 {
-    marks[FIRST_HOLDER + lock] = (p.0 % 256) as u8;
+    marks[FIRST_HOLDER + lock] = p.0 as u8;
 }
 
 // Whether a processor waits for a lock.
@@ -129,7 +133,7 @@ pub fn awaited_of(marks: &[u8], p: ProcessorId) -> usize
     requires { MarksOf marks.now p.0 }
     ensures { (result ≡ awaited_mark marks.now p.0) × (result < 256) }
 {
-    wide(marks[FIRST_AWAITED + (p.0 - 1)])
+    usize::from(marks[FIRST_AWAITED + (p.0 - 1)])
 }
 
 // Its turn: how many of that lock's waiters stand before it.
@@ -137,7 +141,7 @@ pub fn turn_of(marks: &[u8], p: ProcessorId) -> usize
     requires { MarksOf marks.now p.0 }
     ensures { (result ≡ turn_mark marks.now p.0) × (result < 256) }
 {
-    wide(marks[FIRST_TURN + (p.0 - 1)])
+    usize::from(marks[FIRST_TURN + (p.0 - 1)])
 }
 
 // A processor waits for a lock, given plus 1, or for none.
@@ -145,7 +149,7 @@ pub fn put_awaited(marks: &mut [u8], p: ProcessorId, lock: usize)
     requires { MarksOf marks.old p.0 × (lock ≤ lock_limit) }
     ensures { marks.new ≡ set marks.old (awaited_place mainframe p.0) lock }
 {
-    marks[FIRST_AWAITED + (p.0 - 1)] = (lock % 256) as u8;
+    marks[FIRST_AWAITED + (p.0 - 1)] = lock as u8;
 }
 
 // So many stand before it.
@@ -153,7 +157,7 @@ pub fn put_turn(marks: &mut [u8], p: ProcessorId, turn: usize)
     requires { MarksOf marks.old p.0 × (turn < 256) }
     ensures { marks.new ≡ set marks.old (turn_place mainframe p.0) turn }
 {
-    marks[FIRST_TURN + (p.0 - 1)] = (turn % 256) as u8;
+    marks[FIRST_TURN + (p.0 - 1)] = turn as u8;
 }
 
 // The place of the oldest job of the queue.
@@ -161,7 +165,7 @@ pub fn first_job(marks: &[u8]) -> usize
     requires { length marks.now ≡ mark_area }
     ensures { (result ≡ first_mark marks.now) × (result < 256) }
 {
-    wide(marks[QUEUE_FIRST])
+    usize::from(marks[QUEUE_FIRST])
 }
 
 // How many jobs wait.
@@ -169,7 +173,7 @@ pub fn job_count(marks: &[u8]) -> usize
     requires { length marks.now ≡ mark_area }
     ensures { (result ≡ jobs_mark marks.now) × (result < 256) }
 {
-    wide(marks[QUEUE_JOBS])
+    usize::from(marks[QUEUE_JOBS])
 }
 
 // The oldest job is at another place.
@@ -177,7 +181,7 @@ pub fn put_first_job(marks: &mut [u8], place: usize)
     requires { (length marks.old ≡ mark_area) × (place < job_limit) }
     ensures { marks.new ≡ set marks.old (first_place mainframe) place }
 {
-    marks[QUEUE_FIRST] = (place % 256) as u8;
+    marks[QUEUE_FIRST] = place as u8;
 }
 
 // So many jobs wait.
@@ -185,7 +189,7 @@ pub fn put_job_count(marks: &mut [u8], n: usize)
     requires { (length marks.old ≡ mark_area) × (n ≤ job_limit) }
     ensures { marks.new ≡ set marks.old (jobs_place mainframe) n }
 {
-    marks[QUEUE_JOBS] = (n % 256) as u8;
+    marks[QUEUE_JOBS] = n as u8;
 }
 
 // Whether a processor's copy of a page is dirty.
@@ -193,8 +197,7 @@ pub fn is_dirty(marks: &[u8], p: ProcessorId, g: PageId) -> bool
     requires { PageMark marks.now p.0 g.0 }
     ensures { result ≡ not (eqb (dirty_mark marks.now p.0 g.0) 0) }
 {
-    let place = dirty_place(p, g);
-    marks[place] != 0
+    marks[dirty_place(p, g)] != 0
 }
 
 // A processor's copy of a page is marked as dirty.
@@ -202,8 +205,7 @@ pub fn mark_dirty(marks: &mut [u8], p: ProcessorId, g: PageId)
     requires { PageMark marks.old p.0 g.0 }
     ensures { marks.new ≡ set marks.old (dirty_place mainframe p.0 g.0) 1 }
 {
-    let place = dirty_place(p, g);
-    marks[place] = 1;
+    marks[dirty_place(p, g)] = 1;
 }
 
 // A processor's copy of a page is marked as clean.
@@ -211,8 +213,7 @@ pub fn mark_clean(marks: &mut [u8], p: ProcessorId, g: PageId)
     requires { PageMark marks.old p.0 g.0 }
     ensures { marks.new ≡ set marks.old (dirty_place mainframe p.0 g.0) 0 }
 {
-    let place = dirty_place(p, g);
-    marks[place] = 0;
+    marks[dirty_place(p, g)] = 0;
 }
 
 // The place of the mark that says whether a processor's copy of a page is dirty.

@@ -5,7 +5,6 @@ ghost use Rattle.limits.specs.inner.Sizes.{slot_width};
 ghost use Rattle.layout.specs.inner.Marks.{slot_processor, slot_interval, slot_page, slot_length, slot_diff};
 ghost use Rattle.layout.specs.inner.Needed.{RowThere, DiffIn};
 
-use crate::wide;
 use clock::{IntervalId, PageId, ProcessorId};
 use limits::{SLOT_HEAD, SLOT_WIDTH};
 
@@ -14,7 +13,7 @@ pub fn slot_processor(records: &[u8], slot: usize) -> ProcessorId
     requires { RowThere slot_width records.now slot }
     ensures { (result.0 ≡ slot_processor records.now slot) × (result.0 < 256) }
 {
-    ProcessorId(wide(records[SLOT_WIDTH * slot]))
+    ProcessorId(usize::from(records[SLOT_WIDTH * slot]))
 }
 
 // Its interval.
@@ -22,7 +21,7 @@ pub fn slot_interval(records: &[u8], slot: usize) -> IntervalId
     requires { RowThere slot_width records.now slot }
     ensures { (result.0 ≡ slot_interval records.now slot) × (result.0 < 256) }
 {
-    IntervalId(wide(records[SLOT_WIDTH * slot + 1]))
+    IntervalId(usize::from(records[SLOT_WIDTH * slot + 1]))
 }
 
 // Its page.
@@ -30,7 +29,7 @@ pub fn slot_page(records: &[u8], slot: usize) -> PageId
     requires { RowThere slot_width records.now slot }
     ensures { (result.0 ≡ slot_page records.now slot) × (result.0 < 256) }
 {
-    PageId(wide(records[SLOT_WIDTH * slot + 2]))
+    PageId(usize::from(records[SLOT_WIDTH * slot + 2]))
 }
 
 // The length of its diff.
@@ -38,7 +37,7 @@ pub fn slot_length(records: &[u8], slot: usize) -> usize
     requires { RowThere slot_width records.now slot }
     ensures { (result ≡ slot_length records.now slot) × (result < 256) }
 {
-    wide(records[SLOT_WIDTH * slot + 3])
+    usize::from(records[SLOT_WIDTH * slot + 3])
 }
 
 // Its diff.

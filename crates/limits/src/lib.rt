@@ -2,6 +2,65 @@
 // names without capitals (specs/Limits.antt).
 #![tactic(auto)]
 
+ghost use Rattle.std.specs.Prelude.{◌≡◌};
+ghost use Rattle.limits.specs.Refused.{number_of, refusal_in};
+
+// Why a step, an opening, a diff or a file is refused: a row of document 01's table each, with its number.
+#[derive(Clone, Copy, PartialEq, Eq)]
+pub enum Refusal {
+    // Lent memory has a wrong size or holds no state in order.
+    NotInOrder = 1,
+    // An opening is not eight bytes or does not fit.
+    BadOpening = 2,
+    UnknownKind = 3,
+    AbsentProcessor = 4,
+    // The word, lock or tally is absent, or a field that the kind does not use is not 0.
+    BadField = 5,
+    HasArrived = 6,
+    // An acquire by the holder.
+    HoldsAlready = 7,
+    // A release by another than the holder.
+    NotHolder = 8,
+    NoIntervalLeft = 9,
+    NoRecordLeft = 10,
+    // Bytes that are to be a diff have a wrong length.
+    BadLength = 11,
+    // A pair of a diff breaks its rule.
+    BadPair = 12,
+    // A diff does not fit into the bytes lent for it.
+    NoRoom = 13,
+    // A page is not as long as a page.
+    BadPage = 14,
+    // A file ends within a record or before the opening.
+    EndsShort = 15,
+    TooManySteps = 16,
+    // The processor waits for a lock.
+    Waits = 17,
+    // An arrival by the holder of a lock.
+    ArrivesHolding = 18,
+    QueueFull = 19,
+    QueueEmpty = 20,
+}
+
+impl Refusal {
+    // The number of its row.
+    pub fn number(self) -> u8
+        ensures { result ≡ number_of self }
+    {
+        self as u8
+    }
+}
+
+// The number that an answer stands for: 0 where nothing is refused.
+pub fn refusal_or_0<T: Copy>(answered: Result<T, Refusal>) -> u8
+    ensures { result ≡ refusal_in answered }
+{
+    match answered {
+        Ok(_) => 0,
+        Err(refusal) => refusal.number(),
+    }
+}
+
 // What there can be.
 pub const PROCESSOR_LIMIT: usize = 8;
 

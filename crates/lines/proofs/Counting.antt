@@ -1,4 +1,4 @@
--- The digits of a number counted on by one. One law for each way of the code, and `count_laws`. Rests on Digits. Assumes nothing.
+-- The digits of a number counted on by one: `count_laws`. Rests on Digits. Assumes nothing.
 use Prim.Native.Nat.{ℕ, zero, suc, ◌+◌, ◌-◌, ◌/◌, ◌%◌, ◌≤◌, ◌<◌}
 use native.Mathlib.Numerals.{add-one}
 use native.Mathlib.Omega.{arith}
@@ -158,9 +158,6 @@ module _ (d₀ d : List ℕ) (len n i : ℕ) (p : Carrying d₀ d len n i) where
         ap (λ (l : List ℕ). set l (i - 1) v) opened
         ∙ set_at (above p.rest) (48 + p.rest % 10) (zeros (len - i) ++ drop len d₀) v (i - 1) before_last
 
-    pub last_within : i - 1 < length d
-    last_within = omega (arith, p.long, p.few, p.on)
-
     -- no 9: it rises, and all is done
     module _ (low : get_or d (i - 1) 0 < 57) where
       -- the digits of the rest, counted on
@@ -210,9 +207,6 @@ module _ (d₀ d : List ℕ) (len n i : ℕ) (p : Carrying d₀ d len n i) where
         }
 
   -- behind the loop
-  pub one_more_within : len < length d
-  one_more_within = omega (arith, p.long, p.few)
-
   -- all were nines: a 1, and zeros behind it
   module _ (z : i ≤ 0) where
     none_before : i ≡ 0
@@ -265,12 +259,4 @@ module _ (d₀ d : List ℕ) (len n i : ℕ) (p : Carrying d₀ d len n i) where
     pub nines_counted : Counted (set (set d len 48) 0 49) (len + 1) (n + 1)
     nines_counted = counted_laid d₀ (set (set d len 48) 0 49) (len + 1) (n + 1) p.lent (omega (arith, p.few)) one_longer all_nines
 
--- what is stored keeps the length
-module _ (d₀ d : List ℕ) (len n i : ℕ) (p : Carrying d₀ d len n i) (j v : ℕ) where
-  pub long_after_one : length (set d j v) ≡ length d₀
-  long_after_one = length-set d j v ∙ p.long ∙ sym p.lent
-
-  pub long_after_two : (k w : ℕ) → length (set (set d j v) k w) ≡ length d₀
-  long_after_two k w = length-set (set d j v) k w ∙ long_after_one
-
-pub ruleset count_laws = (eight_fit, counted_first, carrying_begins, last_within, last_rises, risen_counted, carrying_more, one_more_within, all_nines, nines_counted, long_after_one, long_after_two, rules)
+pub ruleset count_laws = (eight_fit, counted_first, carrying_begins, last_rises, risen_counted, carrying_more, all_nines, nines_counted, rules)

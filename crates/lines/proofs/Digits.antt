@@ -8,6 +8,8 @@ use mathlib.Core.Bool.{Bool, true, false, cond}
 use mathlib.Core.List.{List, [], ◌∷◌, ◌++◌, append_assoc}
 use lib.ListN.{length, get_or, length-append}
 use lib.Dec.{ltb}
+use Rattle.std.specs.Prelude.{Some, None, IfSome, IfNone, unwrap_or}
+use Rattle.std.specs.Prelude as rust
 use borrow.Author.Tests.{ltb-true, ltb-false, lt-ltb, le-ltb}
 use Rattle.lines.specs.Decimal.{digits_within, digits}
 use Rattle.lines.specs.inner.Values.{value_after, value_of}
@@ -126,6 +128,21 @@ digits_at_most (suc k) n h = go (ltb n 10) refl (λ (r : n / 10 < 10 ^ suc k). d
     go true e before = omega (arith, ap length (digits_one n (ltb-true n 10 e)))
     go false e before = omega (arith, length_more n (ltb-false n 10 e), before (omega arith))
 
+some_power : (k : ℕ) → 1 ≤ 10 ^ k
+some_power zero = omega arith
+some_power (suc k) = omega (arith, some_power k)
+
+-- any other has more
+digits_at_least : (k n : ℕ) → 10 ^ k ≤ n → suc k ≤ length (digits n)
+digits_at_least zero n h = omega (arith, some_digit n)
+digits_at_least (suc k) n h =
+    omega (arith, length_more n (omega (arith, h, some_power k)), digits_at_least k (n / 10) (omega (arith, h)))
+
+-- so the logarithm says how many digits a number has, and 0, which has none, has one
+pub digits_by_log : (n : ℕ) (r : rust.Option ℕ) → IfNone r (n ≡ 0) → IfSome r (λ k. 10 ^ k ≤ n) → IfSome r (λ k. n < 10 * 10 ^ k) → unwrap_or r 0 + 1 ≡ length (digits n)
+digits_by_log n None none low high = omega (arith, ap length (digits_one n (omega arith)))
+digits_by_log n (Some k) none low high = omega (arith, digits_at_least k n low, digits_at_most k n (omega arith))
+
 -- a number of 32 bits has at most 10 digits
 pub at_most_ten_digits : (n : ℕ) → n < 2 ^ 32 → length (digits n) ≤ 10
 at_most_ten_digits n h = digits_at_most 9 n (omega arith)
@@ -167,3 +184,5 @@ pub all_digits : (n : ℕ) → AllDigits (digits n)
 all_digits =
     by_digits (λ n. AllDigits (digits n)) (λ n h. rw (digits_one n h) (digit_first (48 + n) (omega arith) (omega arith) none_left))
     (λ n h before. rw (digits_more n h) (all_append (48 + n % 10) before (omega arith) (omega arith)))
+
+pub ruleset total_laws = (digits_by_log, at_most_twenty_digits)

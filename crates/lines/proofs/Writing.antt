@@ -1,23 +1,19 @@
--- The laws by which the functions of this crate meet their contracts: what each way through their code says. Assumes nothing.
+-- The laws by which the functions of this crate meet their contracts. Assumes nothing.
 use Prim.Native.Nat.{ℕ, ◌+◌, ◌-◌, ◌*◌, ◌/◌, ◌%◌, ◌≤◌, ◌<◌}
 use native.Mathlib.Numerals.{add-one}
 use native.Mathlib.Omega.{arith}
-use mathlib.Core.Path.{◌≡◌, refl, sym, ap, ◌∙◌}
-use mathlib.Core.Bool.{Bool, true, false, not}
+use mathlib.Core.Path.{◌≡◌, sym, ap, ◌∙◌}
 use mathlib.Core.List.{List, [], ◌∷◌, ◌++◌}
-use lib.ListN.{length, set, length-append, length-set}
+use lib.ListN.{length, set, length-append}
 use lib.Seq.{sets, length-sets}
-use lib.Dec.{leb}
 use mir.Syntax.{w32}
 use mir.Val.{Fits}
-use borrow.Author.Tests.{leb-true, leb-false, not-true, not-false, le-leb, lt-leb}
 use borrow.Author.Rules.{rules}
 use Rattle.lists.proofs.Stores.{sets_append, sets_last_first}
 use Rattle.limits.specs.Files.{line_limit}
 use Rattle.lines.specs.Decimal.{digits}
-use Rattle.lines.specs.Lines.{line_bytes, line_fits, line_answer, place_said, line_left}
-use Rattle.lines.specs.declared.Placed.TheVariants.{End, NoRoom}
-use Rattle.lines.specs.inner.Needed.{Room, DigitsFit, PairFits, Put, digit_pair, field_bytes, half_bytes}
+use Rattle.lines.specs.Lines.{line_bytes}
+use Rattle.lines.specs.inner.Needed.{PairFits, Put, digit_pair, field_bytes, half_bytes}
 use Rattle.lines.proofs.Digits.{digits_one, digits_two, digits_pair_more, length_two, length_pair_more, length_four_more, at_most_ten_digits}
 use Rattle.lines.proofs.Lines.{line_is_halves}
 
@@ -56,11 +52,8 @@ module _ (n : ℕ) where
 pub sets_keep_length : (out out' : List ℕ) (at : ℕ) (vs : List ℕ) → out' ≡ sets out at vs → length out' ≡ length out
 sets_keep_length out out' at vs e = ap length e ∙ length-sets out at vs
 
--- the place of the second digit of a pair, and what the two stores leave
+-- what the two stores of a pair leave
 module _ (out : List ℕ) (at pair : ℕ) where
-  pub second_place : PairFits out at pair → (v : ℕ) → at + 1 < length (set out at v)
-  second_place p v = simp length-set (omega (arith, p.room))
-
   pub pair_stored : set (set out at (48 + pair / 10)) (at + 1) (48 + pair % 10) ≡ sets out at (digit_pair pair)
   unfolding digit_pair
   pair_stored = ap (λ (k : ℕ). set (set out at (48 + pair / 10)) k (48 + pair % 10)) (add-one at)
@@ -71,10 +64,6 @@ pub record Storing (out₀ out : List ℕ) (at n i rest : ℕ) : Type 0 where
   pub room : i ≤ length out
   pub as_long : length out ≡ length out₀
   pub same : sets out₀ at (digits n) ≡ sets out at (digits rest)
-
--- before the loop
-pub storing_begins : (out : List ℕ) (at len n : ℕ) → DigitsFit out at len n → Storing out out at n (at + len) n
-storing_begins out at len n p = record { place = omega (arith, p.counted); room = p.room; as_long = refl; same = refl }
 
 -- in a turn, and behind the loop
 module _ (out₀ out : List ℕ) (at n i rest : ℕ) (p : Storing out₀ out at n i rest) where
@@ -122,24 +111,9 @@ module _ (out : List ℕ) (at n : ℕ) where
   pub one_digit_stored : n < 10 → set out at (48 + n) ≡ sets out at (digits n)
   one_digit_stored h = ap (λ (l : List ℕ). sets out at l) (sym (digits_one n h))
 
-  pub room_for_digits : (len : ℕ) → Room out at 10 → len ≡ length (digits n) → len ≤ 10 → DigitsFit out at len n
-  room_for_digits len p e h = record { counted = e; room = omega (arith, p.room) }
-
-pub one_digit_near : (at : ℕ) → at + 1 ≤ at + 10
-one_digit_near at = omega arith
-
-pub digits_near : (at len : ℕ) → len ≤ 10 → at + len ≤ at + 10
-digits_near at len h = omega arith
-
 -- ---- a number with a byte behind
 
-pub room_for_number : (out : List ℕ) (at : ℕ) → Room out at 11 → Room out at 10
-room_for_number out at p = record { room = omega (arith, p.room) }
-
 module _ (out out' : List ℕ) (at n end : ℕ) (put : out' ≡ sets out at (digits n)) where
-  pub room_for_byte : Room out at 11 → end ≤ at + 10 → end < length out'
-  room_for_byte p near = omega (arith, p.room, sets_keep_length out out' at (digits n) put)
-
   pub field_put : (b : ℕ) → end ≡ at + length (digits n) → end ≤ at + 10 → Put out at (field_bytes n b) 11 (set out' end b) (end + 1)
   unfolding field_bytes
   field_put b to near =
@@ -149,27 +123,9 @@ module _ (out out' : List ℕ) (at n end : ℕ) (put : out' ≡ sets out at (dig
         near = omega arith;
       }
 
-  pub field_keeps_length : (b : ℕ) → length (set out' end b) ≡ length out
-  field_keeps_length b = length-set out' end b ∙ sets_keep_length out out' at (digits n) put
-
 -- ---- one part of a line behind another
 
-pub put_keeps_length : (out out' : List ℕ) (at end most : ℕ) (vs : List ℕ) → Put out at vs most out' end → length out' ≡ length out
-put_keeps_length out out' at end most vs p = sets_keep_length out out' at vs p.stored
-
-pub room_for_first : (out : List ℕ) (at : ℕ) → Room out at 22 → Room out at 11
-room_for_first out at p = record { room = omega (arith, p.room) }
-
-pub room_for_half : (out : List ℕ) (at : ℕ) → Room out at line_limit → Room out at 22
-room_for_half out at p = record { room = omega (arith, p.room) }
-
 module _ (out out₁ : List ℕ) (at at₁ : ℕ) (vs : List ℕ) where
-  pub room_for_second : Put out at vs 11 out₁ at₁ → Room out at 22 → Room out₁ at₁ 11
-  room_for_second q p = record { room = omega (arith, p.room, q.near, put_keeps_length out out₁ at at₁ 11 vs q) }
-
-  pub room_for_other_half : Put out at vs 22 out₁ at₁ → Room out at line_limit → Room out₁ at₁ 22
-  room_for_other_half q p = record { room = omega (arith, p.room, q.near, put_keeps_length out out₁ at at₁ 22 vs q) }
-
   -- what is stored behind something stored
   put_behind : (out₂ : List ℕ) (at₂ k : ℕ) (ws : List ℕ) → Put out at vs k out₁ at₁ → Put out₁ at₁ ws k out₂ at₂ → Put out at (vs ++ ws) (2 * k) out₂ at₂
   put_behind out₂ at₂ k ws p q =
@@ -198,46 +154,4 @@ module _ (out out₁ out₂ : List ℕ) (at at₁ at₂ a b : ℕ) where
     pub line_stored : out₂ ≡ sets out at (line_bytes a b c d)
     line_stored = whole.stored ∙ ap (λ (l : List ℕ). sets out at l) (sym (line_is_halves a b c d))
 
--- ---- the line, or no room for it
-
-module _ (bytes at : ℕ) where
-  pub behind_the_end : bytes < at → false ≡ line_fits bytes at
-  unfolding line_fits
-  behind_the_end h = sym (lt-leb (at + line_limit) bytes (omega arith))
-
-  pub enough_left : at ≤ bytes → leb line_limit (bytes - at) ≡ line_fits bytes at
-  unfolding line_fits
-  enough_left l = go (leb line_limit (bytes - at)) refl
-    where
-      go : (b : Bool) → leb line_limit (bytes - at) ≡ b → b ≡ leb (at + line_limit) bytes
-      go true e =
-          let h : line_limit ≤ bytes - at = leb-true line_limit (bytes - at) e in
-          sym (le-leb (at + line_limit) bytes (omega arith))
-      go false e =
-          let h : bytes - at < line_limit = leb-false line_limit (bytes - at) e in
-          sym (lt-leb (at + line_limit) bytes (omega arith))
-
--- `line_into` by what `line_fits` says
-module _ (out : List ℕ) (at number refusal value count : ℕ) (r : Bool) (is : r ≡ line_fits (length out) at) where
-  pub no_room_answered : not r ≡ true → place_said NoRoom ≡ line_answer out at number refusal value count
-  unfolding line_answer place_said
-  no_room_answered h = rw (sym is ∙ not-true r h)
-
-  pub no_room_untouched : not r ≡ true → out ≡ line_left out at number refusal value count
-  unfolding line_left
-  no_room_untouched h = rw (sym is ∙ not-true r h)
-
-  module _ (h : not r ≡ false) where
-    pub end_answered : (end : ℕ) → end ≡ at + length (line_bytes number refusal value count) → place_said (End end) ≡ line_answer out at number refusal value count
-    unfolding line_answer place_said
-    end_answered end e = rw (sym is ∙ not-false r h, e)
-
-    pub line_left_lem : (out' : List ℕ) → out' ≡ sets out at (line_bytes number refusal value count) → out' ≡ line_left out at number refusal value count
-    unfolding line_left
-    line_left_lem out' e = e ∙ rw (sym is ∙ not-false r h)
-
-pub room_for_line : (out : List ℕ) (at : ℕ) (r : Bool) → r ≡ line_fits (length out) at → not r ≡ false → Room out at line_limit
-unfolding line_fits
-room_for_line out at r is h = record { room = leb-true (at + line_limit) (length out) (sym is ∙ not-false r h) }
-
-pub ruleset line_laws = (width_one, width_two, width_three, width_four, width_above_four, width_above_eight, width_short, second_place, pair_stored, storing_begins, pair_before, room_for_pair, storing_more, room_for_first_digit, first_digit_stored, room_for_first_pair, first_pair_stored, one_digit_place, one_digit_stored, one_digit_near, digits_near, room_for_digits, sets_keep_length, room_for_number, room_for_byte, field_put, field_keeps_length, put_keeps_length, room_for_first, room_for_second, room_for_half, room_for_other_half, half_put, line_end, line_stored, behind_the_end, enough_left, no_room_answered, no_room_untouched, end_answered, line_left_lem, room_for_line, rules)
+pub ruleset line_laws = (width_one, width_two, width_three, width_four, width_above_four, width_above_eight, width_short, pair_stored, pair_before, room_for_pair, storing_more, room_for_first_digit, first_digit_stored, room_for_first_pair, first_pair_stored, one_digit_place, one_digit_stored, field_put, half_put, line_end, line_stored, rules)

@@ -1,11 +1,11 @@
 -- Document 01, "The step file and run program": the line of a record, and what writing one into lent memory answers and leaves. Assumes nothing.
 use Rattle.std.specs.Prelude.{ℕ, ◌+◌, Bool, cond, List, [], ◌∷◌, ◌++◌, length, leb}
+use Rattle.std.specs.Prelude.{Some, None}
+use Rattle.std.specs.Prelude as rust
 use Rattle.std.proofs.Math.Option.{Option, none, some}
 use Rattle.std.proofs.lemmas.List.Edits.{sets}
 use Rattle.limits.specs.Files.{line_limit}
 use Rattle.lines.specs.Decimal.{digits}
-use Rattle.lines.specs.declared.Placed.{Placed}
-use Rattle.lines.specs.declared.Placed.TheVariants.{End, NoRoom}
 
 -- "record number (opening 0), refusal or 0, value, count", with a space (32) between two and a line end (10) behind the last
 unfoldable pub line_bytes : ℕ → ℕ → ℕ → ℕ → List ℕ
@@ -33,9 +33,9 @@ line_answer out at number refusal value count =
     cond (line_fits (length out) at) (some (at + length (line_bytes number refusal value count))) none
 
 -- what each case of its answer says: a place, or none
-unfoldable pub place_said : Placed → Option ℕ
-place_said (End place) = some place
-place_said NoRoom = none
+unfoldable pub place_said : rust.Option ℕ → Option ℕ
+place_said (Some place) = some place
+place_said None = none
 
 -- what `line_into` leaves: the line from a place on, or all as it was
 unfoldable pub line_left : List ℕ → ℕ → ℕ → ℕ → ℕ → ℕ → List ℕ

@@ -8,3 +8,5 @@ pub mod Passing
 pub mod Stores
 pub mod Parts
 pub mod Until
+pub mod Chains
+pub mod Copies

@@ -24,16 +24,13 @@ use Rattle.layout.specs.inner.Needed.{MarksOf, LockMark}
 use Rattle.layout.proofs.MarkLaws.{holder_read, holder_written, awaited_written, turn_written}
 use Rattle.lock_line.specs.inner.Needed.{LineThere, InLine, Hands}
 use Rattle.lock_line.specs.inner.Effects.{MarksBecome}
-use Rattle.lock_line.proofs.Standing.{marks_in_line, lock_above, waits_is, not_in_line, turn_decides, next_in_line, next_fits, counted_none, counted_there, counted_all, counted_fits, counted_more, counted_whole, few_counted, none_first_yet, none_first_there, none_first_all, first_found, first_has_marks, none_first_more, nobody_found}
-use Rattle.lock_line.proofs.Moving.{turn_ends, turn_less, turn_stays, turn_moved, moving_begins, moving_in_line, moving_fits, moving_more, moving_whole, leaving_in_line, line_left_lem}
+use Rattle.lock_line.proofs.Standing.{marks_in_line, waits_is, turn_decides, next_in_line, counted_none, counted_fits, counted_more, counted_whole, few_counted, none_first_yet, first_found, first_has_marks, none_first_more, nobody_found}
+use Rattle.lock_line.proofs.Moving.{turn_ends, turn_less, turn_stays, turn_moved, moving_begins, moving_in_line, moving_more, moving_whole, leaving_in_line, line_left_lem}
 
 -- ---- the lock has a holder
 
 pub line_of_waiter : (m : List ℕ) (l p : ℕ) → InLine m l p → LineThere m l
 line_of_waiter m l p h = h.line
-
-pub line_of_handed : (m : List ℕ) (l : ℕ) → Hands m l → LineThere m l
-line_of_handed m l h = h.line
 
 pub lock_of_line : (m : List ℕ) (l : ℕ) → LineThere m l → LockMark m l
 lock_of_line m l h = record { marks = h.marks; lock = h.lock }
@@ -88,14 +85,11 @@ lock_number m l p h = omega (arith, h.line.lock)
 -- ---- a lock is handed on
 
 module _ (m : List ℕ) (l q : ℕ) (h : Hands m l) (e : q ≡ first_in_line (processor_count m) (marks_in mainframe m) l) (few : q ≤ processor_limit) where
-  pub nobody_first : q ≡ 0 → 0 ≡ first_in_line (processor_count m) (marks_in mainframe m) l
-  nobody_first z = sym z ∙ e
-
   -- where nobody waits the lock has no holder, and the lines stay
-  pub nobody_holds : (m' : List ℕ) → q ≡ 0 → m' ≡ set m (holder_place mainframe l) 0 → MarksBecome m m' (lock_handed (processor_count m) (marks_in mainframe m) l)
+  pub nobody_holds : (m₁ m₂ : List ℕ) → q ≡ 0 → m₁ ≡ m → m₂ ≡ set m₁ (holder_place mainframe l) q → MarksBecome m m₂ (lock_handed (processor_count m) (marks_in mainframe m) l)
   unfolding lock_handed without_waiter marks_in state_in mainframe put
-  nobody_holds m' z s =
-      rw (s, ← e, z)
+  nobody_holds m₁ m₂ z same s =
+      rw (s, same, ← e, z)
       (record {
         long = length-set m (holder_place mainframe l) 0 ∙ h.line.marks;
         is =
@@ -121,20 +115,15 @@ module _ (m : List ℕ) (l q : ℕ) (h : Hands m l) (e : q ≡ first_in_line (pr
     pub first_in_it : InLine m l q
     first_in_it = record { line = h.line; from = omega (arith, some); to = few }
 
-    module _ (m₁ : List ℕ) (left : MarksBecome m m₁ (without_waiter (marks_in mainframe m) l q)) where
-      pub left_lock : LockMark m₁ l
-      left_lock = record { marks = left.long; lock = h.line.lock }
+    -- it leaves the line and holds the lock
+    pub first_holds : (m₀ m₁ m₂ : List ℕ) → MarksBecome m m₀ (without_waiter (marks_in mainframe m) l q) → m₁ ≡ m₀ → m₂ ≡ set m₁ (holder_place mainframe l) q
+        → MarksBecome m m₂ (lock_handed (processor_count m) (marks_in mainframe m) l)
+    unfolding lock_handed state_in
+    first_holds m₀ m₁ m₂ left same s =
+        rw (s, same, ← e)
+        (record {
+          long = length-set m₀ (holder_place mainframe l) q ∙ left.long;
+          is = λ c w r. holder_written c w r m₀ q left.long l h.line.lock ∙ ap (λ (s : State). with_marks s (with_holder s.marks l q)) (left.is c w r);
+        })
 
-      -- it holds the lock
-      pub first_holds : (m₂ : List ℕ) → m₂ ≡ set m₁ (holder_place mainframe l) q → MarksBecome m m₂ (lock_handed (processor_count m) (marks_in mainframe m) l)
-      unfolding lock_handed state_in
-      first_holds m₂ s =
-          rw (s, ← e)
-          (record {
-            long = length-set m₁ (holder_place mainframe l) q ∙ left.long;
-            is =
-                λ c w r. holder_written c w r m₁ q left.long l h.line.lock
-                ∙ ap (λ (s : State). with_marks s (with_holder s.marks l q)) (left.is c w r);
-          })
-
-pub ruleset line_laws = (marks_in_line, lock_above, waits_is, not_in_line, turn_decides, next_in_line, next_fits, counted_none, counted_there, counted_all, counted_fits, counted_more, counted_whole, few_counted, none_first_yet, none_first_there, none_first_all, first_found, first_has_marks, none_first_more, nobody_found, turn_ends, turn_less, turn_stays, turn_moved, moving_begins, moving_in_line, moving_fits, moving_more, moving_whole, leaving_in_line, line_left_lem, line_of_waiter, line_of_handed, lock_of_line, free_asked, asker_holds, held_asked, asker_waits, asker_marked, lock_number, nobody_first, nobody_holds, first_in_it, left_lock, first_holds, rules)
+pub ruleset line_laws = (marks_in_line, waits_is, turn_decides, next_in_line, counted_none, counted_fits, counted_more, counted_whole, few_counted, none_first_yet, first_found, first_has_marks, none_first_more, nobody_found, turn_ends, turn_less, turn_stays, turn_moved, moving_begins, moving_in_line, moving_more, moving_whole, leaving_in_line, line_left_lem, line_of_waiter, lock_of_line, free_asked, asker_holds, held_asked, asker_waits, asker_marked, lock_number, nobody_holds, first_in_it, first_holds, rules)

@@ -11,8 +11,6 @@ use lib.ListN.{length, get_or, set, length-set}
 use lib.Seq.{get_or-set_other, get_or-set_same, ext_get_or}
 use lib.Dec.{eqb}
 use borrow.Author.Tests.{ne_eqb}
-use mir.Syntax.{w64}
-use mir.Val.{Fits}
 use Rattle.limits.specs.Limits.{processor_limit}
 use Rattle.limits.specs.inner.Sizes.{first_turn, mark_area, queue_first}
 use Rattle.lists.specs.Tables.{put, tabulate}
@@ -83,9 +81,6 @@ module _ (m₀ m : List ℕ) (l k : ℕ) (h : Moving m₀ m l k) where
         from = omega arith;
         to = omega arith;
       }
-
-  pub moving_fits : k < processor_limit → Fits w64 (k + 1)
-  moving_fits b = omega arith
 
   -- it gets its turn
   pub moving_more : (m' : List ℕ) → m' ≡ set m (turn_place mainframe (k + 1)) (turn_after m l (k + 1)) → k < processor_limit → Moving m₀ m' l (k + 1)

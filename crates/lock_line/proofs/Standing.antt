@@ -4,12 +4,12 @@ use Prim.Native.Nat.{ℕ, suc, ◌+◌, ◌≤◌, ◌<◌}
 use native.Mathlib.Numerals.{add-one}
 use native.Mathlib.Omega.{arith}
 use mathlib.Core.Path.{◌≡◌, refl, sym, ap, ◌∙◌}
-use mathlib.Core.Bool.{Bool, true, false, cond, not, ◌&&◌, false≢true}
+use mathlib.Core.Bool.{Bool, true, false, cond, ◌&&◌}
 use mathlib.Core.List.{List}
 use lib.ListN.{get_or}
 use lib.Dec.{eqb}
-use mir.Syntax.{w8, w64}
-use mir.Val.{Fits}
+use mir.Syntax.{w8}
+use mir.Val.{Fits, bool_byte}
 use Rattle.limits.specs.Limits.{processor_limit}
 use Rattle.lists.specs.Tables.{total, first_of}
 use Rattle.lists.proofs.Counting.{first_stays}
@@ -32,10 +32,6 @@ module _ (m : List ℕ) (l p : ℕ) (h : InLine m l p) where
   pub marks_in_line : MarksOf m p
   marks_in_line = record { marks = h.line.marks; from = h.from; to = h.to }
 
-  -- the lock's number plus 1 fits
-  pub lock_above : Fits w64 (l + 1)
-  lock_above = omega (arith, h.line.lock)
-
   -- the lock that it waits for
   pub awaited_is : get_or (marks_in mainframe m).awaited p 0 ≡ awaited_mark m p
   unfolding state_in
@@ -52,23 +48,10 @@ module _ (m : List ℕ) (l p : ℕ) (h : InLine m l p) where
   waits_is a e = rw (awaited_is, e.0, add-one l)
 
   module _ (b : Bool) (w : b ≡ waits_for (marks_in mainframe m) p l) where
-    -- who does not wait does not stand first
-    pub not_in_line : not b ≡ true → false ≡ (waits_for (marks_in mainframe m) p l && eqb (turn_of (marks_in mainframe m) p) 0)
-    not_in_line t = rw (← w) (go b t)
-      where
-        go : (x : Bool) → not x ≡ true → false ≡ (x && eqb (turn_of (marks_in mainframe m) p) 0)
-        go false e = refl
-        go true e = absurd (false≢true e)
-
     -- of who waits the turn decides
-    pub turn_decides : (t : ℕ) → not b ≡ false → (t ≡ turn_mark m p) × (t < 256)
-        → eqb t 0 ≡ (waits_for (marks_in mainframe m) p l && eqb (turn_of (marks_in mainframe m) p) 0)
+    pub turn_decides : (t : ℕ) → b ≡ true → (t ≡ turn_mark m p) × (t < 256) → eqb t 0 ≡ (waits_for (marks_in mainframe m) p l && eqb (turn_of (marks_in mainframe m) p) 0)
     unfolding turn_of
-    turn_decides t n e = rw (← w, turn_is, e.0) (go b n)
-      where
-        go : (x : Bool) → not x ≡ false → eqb (turn_mark m p) 0 ≡ (x && eqb (turn_mark m p) 0)
-        go true e = refl
-        go false e = absurd (false≢true (sym e))
+    turn_decides t y e = rw (← w, y, turn_is, e.0)
 
 -- ---- the first k processors
 
@@ -76,9 +59,6 @@ module _ (m : List ℕ) (l p : ℕ) (h : InLine m l p) where
 module _ (m : List ℕ) (l n k : ℕ) (there : LineThere m l) (count : (n ≡ processor_count m) × (n < 256)) (b : k < n) where
   pub next_in_line : InLine m l (k + 1)
   next_in_line = record { line = there; from = omega arith; to = omega (arith, there.processors, count.0) }
-
-  pub next_fits : Fits w64 (k + 1)
-  next_fits = omega (arith, count.1)
 
 -- 1 for a processor that waits for lock l
 abbrev one : List ℕ → ℕ → ℕ → ℕ
@@ -98,13 +78,21 @@ unfolding total
 counted_none m l n h e = record { there = h; all = e; upto = omega arith; few = omega arith; same = refl }
 
 module _ (m : List ℕ) (l n count k : ℕ) (h : LineCounted m l n count k) where
-  pub counted_there : LineThere m l
-  counted_there = h.there
+  module _ (b : Bool) (f : ℕ) (u : k < n) (w : b ≡ waits_for (marks_in mainframe m) (k + 1) l) (e : f ≡ bool_byte b) where
+    counts_one : f ≡ cond b 1 0
+    counts_one = e ∙ go b
+      where
+        go : (x : Bool) → bool_byte x ≡ cond x 1 0
+        go true = refl
+        go false = refl
 
-  pub counted_all : (n ≡ processor_count m) × (n < 256)
-  counted_all = h.all
+    at_most_one : f ≤ 1
+    at_most_one = rw counts_one (go b)
+      where
+        go : (x : Bool) → cond x 1 0 ≤ 1
+        go true = omega arith
+        go false = omega arith
 
-  module _ (b : Bool) (f : ℕ) (u : k < n) (w : b ≡ waits_for (marks_in mainframe m) (k + 1) l) (e : f ≡ cond b 1 0) (at_most_one : f ≤ 1) where
     pub counted_fits : Fits w8 (count + f)
     counted_fits = omega (arith, h.few, h.all.1, u, at_most_one)
 
@@ -112,7 +100,7 @@ module _ (m : List ℕ) (l n count k : ℕ) (h : LineCounted m l n count k) wher
     pub counted_more : LineCounted m l n (count + f) (k + 1)
     unfolding total
     counted_more =
-        let one_more : f ≡ one m l k = e ∙ ap (λ (x : Bool). cond x 1 0) (w ∙ ap (λ (j : ℕ). waits_for (marks_in mainframe m) j l) (add-one k)) in
+        let one_more : f ≡ one m l k = counts_one ∙ ap (λ (x : Bool). cond x 1 0) (w ∙ ap (λ (j : ℕ). waits_for (marks_in mainframe m) j l) (add-one k)) in
         record {
           there = h.there;
           all = h.all;
@@ -122,14 +110,14 @@ module _ (m : List ℕ) (l n count k : ℕ) (h : LineCounted m l n count k) wher
         }
 
   -- all are counted
-  pub counted_whole : (r : ℕ) → n ≤ k → (r ≡ count) × (r < 256) → r ≡ in_line (processor_count m) (marks_in mainframe m) l
+  pub counted_whole : (r : ℕ) → n ≤ k → r ≡ count → r ≡ in_line (processor_count m) (marks_in mainframe m) l
   unfolding in_line
   counted_whole r b is =
       let e : k ≡ processor_count m = omega (arith, b, h.upto, h.all.0) in
-      is.0 ∙ h.same ∙ ap (λ (j : ℕ). total j (one m l)) e
+      is ∙ h.same ∙ ap (λ (j : ℕ). total j (one m l)) e
 
-  pub few_counted : (r : ℕ) → (r ≡ count) × (r < 256) → r ≤ processor_limit
-  few_counted r is = omega (arith, is.0, h.few, h.upto, h.all.0, h.there.processors)
+  pub few_counted : (r : ℕ) → r ≡ count → r ≤ processor_limit
+  few_counted r is = omega (arith, is, h.few, h.upto, h.all.0, h.there.processors)
 
 -- who waits for lock l with nobody before it
 abbrev first : List ℕ → ℕ → ℕ → Bool
@@ -148,12 +136,6 @@ unfolding first_of
 none_first_yet m l n h e = record { there = h; all = e; upto = omega arith; none = refl }
 
 module _ (m : List ℕ) (l n k : ℕ) (h : NoneFirst m l n k) where
-  pub none_first_there : LineThere m l
-  none_first_there = h.there
-
-  pub none_first_all : (n ≡ processor_count m) × (n < 256)
-  none_first_all = h.all
-
   module _ (b : Bool) (u : k < n) (e : b ≡ (waits_for (marks_in mainframe m) (k + 1) l && eqb (turn_of (marks_in mainframe m) (k + 1)) 0)) where
     decides : first m l k ≡ b
     decides = ap (λ (j : ℕ). waits_for (marks_in mainframe m) j l && eqb (turn_of (marks_in mainframe m) j) 0) (sym (add-one k)) ∙ sym e

@@ -15,27 +15,28 @@ use clock::ProcessorId;
 use layout::marks::{
     awaited_of, holder_of, processor_count, put_awaited, put_holder, put_turn, turn_of,
 };
-use layout::{flag, wide};
 use limits::PROCESSOR_LIMIT;
 
 // A processor asks for a lock: a free one is its own then, for one that is held it waits. Whether the lock was free.
+#[tactic(auto, using(crate::proofs::Handing::line_laws))]
 pub fn ask(marks: &mut [u8], lock: usize, p: ProcessorId) -> bool
     requires { InLine marks.old lock p.0 }
     ensures value { result ≡ eqb (holder_mark marks.old lock) 0 }
     ensures marks_become { MarksBecome marks.old marks.new (lock_asked (processor_count marks.old) (marks_in mainframe marks.old) lock p.0) }
 {
-    let holder = holder_of(marks, lock);
-    if holder.0 == 0 {
+    if holder_of(marks, lock).0 == 0 {
         put_holder(marks, lock, p);
-        return true;
+        true
+    } else {
+        let before = in_line(marks, lock);
+        put_awaited(marks, p, lock + 1);
+        put_turn(marks, p, before);
+        false
     }
-    let before = in_line(marks, lock);
-    put_awaited(marks, p, lock + 1);
-    put_turn(marks, p, before);
-    false
 }
 
 // A lock goes to the longest waiter, and the others move up; where nobody waits it is free. Who has it then.
+#[tactic(auto, using(crate::proofs::Handing::line_laws))]
 pub fn hand_on(marks: &mut [u8], lock: usize) -> ProcessorId
     requires { Hands marks.old lock }
     ensures result_value { result.0 ≡ first_in_line (processor_count marks.old) (marks_in mainframe marks.old) lock }
@@ -43,44 +44,37 @@ pub fn hand_on(marks: &mut [u8], lock: usize) -> ProcessorId
     ensures marks_become { MarksBecome marks.old marks.new (lock_handed (processor_count marks.old) (marks_in mainframe marks.old) lock) }
 {
     let first = first_in_line(marks, lock);
-    if first.0 == 0 {
-        put_holder(marks, lock, ProcessorId(0));
-        return ProcessorId(0);
+    if first.0 != 0 {
+        leave_line(marks, lock, first);
     }
-    leave_line(marks, lock, first);
     put_holder(marks, lock, first);
     first
 }
 
-// How many wait for a lock.
+// How many wait for a lock, counted in a byte without a branch.
 fn in_line(marks: &[u8], lock: usize) -> usize
     requires { LineThere marks.now lock }
     ensures value { result ≡ in_line (processor_count marks.now) (marks_in mainframe marks.now) lock }
     ensures upper_bound { result ≤ processor_limit }
 {
-    let n = processor_count(marks);
     let mut count: u8 = 0;
-    let mut k: usize = 0;
-    while k < n {
-        count = count + flag(waits_for(marks, ProcessorId(k + 1), lock));
-        k = k + 1;
+    for k in 0..processor_count(marks) {
+        count += u8::from(waits_for(marks, ProcessorId(k + 1), lock));
     }
-    wide(count)
+    usize::from(count)
 }
 
 // Who has waited longest for a lock; 0 is nobody.
+#[tactic(auto, using(crate::proofs::Handing::line_laws))]
 fn first_in_line(marks: &[u8], lock: usize) -> ProcessorId
     requires { LineThere marks.now lock }
     ensures result_value { result.0 ≡ first_in_line (processor_count marks.now) (marks_in mainframe marks.now) lock }
     ensures result_le_processor_limit { result.0 ≤ processor_limit }
 {
-    let n = processor_count(marks);
-    let mut k: usize = 0;
-    while k < n {
+    for k in 0..processor_count(marks) {
         if stands_first(marks, ProcessorId(k + 1), lock) {
             return ProcessorId(k + 1);
         }
-        k = k + 1;
     }
     ProcessorId(0)
 }
@@ -99,10 +93,7 @@ fn stands_first(marks: &[u8], p: ProcessorId, lock: usize) -> bool
     requires { InLine marks.now lock p.0 }
     ensures { result ≡ (waits_for (marks_in mainframe marks.now) p.0 lock && eqb (turn_of (marks_in mainframe marks.now) p.0) 0) }
 {
-    if !waits_for(marks, p, lock) {
-        return false;
-    }
-    turn_of(marks, p) == 0
+    waits_for(marks, p, lock) && turn_of(marks, p) == 0
 }
 
 // The waiters of a lock move up, and one of them leaves its line.
@@ -115,14 +106,13 @@ fn leave_line(marks: &mut [u8], lock: usize, p: ProcessorId)
 }
 
 // Every turn in the line of a lock becomes one less.
+#[tactic(auto, using(crate::proofs::Handing::line_laws))]
 fn move_up(marks: &mut [u8], lock: usize)
     requires { LineThere marks.old lock }
     ensures { MarksBecome marks.old marks.new (line_moved_up (marks_in mainframe marks.old) lock) }
 {
-    let mut k: usize = 0;
-    while k < PROCESSOR_LIMIT {
+    for k in 0..PROCESSOR_LIMIT {
         move_one(marks, lock, ProcessorId(k + 1));
-        k = k + 1;
     }
 }
 
@@ -136,17 +126,16 @@ fn move_one(marks: &mut [u8], lock: usize, p: ProcessorId)
 }
 
 // The turn of a processor when the waiters of a lock move up.
+#[tactic(auto, using(crate::proofs::Handing::line_laws))]
 fn turn_after(marks: &[u8], p: ProcessorId, lock: usize) -> usize
     requires { InLine marks.now lock p.0 }
     ensures value { result ≡ turn_after marks.now lock p.0 }
     ensures upper_bound { result < 256 }
 {
     let turn = turn_of(marks, p);
-    if turn == 0 {
-        return 0;
+    if turn != 0 && waits_for(marks, p, lock) {
+        turn - 1
+    } else {
+        turn
     }
-    if waits_for(marks, p, lock) {
-        return turn - 1;
-    }
-    turn
 }

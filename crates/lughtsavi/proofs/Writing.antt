@@ -8,16 +8,16 @@ use mathlib.Core.List.{List}
 use lib.ListN.{length}
 use lib.Dec.{eqb, ltb}
 use borrow.Author.Tests.{eqb-true, eqb-false, eq-eqb, ne_eqb}
-use borrow.Author.Rules.{rules}
+use Rattle.std.specs.Prelude.{Ok, Err}
+use Rattle.limits.specs.declared.Refusal.{Refusal}
 use Rattle.limits.specs.Limits.{page_width, word_values}
+use Rattle.limits.specs.Refused.{number_of}
+use Rattle.limits.proofs.Refused.{number_of_pos}
 use Rattle.limits.specs.inner.Sizes.{diff_limit}
 use Rattle.diff.specs.Format.{written}
 use Rattle.diff.proofs.Theorems.{at_most_131_bytes}
-use Rattle.diff_writer.specs.Answers.{write_refusal, WriteAnswer, write_answer, said_by, was_written, Says}
-use Rattle.diff_writer.specs.declared.Written.{Written}
-use Rattle.diff_writer.specs.declared.Written.TheVariants.{Length, Refused}
+use Rattle.diff_writer.specs.Answers.{write_refusal, write_answer, said_by, Says}
 use Rattle.lughtsavi.specs.Numbers.{write_return}
-use Rattle.lughtsavi.specs.inner.Needed.{written_number}
 
 -- ---- a length and a refusal are not mistaken for one another
 
@@ -63,37 +63,21 @@ module _ (old new out : List ℕ) where
       go true e = omega (arith, written_at_most_131 (eqb-true _ _ e))
       go false e = omega (arith, refused_from_256 (eqb-false _ _ e), refusal_at_most_14)
 
--- ---- the number of what `write` answers
-
-number_returned : (x : Written) (a : WriteAnswer) → Says x a → written_number x ≡ write_return a
-unfolding written_number write_return said_by was_written
-number_returned (Length n) a h = ap (λ (b : WriteAnswer). write_return b) h.numbers
-number_returned (Refused n) a h = sym (rw (← h.accepted) (ap (λ (b : WriteAnswer). 256 + b.refusal) (sym h.numbers)))
-
 -- ---- the ways of the code
 
-module _ (x : Written) where
-  -- what is written has a number of 32 bits
-  pub written_small : (old new out : List ℕ) → Says x (write_answer page_width old new out) → written_number x < word_values
-  written_small old new out h = rw (number_returned x (write_answer page_width old new out) h) (answer_small old new out)
+module _ (old new out : List ℕ) (n : ℕ) where
+  -- a length
+  pub length_returned : Says (Ok n) (write_answer page_width old new out) → n ≡ write_return (write_answer page_width old new out)
+  unfolding said_by write_return
+  length_returned is = ap write_return is.numbers
 
-  module _ (n : ℕ) where
-    -- a length
-    pub length_small : written_number x < word_values → x ≡ Length n → n < word_values
-    unfolding written_number
-    length_small h e = rw e at h
+  -- it has 32 bits
+  pub length_small : Says (Ok n) (write_answer page_width old new out) → n < word_values
+  length_small is = rw (length_returned is) (answer_small old new out)
 
-    pub length_numbered : x ≡ Length n → n ≡ written_number x
-    unfolding written_number
-    length_numbered e = rw e
+  -- a refusal
+  pub refusal_returned : (u : Refusal) → Says (Err u) (write_answer page_width old new out) → n ≡ 256 + number_of u → n ≡ write_return (write_answer page_width old new out)
+  unfolding said_by write_return
+  refusal_returned u is e = e ∙ sym (rw (← is.numbers) (rw (ne_eqb (number_of u) 0 (number_of_pos u))))
 
-    -- a refusal
-    pub refusal_numbered : (m : ℕ) → x ≡ Refused n → (m ≡ n) × (m < 256) → 256 + m ≡ written_number x
-    unfolding written_number
-    refusal_numbered m e w = rw (e, w.0)
-
-    -- the number of the answer
-    pub answer_numbered : (old new out : List ℕ) → Says x (write_answer page_width old new out) → n ≡ written_number x → n ≡ write_return (write_answer page_width old new out)
-    answer_numbered old new out h k = k ∙ number_returned x (write_answer page_width old new out) h
-
-pub ruleset writing_laws = (written_small, length_small, length_numbered, refusal_numbered, answer_numbered, rules)
+pub ruleset writing_laws = (length_returned, length_small)

@@ -4,9 +4,9 @@
 // by an equation with a definition of the crate that does the work, or of specs/Numbers.antt.
 #![tactic(auto)]
 
-ghost use Rattle.std.specs.Prelude.{◌≡◌, ◌∷◌, [], ◌<◌, length};
-ghost use Rattle.limits.specs.Files.{answer_width};
+ghost use Rattle.std.specs.Prelude.{◌≡◌, ◌+◌};
 ghost use Rattle.limits.specs.Limits.{page_width};
+ghost use Rattle.limits.specs.Refused.{number_of, refusal_in};
 ghost use Rattle.diff.specs.Reading.{read_refusal};
 ghost use Rattle.diff.specs.Answers.{page_after};
 ghost use Rattle.diff_writer.specs.Answers.{write_answer, out_after};
@@ -16,11 +16,9 @@ ghost use Rattle.inorder.specs.Areas.{areas_in_order};
 ghost use Rattle.opening.specs.Promises.{open_refusal, areas_opened};
 ghost use Rattle.run_list.specs.Runs.{Ran};
 ghost use Rattle.lughtsavi.specs.Numbers.{step_return, slices, slices_after, write_return, apply_return};
-ghost use Rattle.lughtsavi.specs.inner.Needed.{ToldAs, written_number};
 
-use diff_writer::Written;
-use limits::ANSWER_WIDTH;
-use step_act::Outcome;
+use limits::{ANSWER_WIDTH, Refusal};
+use step_fields::Step;
 
 // Opens a mainframe: 1 for areas of a wrong size, 2 for an opening that is not eight bytes or does not fit, else 0, and the areas
 // are exactly the opened state, whatever they held.
@@ -34,7 +32,7 @@ pub fn lughtsavi_open(
     ensures answer { result ≡ open_refusal opening.now (areas clocks.old words.old records.old marks.old) }
     ensures memory { areas clocks.new words.new records.new marks.new ≡ areas_opened opening.now (areas clocks.old words.old records.old marks.old) }
 {
-    opening::open_mainframe(opening, clocks, words, records, marks)
+    limits::refusal_or_0(opening::open_mainframe(opening, clocks, words, records, marks))
 }
 
 // Whether the areas have the fixed sizes and hold a state in order.
@@ -46,6 +44,7 @@ pub fn lughtsavi_in_order(clocks: &[u8], words: &[u32], records: &[u8], marks: &
 
 // A step: the refusal, or 0, and in the four words of `answer` refusal, value, count and words. An answer that has not four words gets 1,
 // and every slice is left as it was.
+#[tactic(auto, using(crate::proofs::Telling::telling_laws))]
 pub fn lughtsavi_step(
     kind: u32,
     processor: u32,
@@ -63,42 +62,16 @@ pub fn lughtsavi_step(
     if answer.len() != ANSWER_WIDTH {
         return 1;
     }
-    let outcome = engine::step(
-        kind, processor, object, value, clocks, words, records, marks,
-    );
-    tell(outcome, answer)
-}
-
-// An outcome's refusal, or 0, and its four numbers in the answer.
-fn tell(outcome: Outcome, answer: &mut [u32]) -> u8
-    requires { length answer.old ≡ answer_width }
-    ensures { ToldAs outcome result answer.new }
-{
-    match outcome {
-        Outcome::Done {
-            value,
-            count,
-            words,
-        } => {
-            lay(answer, 0, value, count, words);
-            0
-        }
-        Outcome::Refused(refusal) => {
-            lay(answer, wide(refusal), 0, 0, 0);
-            refusal
-        }
-    }
-}
-
-// Four numbers laid into the answer.
-fn lay(answer: &mut [u32], refusal: u32, value: u32, count: u32, words: u32)
-    requires { length answer.old ≡ answer_width }
-    ensures { answer.new ≡ refusal ∷ value ∷ count ∷ words ∷ [] }
-{
-    answer[0] = refusal;
-    answer[1] = value;
-    answer[2] = count;
-    answer[3] = words;
+    let step = Step {
+        kind,
+        processor,
+        object,
+        value,
+    };
+    let outcome = engine::step(step, clocks, words, records, marks);
+    let told = step_record::answer_words(outcome);
+    answer.copy_from_slice(&told);
+    limits::refusal_or_0(outcome)
 }
 
 // Runs an opening and the step records behind it, eight bytes each, and writes four words for each record into `answers`: refusal, value,
@@ -118,22 +91,14 @@ pub fn lughtsavi_run(
 }
 
 // Writes what turns the page `old` into the page `new` as a diff at the start of `out`: its length in bytes, or 256 + the refusal.
+#[tactic(auto, using(crate::proofs::Writing::writing_laws))]
 pub fn lughtsavi_diff_write(old: &[u32], new: &[u32], out: &mut [u8]) -> u32
     ensures answer { result ≡ write_return (write_answer page_width old.now new.now out.old) }
     ensures memory { out.new ≡ out_after page_width old.now new.now out.old }
 {
-    let written = diff_writer::write(old, new, out);
-    number(written)
-}
-
-// What writing a diff answered, as one number.
-fn number(written: Written) -> u32
-    requires { written_number written < 4294967296 }
-    ensures { result ≡ written_number written }
-{
-    match written {
-        Written::Length(length) => length as u32,
-        Written::Refused(refusal) => 256 + wide(refusal),
+    match diff_writer::write(old, new, out) {
+        Ok(length) => length as u32,
+        Err(refusal) => refusal_from_256(refusal),
     }
 }
 
@@ -141,23 +106,24 @@ fn number(written: Written) -> u32
 pub fn lughtsavi_diff_check(bytes: &[u8]) -> u8
     ensures { result ≡ read_refusal page_width bytes.now }
 {
-    diff::check(bytes)
+    limits::refusal_or_0(diff::check(bytes))
 }
 
 // Carries a diff out on a page: how many words it set, or 256 + the refusal.
+#[tactic(auto, using(crate::proofs::Telling::telling_laws))]
 pub fn lughtsavi_diff_apply(bytes: &[u8], page: &mut [u32]) -> u32
     ensures answer { result ≡ apply_return page_width bytes.now page.old }
     ensures memory { page.new ≡ page_after page_width bytes.now page.old }
 {
-    let applied = diff::apply(bytes, page);
-    if applied.refusal != 0 {
-        return 256 + wide(applied.refusal);
+    match diff::apply(bytes, page) {
+        Ok(words) => words,
+        Err(refusal) => refusal_from_256(refusal),
     }
-    applied.words
 }
 
-fn wide(x: u8) -> u32
-    ensures { (result ≡ x) × (result < 256) }
+// A refusal beside lengths and counts, which are all below 256.
+fn refusal_from_256(refusal: Refusal) -> u32
+    ensures { result ≡ 256 + number_of refusal }
 {
-    x as u32
+    256 + u32::from(refusal.number())
 }

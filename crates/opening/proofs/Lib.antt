@@ -1,3 +1,4 @@
 pub mod OpeningTests
 pub mod Opening
 pub mod Following
+pub mod Copies

@@ -53,10 +53,6 @@ behind_other k e = rw (← add-one k, ne_eqb (k + 1) job_limit e)
 -- ---- a job added
 
 module _ (m : List ℕ) (h : RoomThere m) (jobs : ℕ) (j : (jobs ≡ jobs_mark m) × (jobs < 256)) where
-  -- there is room for it
-  pub added_fits : (length m ≡ mark_area) × (jobs + 1 ≤ job_limit)
-  added_fits = (h.marks, omega (arith, j.0, h.room))
-
   -- one more waits
   pub job_added_lem : (m' : List ℕ) → m' ≡ set m (jobs_place mainframe) (jobs + 1) → JobAdded m m'
   unfolding job_added
@@ -72,17 +68,9 @@ module _ (m : List ℕ) (h : RoomThere m) (jobs : ℕ) (j : (jobs ≡ jobs_mark 
 -- ---- the oldest job removed
 
 module _ (m : List ℕ) (h : JobThere m) where
-  -- it has a place
-  pub first_placed : (first : ℕ) → (first ≡ first_mark m) × (first < 256) → first < job_limit
-  first_placed first f = omega (arith, f.0, h.first)
-
   module _ (m₁ : List ℕ) (next : ℕ) (e₁ : m₁ ≡ set m (first_place mainframe) next) where
     long : length m₁ ≡ mark_area
     long = ap length e₁ ∙ length-set m (first_place mainframe) next ∙ h.marks
-
-    -- fewer wait
-    pub removed_fits : (jobs : ℕ) → (jobs ≡ jobs_mark m) × (jobs < 256) → (length m₁ ≡ mark_area) × (jobs - 1 ≤ job_limit)
-    removed_fits jobs j = (long, omega (arith, j.0, h.few))
 
     -- the one behind it is the oldest
     pub job_removed_lem : (m₂ : List ℕ) (first jobs : ℕ) → m₂ ≡ set m₁ (jobs_place mainframe) (jobs - 1) → next ≡ place_behind mainframe first → first ≡ first_mark m → jobs ≡ jobs_mark m
@@ -99,4 +87,4 @@ module _ (m : List ℕ) (h : JobThere m) where
               ∙ ap (λ (x : ℕ). with_marks s (with_queue s.marks (place_behind mainframe s.marks.first) (x - 1))) (j ∙ sym (jobs_read c w r m));
         }
 
-pub ruleset ring_laws = (free_before_end, free_behind_end, behind_last, behind_other, added_fits, job_added_lem, first_placed, removed_fits, job_removed_lem, rules)
+pub ruleset ring_laws = (free_before_end, free_behind_end, behind_last, behind_other, job_added_lem, job_removed_lem, rules)

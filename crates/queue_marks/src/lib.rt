@@ -13,26 +13,26 @@ use layout::marks::{first_job, job_count, put_first_job, put_job_count};
 use limits::JOB_LIMIT;
 
 // The place for the next job: as far behind the oldest one's as there are jobs.
+#[tactic(auto, using(crate::proofs::Ringing::ring_laws))]
 pub fn free_place(marks: &[u8]) -> usize
     requires { RoomThere marks.now }
     ensures { FreePlace marks.now result }
 {
     let place = first_job(marks) + job_count(marks);
     if place < JOB_LIMIT {
-        return place;
+        place
+    } else {
+        place - JOB_LIMIT
     }
-    place - JOB_LIMIT
 }
 
 // The place behind another; behind the last one lies the first.
+#[tactic(auto, using(crate::proofs::Ringing::ring_laws))]
 pub fn next_place(place: usize) -> usize
     requires { place < job_limit }
     ensures { (result ≡ place_behind mainframe place) × (result < job_limit) }
 {
-    if place + 1 == JOB_LIMIT {
-        return 0;
-    }
-    place + 1
+    if place + 1 == JOB_LIMIT { 0 } else { place + 1 }
 }
 
 // One job more waits.

@@ -1,5 +1,6 @@
 -- The dirty pages are counted mark by mark; and a bound without counting. Assumes nothing.
-use Rattle.std.proofs.Common.{◌≡◌, ℕ, zero, suc, ◌+◌, ◌*◌, ◌<◌, ◌≤◌, Bool, true, false, cond, not, eqb, ltb, leb, List, length, get_or, refl, ap, ◌∙◌, suc-mul, mul-le-mul, add-one, arith, w64, Fits, le-ltb}
+use Rattle.std.proofs.Common.{◌≡◌, ℕ, zero, suc, ◌+◌, ◌*◌, ◌<◌, ◌≤◌, Bool, true, false, cond, not, eqb, ltb, leb, List, get_or, refl, ap, ◌∙◌, suc-mul, add-one, arith, le-ltb}
+use mir.Val.{bool_byte}
 use mathlib.Core.Bool.{and-false}
 use borrow.Author.Tests.{lt-leb}
 use Rattle.lists.specs.Tables.{total}
@@ -33,15 +34,16 @@ unfolding total
 counting_begins m h = record { counted = h; upto = omega arith; few = omega arith; same = refl }
 
 module _ (m : List ℕ) (sum k : ℕ) (h : MarksCounted m sum k) (l : k < copy_limit) where
-  -- the next has its place
-  pub counting_next : first_dirty + k < length m
-  counting_next = omega (arith, h.counted.marks)
-
-  -- and counts 1 or 0
-  pub counting_more : (r : ℕ) → r ≡ cond (not (eqb (get_or m (first_dirty + k) 0) 0)) 1 0 → r ≤ 1 → MarksCounted m (sum + r) (k + 1)
+  -- the next counts 1 or 0
+  pub counting_more : (r : ℕ) → r ≡ bool_byte (not (eqb (get_or m (first_dirty + k) 0) 0)) → MarksCounted m (sum + r) (k + 1)
   unfolding total mark_at
-  counting_more r e f =
-      record { counted = h.counted; upto = omega arith; few = omega (arith, h.few, f); same = rw (add-one k, ← h.same, e) }
+  counting_more r e =
+      let is = flag (not (eqb (get_or m (first_dirty + k) 0) 0)) in
+      record { counted = h.counted; upto = omega arith; few = omega (arith, h.few, e, is.1); same = rw (add-one k, ← h.same, ← is.0, e) }
+    where
+      flag : (b : Bool) → (bool_byte b ≡ cond b 1 0) × (bool_byte b ≤ 1)
+      flag true = (refl, omega arith)
+      flag false = (refl, omega arith)
 
 -- the k-th mark is that of page k % 8 of processor k / 8 + 1
 module _ (m : List ℕ) where
@@ -81,14 +83,10 @@ module _ (m : List ℕ) where
         ∙ total_of_fewer (processor_count m) processor_limit (λ i. total (page_count m) (dirty i)) h.processors (λ i l b. total_zero (page_count m) (dirty i) (λ g k. no_processor i g l))
 
 -- all are counted
-pub counting_ends : (m : List ℕ) (sum k x : ℕ) → MarksCounted m sum k → copy_limit ≤ k → (x ≡ sum) × (x < 256) → x ≡ dirty_pages (seen m)
+pub counting_ends : (m : List ℕ) (sum k x : ℕ) → MarksCounted m sum k → copy_limit ≤ k → x ≡ sum → x ≡ dirty_pages (seen m)
 counting_ends m sum k x h l e =
     let all : k ≡ copy_limit = omega (arith, h.upto) in
-    e.0 ∙ h.same ∙ ap (λ (j : ℕ). total j (mark_at m)) all ∙ marks_are_pages m h.counted
-
--- they are at most 64
-pub few_counted : (m : List ℕ) (sum k x : ℕ) → MarksCounted m sum k → (x ≡ sum) × (x < 256) → x ≤ copy_limit
-few_counted m sum k x h e = omega (arith, e.0, h.few, h.upto)
+    e ∙ h.same ∙ ap (λ (j : ℕ). total j (mark_at m)) all ∙ marks_are_pages m h.counted
 
 -- records and dirty pages together
 pub records_to_come_are : (m : List ℕ) (a b : ℕ) → (a ≡ standing_count m) × (a < 65536) → b ≡ dirty_pages (seen m) → a + b ≡ records_to_come (seen m)
@@ -115,20 +113,8 @@ few_records_to_come s = omega (arith, sum_at_most s.counts.processors s.counts.p
     of_one : (k : ℕ) → total s.counts.pages (λ g. cond (dirty_at s.pages (suc k) g) 1 0) ≤ s.counts.pages
     of_one k = omega (arith, sum_at_most s.counts.pages 1 _ (λ g. flag (dirty_at s.pages (suc k) g)))
 
-module _ (m : List ℕ) (a b : ℕ) (processors_are : (a ≡ processor_count m) × (a < 256)) (pages-are : (b ≡ page_count m) × (b < 256)) where
-  few_in_all : MarksCountable m → a * b ≤ copy_limit
-  few_in_all h = rw (processors_are.0, pages-are.0) (mul-le-mul h.processors h.pages)
-
-  -- the product of the counts is a small number
-  pub product_fits : MarksCountable m → Fits w64 (a * b)
-  product_fits h = omega (arith, few_in_all h)
-
-  module _ (x : ℕ) (standing_is : (x ≡ standing_count m) × (x < 65536)) where
-    -- and so is its sum with the records that stand
-    pub room_sum_fits : MarksCountable m → Fits w64 (x + a * b)
-    room_sum_fits h = omega (arith, few_in_all h, standing_is.1)
-
-    -- three marks decide about the room
-    pub marks_decide_room : ltb (x + a * b) record_limit ≡ room_if_all_dirty (seen m)
-    unfolding room_if_all_dirty seen state_in records_in mainframe
-    marks_decide_room = rw (standing_is.0, processors_are.0, pages-are.0)
+-- three marks decide about the room
+pub marks_decide_room : (m : List ℕ) (a b x : ℕ) → (a ≡ processor_count m) × (a < 256) → (b ≡ page_count m) × (b < 256) → (x ≡ standing_count m) × (x < 65536)
+    → ltb (x + a * b) record_limit ≡ room_if_all_dirty (seen m)
+unfolding room_if_all_dirty seen state_in records_in mainframe
+marks_decide_room m a b x processors_are pages_are standing_is = rw (standing_is.0, processors_are.0, pages_are.0)

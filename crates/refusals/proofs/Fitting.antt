@@ -1,11 +1,12 @@
 -- The rows 3 to 6 and 17 as one test: flags multiplied, by the bounds of the kinds and the marks. One law for each way of the code. Assumes nothing.
-use Rattle.std.proofs.Common.{◌≡◌, ℕ, zero, suc, ◌+◌, ◌*◌, ◌%◌, ◌^◌, ◌<◌, ◌≤◌, min, Bool, true, false, cond, not, ◌&&◌, ◌||◌, eqb, ltb, leb, ◌⊎◌, List, length, get_or, sym, refl, ap, ◌∙◌, inl, inr, zero-mul, arith, w8, w32, w64, Fits, le-ltb, lt-ltb, eq-eqb, ne_eqb, le-leb}
+use Rattle.std.proofs.Common.{◌≡◌, ℕ, zero, suc, ◌+◌, ◌*◌, ◌%◌, ◌<◌, ◌≤◌, min, Bool, true, false, cond, not, ◌&&◌, ◌||◌, eqb, ltb, leb, ◌⊎◌, List, get_or, sym, refl, ap, ◌∙◌, inl, inr, zero-mul, arith, w32, Fits, le-ltb, lt-ltb, eq-eqb, ne_eqb, le-leb}
+use mir.Val.{bool_byte}
 use native.Mathlib.Decide.{dec_le, dec_lt}
 use mathlib.Core.Bool.{and-false}
 use borrow.Author.Tests.{lt-leb}
 use Rattle.limits.specs.Limits.{processor_limit}
 use Rattle.limits.specs.Places.{first_arrived}
-use Rattle.limits.specs.inner.Sizes.{bound_area, first_awaited, kind_bounds, kind_limit, mark_area, value_limit}
+use Rattle.limits.specs.inner.Sizes.{first_awaited, kind_bounds, kind_limit, value_limit}
 use Rattle.rules.specs.InOrder.{present}
 use Rattle.rules.specs.Lines.{waits}
 use Rattle.rules.specs.Refusals.{known_kind, uses_value}
@@ -25,13 +26,10 @@ both : (a b : Bool) (x y : ℕ) → x ≡ cond a 1 0 → y ≡ cond b 1 0 → x 
 both true b x y ea eb = rw ea (omega (arith, eb))
 both false b x y ea eb = rw ea (zero-mul y)
 
--- so it is small
-pub flags_fit : (x y : ℕ) (a b : Bool) → x ≡ cond a 1 0 → y ≡ cond b 1 0 → Fits w8 (x * y)
-flags_fit x y a b ea eb = omega (arith, both a b x y ea eb, small (a && b))
-  where
-    small : (b : Bool) → cond {A = ℕ} b 1 0 ≤ 1
-    small true = omega arith
-    small false = omega arith
+-- a test as a byte is its flag
+as_flag : (b : Bool) → bool_byte b ≡ cond b 1 0
+as_flag true = refl
+as_flag false = refl
 
 flag_is_one : (b : Bool) → eqb (cond b 1 0) 1 ≡ b
 flag_is_one true = refl
@@ -39,22 +37,13 @@ flag_is_one false = refl
 
 -- ---- the fields
 
-module _ (bounds : List ℕ) (k j : ℕ) (e : j ≡ min k kind_limit) where
-  module _ (long : length bounds ≡ bound_area) where
-    -- the bounds of a kind have their places
-    pub object_bound_there : j < length bounds
-    object_bound_there = omega (arith, long, e)
-
-    pub value_bound_there : kind_bounds + j < length bounds
-    value_bound_there = omega (arith, long, e)
-
-  -- the flags of object and value
-  pub fields_flagged : (o v x y : ℕ) → x ≡ cond (ltb o (get_or bounds j 0)) 1 0 → y ≡ cond (leb v (get_or bounds (kind_bounds + j) 0)) 1 0
-      → x * y ≡ cond (is_in_bounds bounds k o v) 1 0
-  unfolding is_in_bounds
-  fields_flagged o v x y ex ey =
-      both (ltb o (get_or bounds j 0)) (leb v (get_or bounds (kind_bounds + j) 0)) x y ex ey
-      ∙ ap (λ (i : ℕ). cond (ltb o (get_or bounds i 0) && leb v (get_or bounds (kind_bounds + i) 0)) 1 0) e
+-- the flags of object and value
+pub fields_flagged : (bounds : List ℕ) (k j : ℕ) → j ≡ min k kind_limit → (o v x y : ℕ) → x ≡ bool_byte (ltb o (get_or bounds j 0)) → y ≡ bool_byte (leb v (get_or bounds (kind_bounds + j) 0))
+    → x * y ≡ cond (is_in_bounds bounds k o v) 1 0
+unfolding is_in_bounds
+fields_flagged bounds k j e o v x y ex ey =
+    both (ltb o (get_or bounds j 0)) (leb v (get_or bounds (kind_bounds + j) 0)) x y (ex ∙ as_flag _) (ey ∙ as_flag _)
+    ∙ ap (λ (i : ℕ). cond (ltb o (get_or bounds i 0) && leb v (get_or bounds (kind_bounds + i) 0)) 1 0) e
 
 -- a kind and its place are known or not together
 place_known : (k : ℕ) → known_kind (min k kind_limit) ≡ known_kind k
@@ -97,28 +86,11 @@ in_bounds m bounds k o v h l =
 
 -- ---- the processor
 
--- its marks, or those behind the last, have their places
-pub processor_place : (m : List ℕ) (d j : ℕ) → MarksCountable m → j ≡ min d processor_limit → (length m ≡ mark_area) × (j ≤ processor_limit)
-processor_place m d j h e = (h.marks, omega (arith, e))
-
-module _ (m : List ℕ) (j : ℕ) (h : (length m ≡ mark_area) × (j ≤ processor_limit)) where
-  pub arrived_place_there : first_arrived + j < length m
-  arrived_place_there = omega (arith, h.0, h.1)
-
-  pub awaited_place_there : first_awaited + j < length m
-  awaited_place_there = omega (arith, h.0, h.1)
-
-  -- the flags of both marks
-  pub marks_flagged : (x y : ℕ) → x ≡ cond (eqb (get_or m (first_arrived + j) 0) 0) 1 0 → y ≡ cond (eqb (get_or m (first_awaited + j) 0) 0) 1 0
-      → x * y ≡ cond (marks_free m j) 1 0
-  unfolding marks_free
-  marks_flagged x y ex ey = both (eqb (get_or m (first_arrived + j) 0) 0) (eqb (get_or m (first_awaited + j) 0) 0) x y ex ey
-
 -- by the number of processors and two marks
-module _ (m : List ℕ) (q d j : ℕ) (h : MarksCountable m) (small : q < 4294967296) (wraps : (d + 1) % 18446744073709551616 ≡ q) (large : d < 18446744073709551616) (least : j ≡ min d processor_limit) where
+module _ (m : List ℕ) (q j : ℕ) (h : MarksCountable m) (small : q < 4294967296) (least : j ≡ min ((q + 18446744073709551615) % 18446744073709551616) processor_limit) where
   -- one that is among the processors
   there : j < processor_count m → q ≡ j + 1
-  there l = omega (arith, h.processors, small, wraps, large, least)
+  there l = omega (arith, h.processors, small, least)
 
   own_marks : j < processor_count m → marks_free m j ≡ is_free (seen m) q
   unfolding marks_free is_free arrived_place awaited_place mainframe
@@ -154,7 +126,7 @@ module _ (m : List ℕ) (q d j : ℕ) (h : MarksCountable m) (small : q < 429496
   absent l = go (dec_le 1 q)
     where
       go : Dec (1 ≤ q) → (leb 1 q && leb q (processor_count m)) ≡ false
-      go (yes k) = rw (lt-leb q (processor_count m) (omega (arith, h.processors, small, wraps, large, least, l))) (and-false (leb 1 q))
+      go (yes k) = rw (lt-leb q (processor_count m) (omega (arith, h.processors, small, least, l))) (and-false (leb 1 q))
       go (no k) = rw (lt-leb 1 q (omega arith))
 
   acts_by_marks : (ltb j (processor_count m) && marks_free m j) ≡ may_act (seen m) q
@@ -167,12 +139,12 @@ module _ (m : List ℕ) (q d j : ℕ) (h : MarksCountable m) (small : q < 429496
       go (no l) = rw (le-ltb j (processor_count m) (omega arith), absent (omega arith))
 
 -- the flags of both
-pub processor_flagged : (m : List ℕ) (q d j n x y : ℕ) → MarksCountable m → Fits w32 q → Fits w64 d → (d + 1) % 2 ^ 64 ≡ q → j ≡ min d processor_limit
-    → (n ≡ processor_count m) × (n < 256) → x ≡ cond (ltb j n) 1 0 → y ≡ cond (marks_free m j) 1 0 → x * y ≡ cond (may_act (seen m) q) 1 0
-processor_flagged m q d j n x y h fq fd wraps least count ex ey =
-    both (ltb j n) (marks_free m j) x y ex ey
+pub processor_flagged : (m : List ℕ) (q j n x y : ℕ) → MarksCountable m → Fits w32 q → j ≡ min ((q + 18446744073709551615) % 18446744073709551616) processor_limit
+    → (n ≡ processor_count m) × (n < 256) → x ≡ bool_byte (ltb j n) → y ≡ cond (marks_free m j) 1 0 → x * y ≡ cond (may_act (seen m) q) 1 0
+processor_flagged m q j n x y h fq least count ex ey =
+    both (ltb j n) (marks_free m j) x y (ex ∙ as_flag _) ey
     ∙ ap (λ (i : ℕ). cond (ltb j i && marks_free m j) 1 0) count.0
-    ∙ ap (λ (b : Bool). cond b 1 0) (acts_by_marks m q d j h fq.fits wraps fd.fits least)
+    ∙ ap (λ (b : Bool). cond b 1 0) (acts_by_marks m q j h fq.fits least)
 
 -- ---- the step
 
@@ -186,10 +158,6 @@ fits_by_flags m bounds k p o v x y h f ex ey =
     ∙ ap (λ (b : Bool). b && may_act (seen m) p) (in_bounds m bounds k o v h (omega (arith, f.fits)))
 
 -- ---- the bounds
-
--- they have their size
-pub bounds_long : (m bounds : List ℕ) → BoundsOf m bounds → length bounds ≡ bound_area
-bounds_long m bounds h = h.long
 
 -- a claim of every place of a kind
 by_place : (claim : ℕ → Type 0) → claim 0 → claim 1 → claim 2 → claim 3 → claim 4 → claim 5 → claim 6 → claim 7 → claim 8 → claim 9 → claim 10 → claim 11 → claim 12 → (k : ℕ) → k ≤ kind_limit → claim k

@@ -1,6 +1,6 @@
 pub mod Marked
 pub mod Counting
 pub mod ByKind
-pub mod QueueRows
+pub mod LateRows
 pub mod Fitting
 pub mod Refusing

@@ -1,27 +1,14 @@
 -- What the marks in lent memory say: present processors, arrived marks, waiters, holders, dirty pages. Assumes nothing.
-use Rattle.std.proofs.Common.{◌≡◌, ℕ, ◌<◌, ◌≤◌, Bool, false, not, eqb, leb, List, [], sym, ap, ◌∙◌, arith, le-leb}
+use Rattle.std.proofs.Common.{◌≡◌, ℕ, ◌<◌, ◌≤◌, Bool, not, eqb, List, [], sym, ap, ◌∙◌}
 use Rattle.limits.specs.Limits.{page_limit, processor_limit}
-use Rattle.rules.specs.InOrder.{present}
 use Rattle.rules.specs.Lines.{waits}
 use Rattle.rules.specs.State.{dirty_at, holder, has_arrived}
 use Rattle.layout.specs.Areas.{state_in}
-use Rattle.layout.specs.inner.Marks.{processor_count, arrived_mark, awaited_mark, holder_mark, dirty_mark}
+use Rattle.layout.specs.inner.Marks.{arrived_mark, awaited_mark, holder_mark, dirty_mark}
 use Rattle.layout.specs.inner.Needed.{LockMark}
 use Rattle.layout.proofs.MarkLaws.{arrived_read, awaited_read, holder_read}
 use Rattle.layout.proofs.PageLaws.{dirty_read}
 use Rattle.refusals.specs.inner.Parts.{seen}
-
--- ---- processors
-
--- nobody is no processor
-pub nobody_absent : (m : List ℕ) (p : ℕ) → p ≡ 0 → false ≡ present (seen m) p
-unfolding present
-nobody_absent m p e = rw e
-
--- the count decides about the others
-pub count_decides : (m : List ℕ) (p n : ℕ) → (p ≡ 0 → ⊥) → (n ≡ processor_count m) × (n < 256) → leb p n ≡ present (seen m) p
-unfolding present seen state_in
-count_decides m p n h e = rw (e.0, le-leb 1 p (omega arith))
 
 -- ---- marks
 

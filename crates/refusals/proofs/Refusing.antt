@@ -2,6 +2,9 @@
 use Rattle.std.proofs.Common.{◌≡◌, ℕ, Bool, true, false, cond, not, ◌&&◌, ◌||◌, eqb, ltb, List, sym, refl, ap, ◌∙◌, arith, rules}
 use mathlib.Core.Bool.{and-eq-true_iff}
 use borrow.Author.Tests.{not-true, not-false}
+use Rattle.limits.specs.Refused.{number_of}
+use Rattle.limits.specs.declared.Refusal.{Refusal}
+use Rattle.limits.specs.declared.Refusal.TheVariants.{NotInOrder, BadOpening, UnknownKind, AbsentProcessor, BadField, HasArrived, HoldsAlready, NotHolder, NoIntervalLeft, NoRecordLeft, BadLength, BadPair, NoRoom, BadPage, EndsShort, TooManySteps, Waits, ArrivesHolding, QueueFull, QueueEmpty}
 use Rattle.rules.specs.InOrder.{present, present_holder, dirty_pages}
 use Rattle.rules.specs.Lines.{waits}
 use Rattle.rules.specs.Refusals.{Step, step_of, Action, Read, Write, Acquire, Release, Arrive, Want, TallyAdd, TallyRead, Enqueue, Dequeue, Unknown, action_of, known_kind, object_bound, uses_value, fits, holds_any, late_refusal, refusal_by, refusal_in_order}
@@ -11,93 +14,67 @@ use Rattle.rules.proofs.inorder.KindsOfSteps.{by_kind}
 use Rattle.layout.specs.Areas.{pages_in, records_in, state_in}
 use Rattle.layout.specs.inner.Marks.{arrived_mark, awaited_mark}
 use Rattle.layout.specs.inner.Needed.{MarksOf, Ready}
-use Rattle.refusals.specs.inner.Parts.{seen, bound_of, fields_in_range, is_free, may_act, step_in_range, early_of_fields, early_of_known, early_refusal, refusal_of_kind}
-use Rattle.refusals.specs.inner.Needed.{MarksCountable, KnownKind, KnownStep, FittingStep}
-use Rattle.refusals.proofs.Marked.{nobody_absent, count_decides, arrived_seen, waiting_seen}
-use Rattle.refusals.proofs.Counting.{counting_begins, counting_next, counting_more, counting_ends, few_counted, records_to_come_are, product_fits, room_sum_fits, marks_decide_room}
-use Rattle.refusals.proofs.ByKind.{zero_unknown, first_known, seven_unknown, last_decides, words_fit, words_bound, locks_bound, no_bound, tally_bound, write_uses, add_uses, value_used, object_absent, any_value, no_value, word_there, lock_there, page_of_word_lem, counted_of_write, dirty_takes_stores, no_interval_left, no_room_left, write_has_space, write_has_ample_space, holder_asks, other_asks, holder_releases, not_the_holder, write_of_kind, lock_of_acquire, lock_of_release, write_decides, acquire_decides, release_decides, by_of_arrival, arrival_decides, other_kinds_pass, holder_arrives, other_arrives, own_fits_lem, held_begins, held_there, held_more, held_fits, held_ends}
-use Rattle.refusals.proofs.QueueRows.{queue_bound, queue_full, queue_has_place, queue_empty, queue_has_job, marks_of_queue, enqueue_decides, dequeue_decides}
-use Rattle.refusals.proofs.Fitting.{flags_fit, object_bound_there, value_bound_there, fields_flagged, processor_place, arrived_place_there, awaited_place_there, marks_flagged, processor_flagged, fits_by_flags, bounds_long}
+use Rattle.refusals.specs.inner.Parts.{seen, bound_of, fields_in_range, is_free, may_act, step_in_range, early_refusal, refusal_of_kind}
+use Rattle.refusals.specs.inner.Needed.{MarksCountable, PagesOf, FittingStep}
+use Rattle.refusals.proofs.Marked.{arrived_seen, waiting_seen}
+use Rattle.refusals.proofs.Counting.{counting_begins, counting_more, counting_ends, records_to_come_are, marks_decide_room}
+use Rattle.refusals.proofs.ByKind.{word_there, lock_there, page_of_word_lem, dirty_takes_stores, no_interval_left, no_room_left, write_has_space, write_has_ample_space, held_begins, held_more, held_ends}
+use Rattle.refusals.proofs.LateRows.{write_of_kind, write_decides, lock_of_acquire, lock_of_release, holder_asks, other_asks, holder_releases, other_releases, holder_arrives, other_arrives, queue_full, queue_has_place, queue_empty, queue_has_job}
+use Rattle.refusals.proofs.Fitting.{fields_flagged, processor_flagged, fits_by_flags}
 
--- ---- the rows 5, 6 and 17
+-- ---- the rows 3 to 6 and 17, one after the other
 
--- what row 5 asks for
-pub kind_of_step : (m : List ℕ) (k p : ℕ) → KnownStep m k p → KnownKind m k
-kind_of_step m k p h = h.kind_known
-
--- what the rows 6 and 17 ask for
-pub marks_of_step : (m : List ℕ) (k p : ℕ) → KnownStep m k p → MarksOf m p
-marks_of_step m k p h = record { marks = h.by.counted.marks; from = h.by.from; to = h.by.to }
-
-module _ (m : List ℕ) (k p o v : ℕ) (h : KnownStep m k p) (b : Bool) (fit : b ≡ fields_in_range (seen m) k o v) where
-  -- 5: "word or lock absent, or an unused field not 0"
-  pub fields_refused : not b ≡ true → 5 ≡ early_of_fields (seen m) k p o v
-  unfolding early_of_fields
-  fields_refused t = rw (← fit, t)
-
-  module _ (fits? : not b ≡ false) (a : Bool) (mark : a ≡ not (eqb (arrived_mark m p) 0)) where
-    arrived : a ≡ has_arrived (seen m) p
-    arrived = arrived_seen m a p h.by.from h.by.to mark
-
-    -- 6: "card has arrived, round not complete"
-    pub arrived_refused : a ≡ true → 6 ≡ early_of_fields (seen m) k p o v
-    unfolding early_of_fields
-    arrived_refused t = rw (← fit, fits?, ← arrived, t)
-
-    module _ (away : a ≡ false) (w : Bool) (awaited : w ≡ not (eqb (awaited_mark m p) 0)) where
-      waiting : w ≡ waits (seen m).marks p
-      waiting = waiting_seen m w p h.by.from h.by.to awaited
-
-      -- 17: "a step by a waiting card"
-      pub waiter_refused : w ≡ true → 17 ≡ early_of_fields (seen m) k p o v
-      unfolding early_of_fields
-      waiter_refused t = rw (← fit, fits?, ← arrived, away, ← waiting, t)
-
-      -- then none of them refuses
-      pub fields_pass : w ≡ false → 0 ≡ early_of_fields (seen m) k p o v
-      unfolding early_of_fields
-      fields_pass t = rw (← fit, fits?, ← arrived, away, ← waiting, t)
-
--- ---- row 4
-
-module _ (m : List ℕ) (k p o v : ℕ) (b : Bool) (there : b ≡ present (seen m) p) where
-  -- 4: "card absent"
-  pub processor_refused : not b ≡ true → 4 ≡ early_of_known (seen m) k p o v
-  unfolding early_of_known
-  processor_refused t = rw (← there, t)
-
-  -- then the fields decide
-  pub fields_decide : (r : ℕ) → not b ≡ false → r ≡ early_of_fields (seen m) k p o v → r ≡ early_of_known (seen m) k p o v
-  unfolding early_of_known
-  fields_decide r t e = rw (← there, t) e
-
--- the counts
-pub counted_of_kind : (m : List ℕ) (k : ℕ) → KnownKind m k → MarksCountable m
-counted_of_kind m k h = h.counted
-
--- what the rows from 5 on ask for
-pub step_known : (m : List ℕ) (k p : ℕ) (b : Bool) → KnownKind m k → b ≡ present (seen m) p → not b ≡ false → KnownStep m k p
-unfolding seen state_in
-step_known m k p b h there t =
-    let is = present_says (seen m) p (sym there ∙ not-false b t) in
-    record { kind_known = h; by = record { counted = h.counted; from = is.0; to = omega (arith, is.1, h.counted.processors) } }
-
--- ---- row 3
-
-module _ (m : List ℕ) (k p o v : ℕ) (b : Bool) (is : b ≡ known_kind k) where
+module _ (m : List ℕ) (k p o v : ℕ) where
   -- 3: "kind not 1 to 6"
-  pub kind_refused : not b ≡ true → 3 ≡ early_refusal (seen m) k p o v
+  pub kind_refused : known_kind k ≡ false → 3 ≡ early_refusal (seen m) k p o v
   unfolding early_refusal
-  kind_refused t = rw (← is, t)
+  kind_refused e = rw e
 
-  -- then the processor and the fields decide
-  pub known_decides : (r : ℕ) → not b ≡ false → r ≡ early_of_known (seen m) k p o v → r ≡ early_refusal (seen m) k p o v
-  unfolding early_refusal
-  known_decides r t e = rw (← is, t) e
+  module _ (known : known_kind k ≡ true) (b : Bool) (there : b ≡ present (seen m) p) where
+    -- 4: "card absent"
+    pub processor_refused : not b ≡ true → 4 ≡ early_refusal (seen m) k p o v
+    unfolding early_refusal
+    processor_refused t = rw (known, ← there, t)
 
-  -- what the rows from 4 on ask for
-  pub kind_known : MarksCountable m → not b ≡ false → KnownKind m k
-  kind_known h t = record { counted = h; known = sym is ∙ not-false b t }
+    module _ (counted : MarksCountable m) (is_there : not b ≡ false) where
+      by : PagesOf m p
+      unfolding seen state_in
+      by =
+          let is = present_says (seen m) p (sym there ∙ not-false b is_there) in
+          record { counted = counted; from = is.0; to = omega (arith, is.1, counted.processors) }
+
+      -- a present processor has marks
+      pub marks_of_step : MarksOf m p
+      marks_of_step = record { marks = counted.marks; from = by.from; to = by.to }
+
+      module _ (f : Bool) (fit : f ≡ fields_in_range (seen m) k o v) where
+        -- 5: "word or lock absent, or an unused field not 0"
+        pub fields_refused : not f ≡ true → 5 ≡ early_refusal (seen m) k p o v
+        unfolding early_refusal
+        fields_refused t = rw (known, ← there, is_there, ← fit, t)
+
+        module _ (fits? : not f ≡ false) (a : Bool) (mark : a ≡ not (eqb (arrived_mark m p) 0)) where
+          arrived : a ≡ has_arrived (seen m) p
+          arrived = arrived_seen m a p by.from by.to mark
+
+          -- 6: "card has arrived, round not complete"
+          pub arrived_refused : a ≡ true → 6 ≡ early_refusal (seen m) k p o v
+          unfolding early_refusal
+          arrived_refused t = rw (known, ← there, is_there, ← fit, fits?, ← arrived, t)
+
+          module _ (away : a ≡ false) (w : Bool) (awaited : w ≡ not (eqb (awaited_mark m p) 0)) where
+            waiting : w ≡ waits (seen m).marks p
+            waiting = waiting_seen m w p by.from by.to awaited
+
+            -- 17: "a step by a waiting card"
+            pub waiter_refused : w ≡ true → 17 ≡ early_refusal (seen m) k p o v
+            unfolding early_refusal
+            waiter_refused t = rw (known, ← there, is_there, ← fit, fits?, ← arrived, away, ← waiting, t)
+
+            -- then none of them refuses
+            pub none_refuses : w ≡ false → 0 ≡ early_refusal (seen m) k p o v
+            unfolding early_refusal
+            none_refuses t = rw (known, ← there, is_there, ← fit, fits?, ← arrived, away, ← waiting, t)
 
 -- ---- the whole table
 
@@ -119,7 +96,7 @@ module _ (s : State) (k p o v : ℕ) where
 
   -- a step that fits is refused by its kind, any other by a row up to 17
   pub refusal_in_two : (n : ℕ) → refusal_by mainframe s n (step_of k p o v) ≡ cond (step_in_range s k p o v) (refusal_of_kind s n k p o) (early_refusal s k p o v)
-  unfolding refusal_by step_of step_in_range may_act is_free early_refusal early_of_known early_of_fields
+  unfolding refusal_by step_of step_in_range may_act is_free early_refusal
   refusal_in_two n = go (known_kind k) refl
     where
       cases : (a b c d : Bool) (r : ℕ)
@@ -141,7 +118,7 @@ module _ (s : State) (k p o v : ℕ) where
 
   -- a step fits where no row up to 17 refuses it
   pub early_passes : early_refusal s k p o v ≡ 0 → step_in_range s k p o v ≡ true
-  unfolding step_in_range may_act is_free early_refusal early_of_known early_of_fields
+  unfolding step_in_range may_act is_free early_refusal
   early_passes e = go (known_kind k) (present s p) (fields_in_range s k o v) (has_arrived s p) (waits s.marks p) e
     where
       go : (d a b c w : Bool) → cond {A = ℕ} (not d) 3 (cond (not a) 4 (cond (not b) 5 (cond c 6 (cond w 17 0)))) ≡ 0
@@ -155,7 +132,7 @@ module _ (s : State) (k p o v : ℕ) where
 
   -- and only there
   pub fitting_not_refused : step_in_range s k p o v ≡ true → early_refusal s k p o v ≡ 0
-  unfolding step_in_range may_act is_free early_refusal early_of_known early_of_fields
+  unfolding step_in_range may_act is_free early_refusal
   fitting_not_refused e =
       let kind-and-fields = (and-eq-true_iff (known_kind k && fields_in_range s k o v) (present s p && (not (has_arrived s p) && not (waits s.marks p)))).0 e in
       let kind-is = (and-eq-true_iff (known_kind k) (fields_in_range s k o v)).0 kind-and-fields.0 in
@@ -265,4 +242,4 @@ module _ (c w r m : List ℕ) where
   unfolding refusal_in_order
   table_decides t n x e i = e ∙ sym (table_by_marks t n) ∙ ap (λ (j : ℕ). refusal_by mainframe (state_in mainframe c w r m) j t) i
 
-pub ruleset refusal_laws = (nobody_absent, count_decides, counting_begins, counting_next, counting_more, counting_ends, few_counted, records_to_come_are, product_fits, room_sum_fits, marks_decide_room, zero_unknown, first_known, seven_unknown, last_decides, words_fit, words_bound, locks_bound, no_bound, tally_bound, queue_bound, write_uses, add_uses, value_used, queue_full, queue_has_place, queue_empty, queue_has_job, marks_of_queue, enqueue_decides, dequeue_decides, object_absent, any_value, no_value, page_of_word_lem, counted_of_write, dirty_takes_stores, no_interval_left, no_room_left, write_has_space, write_has_ample_space, holder_asks, other_asks, holder_releases, not_the_holder, write_of_kind, lock_of_acquire, lock_of_release, write_decides, acquire_decides, release_decides, by_of_arrival, arrival_decides, holder_arrives, other_arrives, own_fits_lem, held_begins, held_there, held_more, held_fits, held_ends, other_kinds_pass, kind_of_step, marks_of_step, fields_refused, arrived_refused, waiter_refused, fields_pass, processor_refused, fields_decide, counted_of_kind, step_known, kind_refused, known_decides, kind_known, early_decides, step_fits, kind_decides, flags_fit, object_bound_there, value_bound_there, fields_flagged, processor_place, arrived_place_there, awaited_place_there, marks_flagged, processor_flagged, fits_by_flags, bounds_long, rules)
+pub ruleset refusal_laws = (counting_begins, counting_more, records_to_come_are, marks_decide_room, dirty_takes_stores, no_interval_left, no_room_left, write_has_space, write_has_ample_space, write_of_kind, write_decides, lock_of_acquire, lock_of_release, holder_asks, other_asks, holder_releases, other_releases, holder_arrives, other_arrives, queue_full, queue_has_place, queue_empty, queue_has_job, held_begins, held_more, held_ends, kind_refused, processor_refused, marks_of_step, fields_refused, arrived_refused, waiter_refused, none_refuses, fields_flagged, processor_flagged, fits_by_flags, rules)

@@ -1,14 +1,12 @@
 -- From turn to turn: what `run_loop` promises of a read and of a write keeps what holds. `turn_laws`. Assumes nothing.
-use Prim.Native.Nat.{ℕ, ◌+◌, ◌-◌, min}
-use native.Mathlib.Omega.{arith}
+use Prim.Native.Nat.{ℕ}
 use mathlib.Core.Path.{◌≡◌, sym, ◌∙◌}
 use mathlib.Core.Bool.{Bool, true, false, cond}
 use mathlib.Core.List.{List, [], ◌++◌}
 use lib.ListN.{length}
 use lib.Dec.{eqb}
-use lib.IntN.{ℤ, pos}
-use lib.Signed.{lt_z}
 use borrow.Author.Rules.{rules}
+use Rattle.std.specs.Prelude.{Some, Result, Ok, Err}
 use Rattle.layout.specs.Areas.{areas, right_sizes}
 use Rattle.layout.proofs.Encoding.{lent_right}
 use Rattle.run_loop.specs.Promises.{Begins, GotAs, NextIs, PutAs, failed_run, bytes_moved, pending, put_run, wrote_run}
@@ -22,8 +20,8 @@ use Rattle.run.specs.inner.Going.{Ample, Underway, Keeps, Possible, ReadsNext}
 -- ---- faults
 
 -- a failed write is no chunk that was not fed
-writing_possible : Possible Writing
-writing_possible = record { fed = λ e. let z : ◌≡◌ {A = ℕ} 0 1 = cc in omega arith }
+writing_possible : Possible (Some Writing)
+writing_possible = record { fed = λ e. cc }
 
 pub going_possible : (s : Run) (chunk out c w r m : List ℕ) → Underway s chunk out c w r m → Possible s.fault
 going_possible s chunk out c w r m g = g.possible
@@ -39,7 +37,7 @@ going_begins s chunk out c w r m b z =
       read = [];
       written = [];
       runs = b.runs (areas c w r m) out (lent_right c w r m z.lent);
-      possible = record { fed = λ e. let y : ◌≡◌ {A = ℕ} 0 1 = cc (reads_faultless s b.reads, e) in omega arith };
+      possible = record { fed = λ e. cc (reads_faultless s b.reads, e) };
     }
 
 -- ---- a read
@@ -64,9 +62,9 @@ readable_still s chunk chunk' out c w r m e h =
           };
     }
 
-pub going_got : (s : Run) (got : ℤ) (again : Bool) (chunk out c w r m : List ℕ) (s' : Run) (out' c' w' r' m' : List ℕ) → GotAs s got again chunk out (areas c w r m) s' out' (areas c' w' r' m')
+pub going_got : (s : Run) (got : Result ℕ Bool) (chunk out c w r m : List ℕ) (s' : Run) (out' c' w' r' m' : List ℕ) → GotAs s got chunk out (areas c w r m) s' out' (areas c' w' r' m')
     → ReadsNext s chunk out c w r m → length out' ≡ length out → Underway s' chunk out' c' w' r' m'
-going_got s got again chunk out c w r m s' out' c' w' r' m' h y e =
+going_got s got chunk out c w r m s' out' c' w' r' m' h y e =
     let g : Underway s chunk out c w r m = y.going in
     record {
       roomy = record { room = rw e g.roomy.room };
@@ -79,29 +77,18 @@ going_got s got again chunk out c w r m s' out' c' w' r' m' h y e =
 
 -- ---- a write
 
-put_possible : (s : Run) (put : ℤ) (again : Bool) (out : List ℕ) → Possible s.fault → Possible (put_run s put again out).fault
+put_possible : (s : Run) (put : Result ℕ Bool) (out : List ℕ) → Possible s.fault → Possible (put_run s put out).fault
 unfolding put_run failed_run wrote_run
-put_possible s put again out p = go (lt_z put (pos 0)) again (eqb (length (bytes_moved put (pending s out))) 0)
+put_possible s (Ok n) out p = go (eqb (length (bytes_moved (Ok n) (pending s out))) 0)
   where
-    after : Bool → Bool → Bool → Run
-    after b d n =
-        cond b (cond d s (record { progress = s.progress; from = s.from; to = s.to; ended = s.ended; fault = Writing }))
-        (record {
-          progress = s.progress;
-          from = s.from + min (length (bytes_moved put (pending s out))) (s.to - s.from);
-          to = s.to;
-          ended = s.ended;
-          fault = cond n Writing s.fault;
-        })
+    go : (b : Bool) → Possible (cond b (Some Writing) s.fault)
+    go true = writing_possible
+    go false = p
+put_possible s (Err true) out p = p
+put_possible s (Err false) out p = writing_possible
 
-    go : (b d n : Bool) → Possible (after b d n).fault
-    go true true n = p
-    go true false n = writing_possible
-    go false d true = writing_possible
-    go false d false = p
-
-pub keeps_put : (s : Run) (put : ℤ) (again : Bool) (out : List ℕ) (s' : Run) → PutAs s put again out s' → Keeps s out s'
-keeps_put s put again out s' h =
+pub keeps_put : (s : Run) (put : Result ℕ Bool) (out : List ℕ) (s' : Run) → PutAs s put out s' → Keeps s out s'
+keeps_put s put out s' h =
     record {
       on = λ chunk c w r m g.
           record {
@@ -110,7 +97,7 @@ keeps_put s put again out s' h =
             read = g.read;
             written = g.written ++ bytes_moved put (pending s out);
             runs = h.runs g.first g.read g.written (areas c w r m) g.runs;
-            possible = rw h.run (put_possible s put again out g.possible);
+            possible = rw h.run (put_possible s put out g.possible);
           };
     }
 

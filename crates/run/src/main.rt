@@ -36,8 +36,9 @@ fn main(rt: HostRuntime) {
     tell(fault, &wrong, &rt.stderr());
 }
 
-// Reads and writes as `run_loop` says until it says to stop. A proved loop has to end, and nothing says that the input does: so it counts its
-// turns down, from a number that no run uses up.
+// Reads and writes as `run_loop` says until it says to stop. A proved loop has to end, and nothing says that the input does: so it takes
+// at most a number of turns that no run uses up.
+#[tactic(auto, using(crate::proofs::Turns::turn_laws))]
 fn run_all<R: Read, W: Write>(
     chunk: &mut [u8],
     lines: &mut [u8],
@@ -48,32 +49,25 @@ fn run_all<R: Read, W: Write>(
     input: &mut R,
     output: &mut W,
     wrong: &mut Error,
-) -> Fault
+) -> Option<Fault>
     requires { Ample chunk.old lines.old clocks.old words.old records.old marks.old }
     ensures { Possible result }
 {
     let mut run = run_loop::begin();
-    let mut turns = u64::MAX;
-    while 0 < turns {
+    for _ in 0..u64::MAX {
         if is_over(run) {
             return run.fault;
         }
         run = turn(
             run, chunk, lines, clocks, words, records, marks, input, output, wrong,
         );
-        turns = turns - 1;
     }
     run.fault
 }
 
 // Whether nothing is left to do.
 fn is_over(run: Run) -> bool {
-    let action = run_loop::next_action(run);
-    match action {
-        Action::Read => false,
-        Action::Write => false,
-        Action::Stop => true,
-    }
+    run_loop::next_action(run) == Action::Stop
 }
 
 // Does what comes next.
@@ -92,8 +86,7 @@ fn turn<R: Read, W: Write>(
     requires { Underway run chunk.old lines.old clocks.old words.old records.old marks.old }
     ensures { Underway result chunk.new lines.new clocks.new words.new records.new marks.new }
 {
-    let action = run_loop::next_action(run);
-    match action {
+    match run_loop::next_action(run) {
         Action::Read => read_on(
             run, chunk, lines, clocks, words, records, marks, input, wrong,
         ),
@@ -103,6 +96,7 @@ fn turn<R: Read, W: Write>(
 }
 
 // Reads a chunk and takes it. What went wrong, if anything, is noted.
+#[tactic(auto, using(crate::proofs::Turns::turn_laws))]
 fn read_on<R: Read>(
     run: Run,
     chunk: &mut [u8],
@@ -117,57 +111,34 @@ fn read_on<R: Read>(
     requires { ReadsNext run chunk.old lines.old clocks.old words.old records.old marks.old }
     ensures { Underway result chunk.new lines.new clocks.new words.new records.new marks.new }
 {
-    match input.read(chunk) {
-        Ok(n) => take_in(
-            run, n as isize, false, chunk, lines, clocks, words, records, marks,
-        ),
-        Err(error) => {
-            let again = whole_calls::is_interrupted(&error);
-            *wrong = error;
-            take_in(run, -1, again, chunk, lines, clocks, words, records, marks)
-        }
-    }
-}
-
-// Takes a chunk that was read.
-fn take_in(
-    run: Run,
-    got: isize,
-    again: bool,
-    chunk: &[u8],
-    lines: &mut [u8],
-    clocks: &mut [u8],
-    words: &mut [u32],
-    records: &mut [u8],
-    marks: &mut [u8],
-) -> Run
-    requires { ReadsNext run chunk.now lines.old clocks.old words.old records.old marks.old }
-    ensures { Underway result chunk.now lines.new clocks.new words.new records.new marks.new }
-{
-    run_loop::after_read(run, got, again, chunk, lines, clocks, words, records, marks)
+    let got = whole_calls::noted(input.read(chunk), wrong);
+    run_loop::after_read(run, got, chunk, lines, clocks, words, records, marks)
 }
 
 // Writes the lines that are left, or the first of them. What went wrong, if anything, is noted.
+#[tactic(auto, using(crate::proofs::Turns::turn_laws))]
 fn write_on<W: Write>(run: Run, lines: &[u8], output: &mut W, wrong: &mut Error) -> Run
     ensures { Keeps run lines.now result }
 {
-    match output.write(run_loop::unwritten(run, lines)) {
-        Ok(n) => run_loop::after_write(run, n as isize, false, lines),
-        Err(error) => {
-            let again = whole_calls::is_interrupted(&error);
-            *wrong = error;
-            run_loop::after_write(run, -1, again, lines)
-        }
-    }
+    let put = whole_calls::noted(output.write(run_loop::unwritten(run, lines)), wrong);
+    run_loop::after_write(run, put, lines)
 }
 
 // Says what went wrong, if anything, with the words of the error that was noted last.
-fn tell<P: Print>(fault: Fault, wrong: &Error, to: &P) {
+fn tell<P: Print>(fault: Option<Fault>, wrong: &Error, to: &P) {
     match fault {
-        Fault::Nothing => {}
-        Fault::Reading => whole_calls::say(b"run: standard input could not be read", wrong, to),
-        Fault::Writing => whole_calls::say(b"run: standard output could not be written", wrong, to),
-        Fault::NotFed => {
+        None => {}
+        Some(Fault::Reading) => whole_calls::say(
+            b"run: standard input could not be read",
+            wrong,
+            to,
+        ),
+        Some(Fault::Writing) => whole_calls::say(
+            b"run: standard output could not be written",
+            wrong,
+            to,
+        ),
+        Some(Fault::NotFed) => {
             let _ = to.write_all(b"run: a part of the file was not taken\n");
         }
     }

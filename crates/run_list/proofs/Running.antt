@@ -1,16 +1,20 @@
 -- A run: no record, a refused opening, or the opening and the steps behind it; and demand 3 of the answers laid. Rests on Laying. One law for
 -- each way of the code, and `running_laws`. Assumes nothing.
-use Prim.Native.Nat.{ℕ, zero, suc, ◌-◌, ◌*◌, ◌/◌, ◌≤◌, ◌<◌}
+use Prim.Native.Nat.{ℕ, zero, suc, ◌-◌, ◌*◌, ◌/◌, ◌≤◌, ◌<◌, min}
 use native.Mathlib.Omega.{arith}
 use mathlib.Core.Path.{◌≡◌, refl, sym, ap, ◌∙◌}
-use mathlib.Core.Bool.{Bool, cond}
+use mathlib.Core.Bool.{Bool, true, false, cond}
 use mathlib.Core.List.{List, [], ◌∷◌}
 use lib.ListN.{length, take, drop}
 use lib.Seq.{sets, length-sets}
 use lib.Dec.{eqb}
 use borrow.Author.Tests.{eq-eqb, ne_eqb}
 use borrow.Author.Rules.{rules}
+use Rattle.std.specs.Prelude.{Result, Ok, Err, is_err}
 use Rattle.limits.specs.Files.{file_record_width, answer_width}
+use Rattle.limits.specs.declared.Refusal.{Refusal}
+use Rattle.limits.specs.Refused.{refusal_in}
+use Rattle.limits.proofs.Refused.{number_of_pos}
 use Rattle.rules.specs.Demand.{ReadsJudged, DemandThree}
 use Rattle.rules.specs.Opening.{opened}
 use Rattle.rules.specs.Refusals.{Answer, Step, refused_with, next_in_order}
@@ -30,16 +34,27 @@ use Rattle.run_list.specs.Runs.{records_run, first_refusal, first_state, run_ans
 use Rattle.run_list.specs.inner.Needed.{CountIs, RecordsThere, OpeningThere, OpeningLaid, StepsThere, StepsLaid}
 use Rattle.run_list.proofs.Laying.{laid_behind, laid_read_back}
 
+apart : true ≡ false → ⊥
+apart e = let z : ◌≡◌ {A = ℕ} 0 1 = cc in omega (arith, z)
+
 -- ---- how many records
 
 module _ (bytes words : ℕ) where
-  pub fewer_records : bytes / file_record_width < words / answer_width → CountIs bytes words (bytes / file_record_width)
+  pub count_is : (n : ℕ) → n ≡ min (bytes / file_record_width) (words / answer_width) → CountIs bytes words n
   unfolding records_run
-  fewer_records l = record { is = omega (arith, l) }
+  count_is n e = record { is = e }
 
-  pub fewer_words : words / answer_width ≤ bytes / file_record_width → CountIs bytes words (words / answer_width)
-  unfolding records_run
-  fewer_words l = record { is = omega (arith, l) }
+-- ---- an opening refused or not
+
+-- a refused one has a number
+pub is_refused : (y : Result (Unit {0}) Refusal) → true ≡ is_err y → refusal_in y ≡ 0 → ⊥
+is_refused (Ok x) e z = apart e
+is_refused (Err r) e z = number_of_pos r z
+
+-- an accepted one has 0
+pub is_accepted : (y : Result (Unit {0}) Refusal) → false ≡ is_err y → refusal_in y ≡ 0
+is_accepted (Ok x) e = refl
+is_accepted (Err r) e = absurd (apart (sym e))
 
 -- ---- a step has one answer
 
@@ -61,11 +76,11 @@ words_there = omega arith
 -- ---- the opening
 
 pub opening_laid : (bs out c w r m : List ℕ) (refusal n : ℕ) (out' c' w' r' m' : List ℕ) → refusal ≡ open_refusal (take file_record_width bs) (areas c w r m)
-    → areas c' w' r' m' ≡ areas_opened (take file_record_width bs) (areas c w r m) → (n ≡ refusal) × (n ≤ 255) → out' ≡ sets out 0 (n ∷ 0 ∷ 0 ∷ 0 ∷ [])
+    → areas c' w' r' m' ≡ areas_opened (take file_record_width bs) (areas c w r m) → n ≡ refusal → out' ≡ sets out 0 (n ∷ 0 ∷ 0 ∷ 0 ∷ [])
     → OpeningLaid bs out (areas c w r m) refusal out' (areas c' w' r' m')
 unfolding first_refusal answer_words refused_with
 opening_laid bs out c w r m refusal n out' c' w' r' m' e a same l =
-    record { refusal = e; laid = l ∙ ap (λ (x : ℕ). sets out 0 (x ∷ 0 ∷ 0 ∷ 0 ∷ [])) same.0; areas = a }
+    record { refusal = e; laid = l ∙ ap (λ (x : ℕ). sets out 0 (x ∷ 0 ∷ 0 ∷ 0 ∷ [])) same; areas = a }
 
 -- ---- no record
 
@@ -222,4 +237,4 @@ module _ (bs out : List ℕ) (n : ℕ) (h : RecordsThere bs out n) where
             ∙ ap (λ (k : ℕ). answers_in k (drop answer_width (sets out 0 (answer_words (refused_with refusal ∷ answered))))) (sym as_many)
             ∙ laid_read_back out (refused_with refusal) answered (omega (arith, count, room_there))
 
-pub ruleset running_laws = (fewer_records, fewer_words, opening_laid, none_run, some_there, opening_there, refused_run, steps_there, all_run, rules)
+pub ruleset running_laws = (count_is, opening_laid, none_run, some_there, opening_there, refused_run, steps_there, all_run, rules)

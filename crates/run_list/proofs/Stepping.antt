@@ -16,12 +16,12 @@ use Rattle.layout.specs.Areas.{state_in}
 use Rattle.fetch_index.specs.inner.Index.{unranked}
 use Rattle.fetch_index.proofs.Kept.{new_kept}
 use Rattle.step_collect.specs.inner.Needed.{ReadyKept}
-use Rattle.step_act.specs.declared.Outcome.{Outcome}
+use Rattle.step_act.specs.Telling.{Outcome, told}
 use Rattle.engine.specs.inner.Needed.{SteppedKept}
 use Rattle.step_fields.specs.Records.{step_from, steps_in}
 use Rattle.step_record.specs.Answers.{answer_words}
 use Rattle.step_record.specs.inner.Needed.{StepThere}
-use Rattle.run_list.specs.inner.Needed.{OutcomeLaid, RecordReady, StepLaid, StepsThere, StepsLaid}
+use Rattle.run_list.specs.inner.Needed.{RecordReady, StepLaid, StepsThere, StepsLaid}
 
 -- ---- one record
 
@@ -30,12 +30,13 @@ step_there bs i out c w r m x h = record { ready = h.ready; there = h.there }
 
 -- the outcome of a step tells the rules' answer
 pub step_laid : (bs : List ℕ) (i : ℕ) (s : State) (y : Outcome) (out out' c w r m x : List ℕ) → SteppedKept s (step_from (drop (file_record_width * i) bs)) y c w r m x
-    → OutcomeLaid out (answer_width * i) y out' → StepLaid bs i s out out' c w r m x
-step_laid bs i s y out out' c w r m x k l =
+    → (answer : List ℕ) → answer ≡ answer_words (told y ∷ []) → out' ≡ sets out (answer_width * i) answer → StepLaid bs i s out out' c w r m x
+step_laid bs i s y out out' c w r m x k answer is l =
     let d = k.stepped in
     record {
       laid =
-          l.is
+          l
+          ∙ ap (sets out (answer_width * i)) is
           ∙ ap (λ (a : Answer). sets out (answer_width * i) (answer_words (a ∷ [])))
           d.outcome.numbers;
       areas = d.areas;

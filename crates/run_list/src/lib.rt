@@ -1,16 +1,16 @@
 // Runs: a list of records in one call, answered as the rules' run answers it.
 #![tactic(auto)]
 
-ghost use Rattle.std.specs.Prelude.{◌≡◌, ◌∷◌, [], ◌+◌, ◌≤◌, length};
+ghost use Rattle.std.specs.Prelude.{◌≡◌, ◌+◌, ◌≤◌, length};
 ghost use Rattle.std.proofs.lemmas.List.Edits.{sets};
 ghost use Rattle.limits.specs.Files.{answer_width};
+ghost use Rattle.limits.specs.Refused.{refusal_in};
 ghost use Rattle.rules.specs.State.{mainframe};
 ghost use Rattle.layout.specs.Areas.{state_in, areas};
 ghost use Rattle.run_list.specs.Runs.{Ran};
-ghost use Rattle.run_list.specs.inner.Needed.{OutcomeLaid, RecordReady, StepLaid, CountIs, RecordsThere, OpeningThere, OpeningLaid, StepsThere, StepsLaid};
+ghost use Rattle.run_list.specs.inner.Needed.{RecordReady, StepLaid, CountIs, RecordsThere, OpeningThere, OpeningLaid, StepsThere, StepsLaid};
 
-use limits::{ANSWER_WIDTH, FILE_RECORD_WIDTH};
-use step_act::Outcome;
+use limits::{ANSWER_WIDTH, FILE_RECORD_WIDTH, Refusal, refusal_or_0};
 
 // Runs an opening and the step records behind it, and says how many records it has run: of a refused opening only that one.
 // Each answer is laid as four words: refusal, value, count, words. Of odd sizes: as many whole records are run as there are and as the answers
@@ -36,12 +36,7 @@ pub fn run(
 fn records_run(bytes: usize, words: usize) -> usize
     ensures { CountIs bytes words result }
 {
-    let whole = bytes / FILE_RECORD_WIDTH;
-    let room = words / ANSWER_WIDTH;
-    if whole < room {
-        return whole;
-    }
-    room
+    (bytes / FILE_RECORD_WIDTH).min(words / ANSWER_WIDTH)
 }
 
 // Runs n records, the opening first, and says how many it has run.
@@ -57,15 +52,15 @@ fn run_records(
     requires { RecordsThere bytes.now answers.old n }
     ensures { Ran bytes.now answers.old (areas clocks.old words.old records.old marks.old) result answers.new (areas clocks.new words.new records.new marks.new) }
 {
-    let refusal = run_opening(bytes, answers, clocks, words, records, marks);
-    if refusal != 0 {
+    let opened = run_opening(bytes, answers, clocks, words, records, marks);
+    if opened.is_err() {
         return 1;
     }
     run_steps(bytes, n, answers, clocks, words, records, marks);
     n
 }
 
-// Opens the mainframe by the first record, lays the answer, and says the refusal.
+// Opens the mainframe by the first record, and lays the answer.
 fn run_opening(
     bytes: &[u8],
     answers: &mut [u32],
@@ -73,13 +68,19 @@ fn run_opening(
     words: &mut [u32],
     records: &mut [u8],
     marks: &mut [u8],
-) -> u8
+) -> Result<(), Refusal>
     requires { OpeningThere bytes.now answers.old }
-    ensures { OpeningLaid bytes.now answers.old (areas clocks.old words.old records.old marks.old) result answers.new (areas clocks.new words.new records.new marks.new) }
+    ensures { OpeningLaid bytes.now answers.old (areas clocks.old words.old records.old marks.old) (refusal_in result) answers.new (areas clocks.new words.new records.new marks.new) }
 {
-    let refusal = opening::open_mainframe(&bytes[0..8], clocks, words, records, marks);
-    lay_answer(answers, 0, wide(refusal), 0, 0, 0);
-    refusal
+    let opened = opening::open_mainframe(
+        &bytes[..FILE_RECORD_WIDTH],
+        clocks,
+        words,
+        records,
+        marks,
+    );
+    lay_answer(answers, 0, [u32::from(refusal_or_0(opened)), 0, 0, 0]);
+    opened
 }
 
 // Runs the records behind the opening, of n in all; the index is kept over all of them.
@@ -96,10 +97,8 @@ fn run_steps(
     ensures { StepsLaid bytes.now n (state_in mainframe clocks.old words.old records.old marks.old) answers.old answers.new clocks.new words.new records.new marks.new }
 {
     let mut index = fetch_index::new_index(marks);
-    let mut i: usize = 1;
-    while i < n {
+    for i in 1..n {
         run_step(bytes, i, answers, clocks, words, records, marks, &mut index);
-        i = i + 1;
     }
 }
 
@@ -119,38 +118,14 @@ fn run_step(
 {
     let at = FILE_RECORD_WIDTH * i;
     let outcome = step_record::step_record(bytes, at, clocks, words, records, marks, index);
-    lay_outcome(answers, ANSWER_WIDTH * i, outcome);
-}
-
-// Lays what a step answers from a place on.
-fn lay_outcome(answers: &mut [u32], at: usize, outcome: Outcome)
-    requires { at + answer_width ≤ length answers.old }
-    ensures { OutcomeLaid answers.old at outcome answers.new }
-{
-    match outcome {
-        Outcome::Done {
-            value,
-            count,
-            words,
-        } => lay_answer(answers, at, 0, value, count, words),
-        Outcome::Refused(refusal) => lay_answer(answers, at, wide(refusal), 0, 0, 0),
-    }
+    let answer = step_record::answer_words(outcome);
+    lay_answer(answers, ANSWER_WIDTH * i, answer);
 }
 
 // Lays the four numbers of an answer from a place on.
-fn lay_answer(answers: &mut [u32], at: usize, refusal: u32, value: u32, count: u32, words: u32)
+fn lay_answer(answers: &mut [u32], at: usize, answer: [u32; ANSWER_WIDTH])
     requires { at + answer_width ≤ length answers.old }
-    ensures { answers.new ≡ sets answers.old at (refusal ∷ value ∷ count ∷ words ∷ []) }
+    ensures { answers.new ≡ sets answers.old at answer }
 {
-    answers[at] = refusal;
-    answers[at + 1] = value;
-    answers[at + 2] = count;
-    answers[at + 3] = words;
-}
-
-// A byte as a number of 32 bits.
-fn wide(x: u8) -> u32
-    ensures { (result ≡ x) × (result ≤ 255) }
-{
-    x as u32
+    answers[at..at + ANSWER_WIDTH].copy_from_slice(&answer);
 }

@@ -1,13 +1,14 @@
--- After a read. One law for each way of the code, and `taking_laws`. Rests on Coming. Assumes nothing.
+-- After a read.. Rests on Coming. Assumes nothing.
 use Prim.Native.Nat.{ℕ, ◌/◌, ◌<◌}
 use native.Mathlib.Omega.{arith}
 use mathlib.Core.Path.{◌≡◌, refl, sym, ap, ◌∙◌}
-use mathlib.Core.Bool.{Bool, true, false, false≢true, cond, not, ◌&&◌}
+use mathlib.Core.Bool.{Bool, true, false, false≢true, cond, ◌&&◌}
+use mathlib.Core.Logic.{◌⊎◌, inl, inr}
 use mathlib.Core.List.{List, [], ◌∷◌, ◌++◌, append-nil}
 use lib.ListN.{length, take}
 use lib.Dec.{ltb}
-use borrow.Author.Tests.{lt-ltb, eq-eqb, ne_eqb, not-true, not-false}
-use borrow.Author.Rules.{rules}
+use borrow.Author.Tests.{lt-ltb, eq-eqb, ne_eqb}
+use Rattle.std.specs.Prelude.{None}
 use Rattle.lists.proofs.Parts.{part_from_start}
 use Rattle.limits.specs.Files.{file_record_width, line_limit}
 use Rattle.layout.specs.Areas.{Areas}
@@ -16,30 +17,22 @@ use Rattle.stepfile.specs.Promises.{FedAs, FinishedAs, Reached, feed_answer, fee
 use Rattle.stepfile.specs.declared.Progress.{Progress}
 use Rattle.stepfile.specs.declared.Taken.{Taken}
 use Rattle.stepfile.proofs.Cutting.{after_sound}
-use Rattle.run_loop.specs.Promises.{Runs, next_action, lines_due, is_reading, pending, read_areas, read_lines, read_run, taken_run}
+use Rattle.run_loop.specs.Promises.{NextIs, Runs, next_action, lines_due, is_reading, pending, read_areas, read_lines, read_run, taken_run}
 use Rattle.run_loop.specs.inner.Needed.{Ends, Feeds, ReadAs}
 use Rattle.run_loop.specs.declared.Run.{Run}
-use Rattle.run_loop.specs.declared.Fault.TheVariants.{Nothing, NotFed}
 use Rattle.run_loop.specs.declared.Action.{Action}
-use Rattle.run_loop.specs.declared.Action.TheVariants.{Read}
+use Rattle.run_loop.specs.declared.Action.TheVariants.{Read, Write, Stop}
 use Rattle.run_loop.proofs.Standing.{written_due}
 use Rattle.run_loop.proofs.Coming.{reading}
 
 -- ---- where the run stands after an answer
 
 module _ (s : Run) (t : Taken) (ended : Bool) where
-  pub not_taken : not t.fed ≡ true → ◌≡◌ {A = Run} (record { progress = s.progress; from = s.from; to = s.to; ended = s.ended; fault = NotFed }) (taken_run s t ended)
-  unfolding taken_run
-  not_taken n = sym (rw (not-true t.fed n))
-
-  taken_when : t.fed ≡ true → ◌≡◌ {A = Run} (record { progress = t.progress; from = 0; to = t.written; ended = ended; fault = Nothing }) (taken_run s t ended)
+  taken_when : t.fed ≡ true → ◌≡◌ {A = Run} (record { progress = t.progress; from = 0; to = t.written; ended = ended; fault = None }) (taken_run s t ended)
   unfolding taken_run
   taken_when e = sym (rw e)
 
-  pub taken_on : not t.fed ≡ false → ◌≡◌ {A = Run} (record { progress = t.progress; from = 0; to = t.written; ended = ended; fault = Nothing }) (taken_run s t ended)
-  taken_on n = taken_when (not-false t.fed n)
-
-  taken_faultless : t.fed ≡ true → (taken_run s t ended).fault ≡ Nothing
+  taken_faultless : t.fed ≡ true → (taken_run s t ended).fault ≡ None
   taken_faultless e = ap (λ (r : Run). r.fault) (sym (taken_when e))
 
 pub feeds : (s : Run) (bytes out : List ℕ) (a : Areas) (t : Taken) (s' : Run) (out' : List ℕ) (a' : Areas) → FedAs s.progress bytes out a t out' a' → s' ≡ taken_run s t false
@@ -87,7 +80,7 @@ module _ (a₀ : Areas) (read written : List ℕ) (s : Run) (out : List ℕ) (a 
       fed_there : f.taken.fed ≡ true
       fed_there = feed_taken s.progress bytes (length out) a f.taken f.fed.answer (feeds_there a₀ a read s.progress (length bytes) (length out) h.reached l)
 
-      fed_faultless : s'.fault ≡ Nothing
+      fed_faultless : s'.fault ≡ None
       fed_faultless = ap (λ (r : Run). r.fault) f.run ∙ taken_faultless s f.taken false fed_there
 
       fed_runs : Runs a₀ (read ++ bytes) written s' out' a'
@@ -109,7 +102,7 @@ module _ (a₀ : Areas) (read written : List ℕ) (s : Run) (out : List ℕ) (a 
       end_there : f.taken.fed ≡ true
       end_there = finish_taken s.progress (length out) f.taken f.finished.answer (feeds_there a₀ a read s.progress 0 (length out) h.reached (omega (arith, l, none)))
 
-      end_faultless : s'.fault ≡ Nothing
+      end_faultless : s'.fault ≡ None
       end_faultless = ap (λ (r : Run). r.fault) f.run ∙ taken_faultless s f.taken true end_there
 
       no_bytes : (xs : List ℕ) → length xs ≡ 0 → read ≡ read ++ xs
@@ -133,26 +126,28 @@ module _ (a₀ : Areas) (read written : List ℕ) (s : Run) (out : List ℕ) (a 
 
 -- ---- the promise
 
-module _ (s : Run) (bytes out : List ℕ) (a : Areas) (b : Bool) (e : b ≡ is_reading (next_action s)) where
+module _ (s : Run) (bytes out : List ℕ) (a : Areas) (x : Action) (e : NextIs s x) where
   -- a run that is not to read is left as it is
-  pub read_not : not b ≡ true → ReadAs s bytes out a s out a
+  pub read_not : (x ≡ Write) ⊎ (x ≡ Stop) → ReadAs s bytes out a s out a
   unfolding read_run read_lines read_areas
   read_not n =
-      let idle : is_reading (next_action s) ≡ false = sym e ∙ not-true b n in
       record {
         run = sym (rw idle);
         lines = sym (rw idle);
         areas = sym (rw idle);
-        fed = λ a₀ read written x l h. absurd (other x idle);
-        runs = λ a₀ read written x l h. absurd (other x idle);
+        fed = λ a₀ read written y l h. absurd (other y);
+        runs = λ a₀ read written y l h. absurd (other y);
       }
     where
-      other : next_action s ≡ Read → is_reading (next_action s) ≡ false → ⊥
-      other x idle = false≢true (sym idle ∙ ap (λ (y : Action). is_reading y) x)
+      idle : is_reading (next_action s) ≡ false
+      idle = elim n [ inl w ↦ ap is_reading (sym e.is ∙ w) | inr w ↦ ap is_reading (sym e.is ∙ w) ]
 
-  module _ (n : not b ≡ false) where
+      other : next_action s ≡ Read → ⊥
+      other y = false≢true (sym idle ∙ ap is_reading y)
+
+  module _ (n : x ≡ Read) where
     yes : is_reading (next_action s) ≡ true
-    yes = sym e ∙ not-false b n
+    yes = ap is_reading (sym e.is ∙ n)
 
     -- the input has ended
     pub read_end : (s' : Run) (out' : List ℕ) → length bytes ≡ 0 → Ends s out s' out' → ReadAs s bytes out a s' out' a
@@ -177,5 +172,3 @@ module _ (s : Run) (bytes out : List ℕ) (a : Areas) (b : Bool) (e : b ≡ is_r
           fed = λ a₀ read written x l h. fed_faultless a₀ read written s out a h x bytes l s' out' a' f;
           runs = λ a₀ read written x l h. fed_runs a₀ read written s out a h x bytes l s' out' a' f;
         }
-
-pub ruleset taking_laws = (not_taken, taken_on, feeds, ends, read_not, read_end, read_some, rules)

@@ -1,25 +1,23 @@
 // The run program but for its reads and writes: what it does next, and where it stands after a read or a write.
 #![tactic(auto)]
 
-ghost use Rattle.std.specs.Prelude.{◌-◌, min, ◌≡◌, pos};
-ghost use Rattle.std.specs.Int.Signed.{lt_z};
+ghost use Rattle.std.specs.Prelude.{◌≡◌};
 ghost use Rattle.layout.specs.Areas.{areas};
-ghost use Rattle.run_loop.specs.Promises.{is_nothing, is_reading, next_action, pending, taken_run, Begins, NextIs, GotAs, PutAs};
+ghost use Rattle.run_loop.specs.Promises.{pending, taken_run, Begins, NextIs, GotAs, PutAs};
 ghost use Rattle.run_loop.specs.inner.Needed.{Feeds, Ends, ReadAs, WroteAs, FailedAs};
 
 use stepfile::{Progress, Taken};
 
 // What went wrong: a read, a write, or a chunk that was not fed.
-#[derive(Clone, Copy)]
+#[derive(Clone, Copy, PartialEq, Eq)]
 pub enum Fault {
-    Nothing,
     Reading,
     Writing,
     NotFed,
 }
 
 // What the program does next.
-#[derive(Clone, Copy)]
+#[derive(Clone, Copy, PartialEq, Eq)]
 pub enum Action {
     Read,
     Write,
@@ -36,58 +34,53 @@ pub struct Run {
     pub to: usize,
     // Whether the input has ended.
     pub ended: bool,
-    pub fault: Fault,
+    // What went wrong, if anything.
+    pub fault: Option<Fault>,
 }
 
 // Nothing has been read or written.
+#[tactic(auto, using(crate::proofs::Coming::begins))]
 pub fn begin() -> Run
     ensures { Begins result }
 {
-    let progress = stepfile::start();
     Run {
-        progress,
+        progress: stepfile::start(),
         from: 0,
         to: 0,
         ended: false,
-        fault: Fault::Nothing,
+        fault: None,
     }
 }
 
 // What to do next: write the lines that are left, then read on unless the input has ended or the run has stopped.
+#[tactic(auto, using(crate::proofs::Coming::next_action_is), unfolding(crate::specs::Promises::next_action))]
 pub fn next_action(run: Run) -> Action
     ensures { NextIs run result }
 {
-    let fault = run.fault;
-    if !is_nothing(fault) {
-        return Action::Stop;
+    if run.fault.is_some() {
+        Action::Stop
+    } else if run.from < run.to {
+        Action::Write
+    } else if run.ended || run.progress.stopped {
+        Action::Stop
+    } else {
+        Action::Read
     }
-    if run.from < run.to {
-        return Action::Write;
-    }
-    if run.ended {
-        return Action::Stop;
-    }
-    let progress = run.progress;
-    if progress.stopped {
-        return Action::Stop;
-    }
-    Action::Read
 }
 
 // The lines that are left to be written.
+#[tactic(auto, using(crate::proofs::Writing::part_pending))]
 pub fn unwritten(run: Run, lines: &[u8]) -> &[u8]
     ensures { result.now ≡ pending run lines.now }
 {
-    let to = least(run.to, lines.len());
-    let from = least(run.from, to);
-    &lines[from..to]
+    let to = run.to.min(lines.len());
+    &lines[run.from.min(to)..to]
 }
 
-// A read has answered, and put bytes at the start of the chunk. One that failed is made again or not.
+// A read has answered how many bytes it put at the start of the chunk, or, where it failed, whether it is made again.
 pub fn after_read(
     run: Run,
-    got: isize,
-    again: bool,
+    got: Result<usize, bool>,
     chunk: &[u8],
     lines: &mut [u8],
     clocks: &mut [u8],
@@ -95,25 +88,26 @@ pub fn after_read(
     records: &mut [u8],
     marks: &mut [u8],
 ) -> Run
-    ensures { GotAs run got again chunk.now lines.old (areas clocks.old words.old records.old marks.old) result lines.new (areas clocks.new words.new records.new marks.new) }
+    ensures { GotAs run got chunk.now lines.old (areas clocks.old words.old records.old marks.old) result lines.new (areas clocks.new words.new records.new marks.new) }
 {
-    if is_failed(got) {
-        return fail(run, Fault::Reading, again);
+    match got {
+        Ok(n) => {
+            let bytes = &chunk[..n.min(chunk.len())];
+            take(run, bytes, lines, clocks, words, records, marks)
+        }
+        Err(again) => fail(run, Fault::Reading, again),
     }
-    let n = io::count(got, chunk);
-    take(run, &chunk[..n], lines, clocks, words, records, marks)
 }
 
-// A write has answered, which was handed the lines that are left. One that failed is made again or not; one that takes nothing has failed.
-pub fn after_write(run: Run, put: isize, again: bool, lines: &[u8]) -> Run
-    ensures { PutAs run put again lines.now result }
+// A write, which was handed the lines that are left, has answered how many bytes it took, or, where it failed, whether it is made again. One that takes
+// nothing has failed.
+pub fn after_write(run: Run, put: Result<usize, bool>, lines: &[u8]) -> Run
+    ensures { PutAs run put lines.now result }
 {
-    if is_failed(put) {
-        return fail(run, Fault::Writing, again);
+    match put {
+        Ok(n) => write(run, n.min(unwritten(run, lines).len())),
+        Err(again) => fail(run, Fault::Writing, again),
     }
-    let part = unwritten(run, lines);
-    let n = io::count(put, part);
-    write(run, n)
 }
 
 // Takes bytes that have been read; none at the end of the input.
@@ -128,16 +122,15 @@ fn take(
 ) -> Run
     ensures { ReadAs run bytes.now lines.old (areas clocks.old words.old records.old marks.old) result lines.new (areas clocks.new words.new records.new marks.new) }
 {
-    if !is_reading(run) {
-        return run;
+    match next_action(run) {
+        Action::Read if bytes.is_empty() => end(run, lines),
+        Action::Read => feed(run, bytes, lines, clocks, words, records, marks),
+        Action::Write | Action::Stop => run,
     }
-    if bytes.len() == 0 {
-        return end(run, lines);
-    }
-    feed(run, bytes, lines, clocks, words, records, marks)
 }
 
 // Feeds bytes that have been read.
+#[tactic(auto, using(crate::proofs::Taking::feeds))]
 fn feed(
     run: Run,
     bytes: &[u8],
@@ -149,129 +142,66 @@ fn feed(
 ) -> Run
     ensures { Feeds run bytes.now lines.old (areas clocks.old words.old records.old marks.old) result lines.new (areas clocks.new words.new records.new marks.new) }
 {
-    let progress = run.progress;
-    let taken = stepfile::feed(progress, bytes, lines, clocks, words, records, marks);
+    let taken = stepfile::feed(run.progress, bytes, lines, clocks, words, records, marks);
     go_on(run, taken, false)
 }
 
 // Ends the file.
+#[tactic(auto, using(crate::proofs::Taking::ends))]
 fn end(run: Run, lines: &mut [u8]) -> Run
     ensures { Ends run lines.old result lines.new }
 {
-    let progress = run.progress;
-    let taken = stepfile::finish(progress, lines);
-    go_on(run, taken, true)
+    go_on(run, stepfile::finish(run.progress, lines), true)
 }
 
 // Where the run stands once bytes have been taken: their lines are to be written.
+#[tactic(auto, unfolding(crate::specs::Promises::taken_run))]
 fn go_on(run: Run, taken: Taken, ended: bool) -> Run
     ensures { result ≡ taken_run run taken ended }
 {
-    if !taken.fed {
-        let progress = run.progress;
-        return Run {
-            progress,
-            from: run.from,
-            to: run.to,
-            ended: run.ended,
-            fault: Fault::NotFed,
-        };
-    }
-    let progress = taken.progress;
-    Run {
-        progress,
-        from: 0,
-        to: taken.written,
-        ended,
-        fault: Fault::Nothing,
+    if taken.fed {
+        Run {
+            progress: taken.progress,
+            from: 0,
+            to: taken.written,
+            ended,
+            fault: None,
+        }
+    } else {
+        Run {
+            fault: Some(Fault::NotFed),
+            ..run
+        }
     }
 }
 
 // Goes on behind the first n bytes of the lines that were left; none is a failure.
+#[tactic(auto, using(crate::proofs::Writing::wrote_as), unfolding(crate::specs::Promises::wrote_run))]
 fn write(run: Run, n: usize) -> Run
     ensures { WroteAs run n result }
 {
-    let progress = run.progress;
-    let from = run.from + least(n, left(run));
-    if n == 0 {
-        return Run {
-            progress,
-            from,
-            to: run.to,
-            ended: run.ended,
-            fault: Fault::Writing,
-        };
-    }
-    let fault = run.fault;
     Run {
-        progress,
-        from,
-        to: run.to,
-        ended: run.ended,
-        fault,
+        from: run.from + n.min(run.to.saturating_sub(run.from)),
+        fault: if n == 0 {
+            Some(Fault::Writing)
+        } else {
+            run.fault
+        },
+        ..run
     }
 }
 
 // A read or a write has failed; where it is to be made again nothing changes.
+#[tactic(auto, using(crate::proofs::Writing::failed_as), unfolding(crate::specs::Promises::failed_run))]
 fn fail(run: Run, fault: Fault, again: bool) -> Run
     ensures { FailedAs run fault again result }
 {
     if again {
-        return run;
+        run
+    } else {
+        Run {
+            fault: Some(fault),
+            ..run
+        }
     }
-    let progress = run.progress;
-    Run {
-        progress,
-        from: run.from,
-        to: run.to,
-        ended: run.ended,
-        fault,
-    }
-}
-
-// Whether the run is to read on.
-fn is_reading(run: Run) -> bool
-    ensures { result ≡ is_reading (next_action run) }
-{
-    let action = next_action(run);
-    match action {
-        Action::Read => true,
-        Action::Write => false,
-        Action::Stop => false,
-    }
-}
-
-// Whether a call failed, by its answer.
-fn is_failed(bytes_moved: isize) -> bool
-    ensures { result ≡ lt_z bytes_moved (pos 0) }
-{
-    bytes_moved < 0
-}
-
-// Whether nothing went wrong.
-fn is_nothing(fault: Fault) -> bool
-    ensures { result ≡ is_nothing fault }
-{
-    match fault {
-        Fault::Nothing => true,
-        Fault::Reading => false,
-        Fault::Writing => false,
-        Fault::NotFed => false,
-    }
-}
-
-// How many bytes of lines are left to be written.
-fn left(run: Run) -> usize
-    ensures { result ≡ run.to - run.from }
-{
-    if run.from < run.to {
-        return run.to - run.from;
-    }
-    0
-}
-
-fn least(a: usize, b: usize) -> usize
-    ensures { result ≡ min a b }
-{
-    if a < b { a } else { b }
 }

@@ -17,7 +17,7 @@ use Rattle.rules.specs.Steps.{page_of_word, offset_of_word, new_twin, twin_taken
 use Rattle.layout.specs.Areas.{copy_row, twin_row, dirty_place, pages_in, state_in, shared_in}
 use Rattle.layout.specs.Layout.{row_of}
 use Rattle.layout.specs.inner.Marks.{dirty_mark}
-use Rattle.layout.specs.inner.Needed.{RowThere, OnPage, PageMark, PageThere}
+use Rattle.layout.specs.inner.Needed.{RowThere, PageMark, PageThere}
 use Rattle.layout.proofs.MarkLaws.{dirty_mark_written}
 use Rattle.layout.proofs.TallyLaws.{twin_row_before, shared_beside}
 use Rattle.layout.proofs.PageLaws.{copy_row_there, copy_read, dirty_read, copy_written, twin_written}
@@ -28,26 +28,10 @@ use Rattle.step_access.specs.inner.Effects.{twinned, word_stored, word_place, Tw
 
 -- ---- the place of a word
 
--- the page of a word
-pub word_page_number : (p a : ℕ) → OnWord p a → OnPage p (a / page_width)
-word_page_number p a h = record { from = h.from; to = h.to; page = omega (arith, h.word) }
-
 -- the row of its copy, and its offset there
 pub word_place_is : (p a row : ℕ) → row ≡ copy_row mainframe p (a / page_width) → page_width * row + a % page_width ≡ word_place p a
 unfolding word_place
 word_place_is p a row e = rw e
-
--- it lies within the area
-pub word_place_there : (p a : ℕ) → OnWord p a → word_place p a < word_area
-unfolding word_place copy_row mainframe
-word_place_there p a h = omega (arith, h.from, h.to, h.word)
-
--- what is stored there, and what is read there
-pub word_put : (l : List ℕ) (p a at v : ℕ) → at ≡ word_place p a → set l at v ≡ set l (word_place p a) v
-word_put l p a at v e = rw e
-
-pub word_got : (l : List ℕ) (p a at : ℕ) → at ≡ word_place p a → get_or l at 0 ≡ get_or l (word_place p a) 0
-word_got l p a at e = rw e
 
 -- ---- one element of a row stored
 
@@ -89,11 +73,7 @@ unfolding twinned twin_taken new_twin
 twinned_clean s p g e = rw e
 
 module _ (w m : List ℕ) (p g : ℕ) (there : PageThere w m p g) where
-  -- the page has its rows
-  pub page_there : OnPage p g
-  page_there = record { from = there.from; to = there.to; page = there.page }
-
-  -- and its mark
+  -- the page has its mark
   pub mark_there : PageMark m p g
   mark_there = record { marks = there.marks; from = there.from; to = there.to; page = there.page }
 
@@ -190,4 +170,4 @@ module _ (w m : List ℕ) (p a : ℕ) (there : WordThere w m p a) where
             ∙ ap (λ (s : State). with_pages s (stored mainframe s.pages p a v)) (t.is c r);
       }
 
-pub ruleset store_laws = (word_page_number, word_place_is, word_place_there, word_put, word_got, page_there, mark_there, page_row_there, twin_kept, twin_first, word_page_there, word_in, store_done, rules)
+pub ruleset store_laws = (word_place_is, mark_there, page_row_there, twin_kept, twin_first, word_page_there, word_in, store_done, rules)

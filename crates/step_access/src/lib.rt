@@ -16,7 +16,8 @@ use layout::marks::{is_dirty, mark_dirty};
 use layout::{copy_page, copy_row, twin_row};
 use limits::PAGE_WIDTH;
 
-// What a read or a write answers: the word that was read or 0, how many records its fetch applied, and how many words those set.
+// What an accepted step answers: a value (the word of a read, the total of a tally, the job that was removed, else 0), how many records were applied, and
+// how many words these set.
 #[derive(Clone, Copy)]
 pub struct Answered {
     pub value: u32,
@@ -82,17 +83,17 @@ fn store(words: &mut [u32], marks: &mut [u8], p: ProcessorId, w: usize, v: u32)
 
 // Takes the twin of a page if the page is clean, in the sequence of the thesis (document 000, "Pages and Data", the text to figure 2.9). What comes
 // after it, when the interval ends, is step_close::close_dirty.
+#[tactic(auto, using(crate::proofs::Storing::store_laws))]
 fn take_twin(words: &mut [u32], marks: &mut [u8], p: ProcessorId, g: PageId)
     requires { PageThere words.old marks.old p.0 g.0 }
     ensures { TwinTaken words.old marks.old words.new marks.new p.0 g.0 }
 {
-    if is_dirty(marks, p, g) {
-        return;
+    if !is_dirty(marks, p, g) {
+        // The page becomes one that may be written (READ_WRITE there): it is dirty.
+        mark_dirty(marks, p, g);
+        // Its twin is made and saved, in the twin's row.
+        copy_page(words, copy_row(p, g), twin_row(p, g));
     }
-    // The page becomes one that may be written (READ_WRITE there): it is dirty.
-    mark_dirty(marks, p, g);
-    // Its twin is made and saved, in the twin's row.
-    copy_page(words, copy_row(p, g), twin_row(p, g));
 }
 
 // Stores a word in a processor's copy.

@@ -2,11 +2,10 @@
 use Prim.Native.Nat.{ℕ, ◌*◌, ◌≤◌}
 use native.Mathlib.Omega.{arith}
 use mathlib.Core.Path.{◌≡◌, sym, ap, ◌∙◌}
-use mathlib.Core.Bool.{Bool, true, false, not}
+use mathlib.Core.Bool.{Bool, true, false}
 use mathlib.Core.List.{List}
 use lib.ListN.{length, set, length-set}
 use lib.Seq.{sets, length-sets}
-use borrow.Author.Tests.{not-true, not-false}
 use borrow.Author.Rules.{rules}
 use Rattle.lists.specs.Tables.{put}
 use Rattle.limits.specs.Limits.{processor_limit}
@@ -139,10 +138,10 @@ module _ (c w r m : List ℕ) (p : ℕ) (x : List ℕ) (k : ArrivesKept c w r m 
       answer_is = one.is c w r ∙ last_arrives s p a.acts.from a.acts.to a.not_arrived
 
       -- others are awaited, and what stood stands
-      pub not_the_last : (n v : ℕ) → not b ≡ true → (n ≡ 0) × (v ≡ 0) → CountedKept (arrive mainframe (state_in mainframe c w r m) p) n v c₁ w r₁ m₁ x
+      pub not_the_last : (n v : ℕ) → b ≡ false → (n ≡ 0) × (v ≡ 0) → CountedKept (arrive mainframe (state_in mainframe c w r m) p) n v c₁ w r₁ m₁ x
       unfolding at_barrier closed
       not_the_last n v z none =
-          let missing : all_arrived (at_barrier s p) ≡ false = sym answer_is ∙ not-true b z in
+          let missing : all_arrived (at_barrier s p) ≡ false = sym answer_is ∙ z in
           let waiting : arrive mainframe s p ≡ none_fetched (at_barrier s p) = arrive_waits s p missing in
           let order : InOrder mainframe (at_barrier s p) =
           in_order_of mainframe (at_barrier s p) (waiting_parts mainframe s p (parts_of mainframe s a.acts.in_order) (among_when s.counts p a.acts.from a.acts.to) a.not_waiting a.no_lock missing) in
@@ -159,11 +158,11 @@ module _ (c w r m : List ℕ) (p : ℕ) (x : List ℕ) (k : ArrivesKept c w r m 
           }
 
       -- the last completes the round
-      pub last_completes : (n v : ℕ) (c₂ w₂ m₂ x₂ : List ℕ) → not b ≡ false → CountedKept (completed (state_in mainframe c₁ w r₁ m₁)) n v c₂ w₂ r₁ m₂ x₂
+      pub last_completes : (n v : ℕ) (c₂ w₂ m₂ x₂ : List ℕ) → b ≡ true → CountedKept (completed (state_in mainframe c₁ w r₁ m₁)) n v c₂ w₂ r₁ m₂ x₂
           → CountedKept (arrive mainframe (state_in mainframe c w r m) p) n v c₂ w₂ r₁ m₂ x₂
       last_completes n v c₂ w₂ m₂ x₂ z e =
           let completing : completed (state_in mainframe c₁ w r₁ m₁) ≡ arrive mainframe s p =
-          ap (λ (t : State). completed t) h.is ∙ sym (arrive_completes s p (sym answer_is ∙ not-false b z)) in
+          ap (λ (t : State). completed t) h.is ∙ sym (arrive_completes s p (sym answer_is ∙ z)) in
           record {
             counted =
                 record {

@@ -5,7 +5,6 @@ use mathlib.Core.Bool.{Bool, true, false, not}
 use mathlib.Core.List.{List}
 use lib.ListN.{length}
 use lib.Dec.{eqb}
-use borrow.Author.Tests.{not-true, not-false}
 use borrow.Author.Rules.{rules}
 use Rattle.limits.specs.inner.Sizes.{mark_area}
 use Rattle.rules.specs.State.{mainframe, State}
@@ -52,9 +51,9 @@ module _ (c w r m c₁ w₁ m₁ : List ℕ) (h : RoundComplete c w r m) (d : Ro
         ap (λ (s : State). collected mainframe s) (d.is r) ∙ sym (completed_collects (state_in mainframe c w r m) (sym wish_is ∙ e))
 
     -- nothing is collected
-    plain_done : not b ≡ true → CountedAs (completed (state_in mainframe c w r m)) 0 0 c₁ w₁ r m₁
+    plain_done : b ≡ false → CountedAs (completed (state_in mainframe c w r m)) 0 0 c₁ w₁ r m₁
     plain_done e =
-        let none-wanted = plain (not-true b e) in
+        let none-wanted = plain e in
         record {
           applied = ap (λ (f : Fetches). f.count) (sym none-wanted);
           moved_is = ap (λ (f : Fetches). f.words) (sym none-wanted);
@@ -62,10 +61,10 @@ module _ (c w r m c₁ w₁ m₁ : List ℕ) (h : RoundComplete c w r m) (d : Ro
         }
 
     -- garbage is collected
-    collecting_done : (x v : ℕ) (c₂ w₂ m₂ : List ℕ) → not b ≡ false → CountedAs (collected mainframe (state_in mainframe c₁ w₁ r m₁)) x v c₂ w₂ r m₂
+    collecting_done : (x v : ℕ) (c₂ w₂ m₂ : List ℕ) → b ≡ true → CountedAs (collected mainframe (state_in mainframe c₁ w₁ r m₁)) x v c₂ w₂ r m₂
         → CountedAs (completed (state_in mainframe c w r m)) x v c₂ w₂ r m₂
     collecting_done x v c₂ w₂ m₂ t e =
-        let wish = with_collection (not-false b t) in
+        let wish = with_collection t in
         record {
           applied = e.applied ∙ ap (λ (f : Fetches). f.count) wish;
           moved_is = e.moved_is ∙ ap (λ (f : Fetches). f.words) wish;
@@ -85,11 +84,11 @@ module _ (c w r m x c₁ w₁ m₁ : List ℕ) (h : CompleteKept c w r m x) (d :
 
   module _ (b : Bool) (is : b ≡ not (eqb (wish_mark m₁) 0)) where
     -- nothing is collected
-    pub complete_plain : (n v : ℕ) → not b ≡ true → (n ≡ 0) × (v ≡ 0) → CountedKept (completed (state_in mainframe c w r m)) n v c₁ w₁ r m₁ x
+    pub complete_plain : (n v : ℕ) → b ≡ false → (n ≡ 0) × (v ≡ 0) → CountedKept (completed (state_in mainframe c w r m)) n v c₁ w₁ r m₁ x
     complete_plain n v e z = rw (z.0, z.1) (record { counted = plain_done c w r m c₁ w₁ m₁ h.complete d b is e; kept = h.kept c₁ w₁ m₁ d })
 
     -- garbage is collected
-    pub complete_collects : (n v : ℕ) (c₂ w₂ m₂ x₂ : List ℕ) → not b ≡ false → CountedKept (collected mainframe (state_in mainframe c₁ w₁ r m₁)) n v c₂ w₂ r m₂ x₂
+    pub complete_collects : (n v : ℕ) (c₂ w₂ m₂ x₂ : List ℕ) → b ≡ true → CountedKept (collected mainframe (state_in mainframe c₁ w₁ r m₁)) n v c₂ w₂ r m₂ x₂
         → CountedKept (completed (state_in mainframe c w r m)) n v c₂ w₂ r m₂ x₂
     complete_collects n v c₂ w₂ m₂ x₂ t e = record { counted = collecting_done c w r m c₁ w₁ m₁ h.complete d b is n v c₂ w₂ m₂ t e.counted; kept = e.kept }
 

@@ -31,17 +31,11 @@ pub fn arrive(
 {
     let last = barrier_marks::one_missing(marks);
     at_barrier(p, clocks, words, records, marks);
-    if !last {
-        return nothing();
+    if last {
+        complete_round(clocks, words, records, marks, index)
+    } else {
+        Moved::default()
     }
-    complete_round(clocks, words, records, marks, index)
-}
-
-// Where nothing was fetched.
-fn nothing() -> Moved
-    ensures { (result.count ≡ 0) × (result.words ≡ 0) }
-{
-    Moved { count: 0, words: 0 }
 }
 
 // Closes the interval; the barrier's clock joins the processor's; the processor is marked.
@@ -72,10 +66,11 @@ fn complete_round(
     ensures { CountedKept (completed (state_in mainframe clocks.old words.old records.now marks.old)) result.count result.words clocks.new words.new records.now marks.new index.new }
 {
     round_done(clocks, words, marks);
-    if !is_wanted(marks) {
-        return nothing();
+    if is_wanted(marks) {
+        step_collect::collect(clocks, words, records, marks, index)
+    } else {
+        Moved::default()
     }
-    step_collect::collect(clocks, words, records, marks, index)
 }
 
 // The adds of the round are posted; every processor learns the barrier's clock, which returns to zeros, and the marks clear.
@@ -95,9 +90,7 @@ fn all_learned(clocks: &mut [u8], n: usize)
     requires { ClocksOfFirst clocks.old n }
     ensures { HoldsClocks clocks.new (all_learned (clocks_in mainframe clocks.old) n) }
 {
-    let mut k: usize = 0;
-    while k < n {
+    for k in 0..n {
         learn(clocks, k + 1, 0);
-        k = k + 1;
     }
 }

@@ -1,20 +1,20 @@
 -- A processor without a dirty page has nothing to close: its marks looked at one by one, and the state that closing leaves as it is. One
 -- law for each way of the code, and `dirty_laws`. Assumes nothing.
-use Prim.Native.Nat.{ℕ, zero, suc, ◌+◌, ◌≤◌, ◌<◌}
+use Prim.Native.Nat.{ℕ, zero, suc, ◌+◌, ◌-◌, ◌≤◌, ◌<◌}
 use native.Mathlib.Numerals.{add-one}
 use native.Mathlib.Omega.{arith}
 use mathlib.Core.Path.{◌≡◌, refl, sym, ap, ap₂, ◌∙◌}
 use mathlib.Core.Bool.{Bool, true, false, cond, not, ◌&&◌, ◌||◌, false≢true}
 use mathlib.Core.List.{List, [], ◌∷◌, map}
-use lib.ListN.{length, get_or}
-use lib.Seq.{set-get_or}
+use lib.ListN.{length, get_or, take, drop, length-drop}
+use lib.Seq.{set-get_or, length-take-le}
 use lib.Dec.{eqb, ltb}
 use borrow.Author.Tests.{eqb-true, ltb-true, le-ltb, not-false}
 use borrow.Author.Rules.{rules}
+use Rattle.std.proofs.lemmas.List.{get_or-drop, get_or-take}
 use Rattle.lists.specs.Tables.{any}
 use Rattle.lists.proofs.Tables.{any_at, any_holds, put_within}
 use Rattle.limits.specs.Limits.{page_limit}
-use Rattle.limits.specs.inner.Sizes.{mark_area}
 use Rattle.rules.specs.Close.{any_dirty, ticked, recorded, cleaned, closed}
 use Rattle.rules.specs.State.{Limits, mainframe, dirty_at, State, with_clocks, with_pages, with_records}
 use Rattle.rules.specs.InOrder.{present, present_holder}
@@ -34,39 +34,45 @@ unfolding any
 any_same zero t u h = refl
 any_same (suc n) t u h = ap₂ ◌||◌ (any_same n t u (λ i k. h i (omega arith))) (h n (omega arith))
 
--- found: whether one of the first i marks is set
-pub record LookedAt (m : List ℕ) (from : ℕ) (found : Bool) (i : ℕ) : Type 0 where
-  pub marks : length m ≡ mark_area
-  pub room : from + page_limit ≤ mark_area
-  pub upto : i ≤ page_limit
-  pub same : found ≡ any i (λ k. not (eqb (get_or m (from + k) 0) 0))
+-- whether one of the first i marks is set
+unfoldable pub some_set : List ℕ → ℕ → Bool
+some_set marks i = any i (λ k. not (eqb (get_or marks k 0) 0))
 
--- before the first mark
-pub looked_begins : (m : List ℕ) (p from : ℕ) → MarksOf m p → from ≡ dirty_place mainframe p 0 → LookedAt m from false 0
-unfolding any
-looked_begins m p from h e = record { marks = h.marks; room = omega (arith, h.marks, last_dirty_there m p h from e); upto = omega arith; same = refl }
-
-module _ (m : List ℕ) (from : ℕ) (found : Bool) (i : ℕ) (now : LookedAt m from found i) where
-  -- the next mark is there
-  pub looked_place : i < page_limit → from + i < length m
-  looked_place more = omega (arith, now.marks, now.room)
+module _ (marks : List ℕ) where
+  -- before the first mark
+  pub looked_begins : false ≡ some_set marks 0
+  unfolding some_set any
+  looked_begins = refl
 
   -- one more mark
-  pub looked_more : (b : Bool) → i < page_limit → b ≡ (found || not (eqb (get_or m (from + i) 0) 0)) → LookedAt m from b (i + 1)
-  unfolding any
-  looked_more b more e = record { marks = now.marks; room = now.room; upto = omega arith; same = e ∙ rw (add-one i, ← now.same) }
+  pub looked_more : (found : Bool) (i : ℕ) → found ≡ some_set marks i → (found || not (eqb (get_or marks i 0) 0)) ≡ some_set marks (i + 1)
+  unfolding some_set any
+  looked_more found i e = rw (add-one i, e)
+
+module _ (m : List ℕ) (p from : ℕ) (there : MarksOf m p) (e : from ≡ dirty_place mainframe p 0) where
+  -- the marks of the processor lie within the area
+  pub marks_end : from + page_limit ≤ length m
+  marks_end = last_dirty_there m p there from e
+
+  -- those of its pages
+  abbrev own_marks : List ℕ
+  own_marks = take (from + page_limit - from) (drop from m)
+
+  own_marks_long : length own_marks ≡ page_limit
+  own_marks_long = length-take-le (from + page_limit - from) (drop from m) (omega (arith, length-drop from m, marks_end)) ∙ omega arith
 
   -- all marks are seen
-  pub looked_ends : (p : ℕ) → MarksOf m p → from ≡ dirty_place mainframe p 0 → page_limit ≤ i → AnyDirty m p found
-  unfolding dirty_at state_in dirty_place mainframe
-  looked_ends p h e done =
-      let all : i ≡ page_limit = omega (arith, now.upto) in
-      record { is = λ c w r. now.same ∙ ap (λ (k : ℕ). any k (λ g. not (eqb (get_or m (from + g) 0) 0))) all ∙ any_same page_limit _ _ (λ g k. at g k w) }
+  pub looked_ends : (found : Bool) (i : ℕ) → found ≡ some_set own_marks i → length own_marks ≤ i → i ≤ length own_marks → AnyDirty m p found
+  unfolding some_set dirty_at state_in dirty_place mainframe
+  looked_ends found i same done upto =
+      let all : i ≡ page_limit = omega (arith, own_marks_long) in
+      record { is = λ c w r. same ∙ ap (λ (k : ℕ). any k (λ g. not (eqb (get_or own_marks g 0) 0))) all ∙ any_same page_limit _ _ (λ g k. at g k w) }
     where
-      at : (g : ℕ) → g < page_limit → (w : List ℕ) → not (eqb (get_or m (from + g) 0) 0) ≡ dirty_at (pages_in mainframe w m) p g
+      at : (g : ℕ) → g < page_limit → (w : List ℕ) → not (eqb (get_or own_marks g 0) 0) ≡ dirty_at (pages_in mainframe w m) p g
       at g k w =
           let place : from + g ≡ dirty_place mainframe p g = omega (arith, e) in
-          ap (λ (x : ℕ). not (eqb x 0)) (ap (λ (x : ℕ). get_or m x 0) place ∙ sym (dirty_read w m p g h.from h.to k))
+          let here : get_or own_marks g 0 ≡ get_or m (from + g) 0 = get_or-take (from + page_limit - from) (drop from m) g 0 (omega arith) ∙ get_or-drop from m g 0 in
+          ap (λ (x : ℕ). not (eqb x 0)) (here ∙ ap (λ (x : ℕ). get_or m x 0) place ∙ sym (dirty_read w m p g there.from there.to k))
 
 -- ---- the state without a dirty page of its processor
 
@@ -165,4 +171,4 @@ module _ (c w r m : List ℕ) (p : ℕ) (ready : Acts c w r m p) where
   pub dirty_acts : (b : Bool) → AnyDirty m p b → b ≡ true → ActsDirty c w r m p
   dirty_acts b said e = record { acts = ready; dirty = some_dirty mainframe (state_in mainframe c w r m) p ready.in_order (sym (said.is c w r) ∙ e) }
 
-pub ruleset dirty_laws = (first_on_page, looked_begins, looked_place, looked_more, looked_ends, marks_there, closed_already, dirty_acts, rules)
+pub ruleset dirty_laws = (first_on_page, looked_begins, looked_more, marks_end, looked_ends, marks_there, closed_already, dirty_acts, rules)

@@ -1,10 +1,12 @@
 -- A record's bytes in its slot: the write notice, the diff and its length before it. One law for each way of the code, and `slot_laws`. Assumes nothing.
-use Prim.Native.Nat.{ℕ, suc, ◌+◌, ◌-◌, ◌*◌, ◌%◌, ◌≤◌, ◌<◌}
+use Prim.Native.Nat.{ℕ, suc, ◌+◌, ◌-◌, ◌*◌, ◌≤◌, ◌<◌}
 use native.Mathlib.Omega.{arith}
 use mathlib.Core.Path.{◌≡◌, refl, sym, ap, ◌∙◌}
 use mathlib.Core.List.{List, [], ◌∷◌, ◌++◌, append_assoc}
 use lib.ListN.{length, take, drop, set, take-append-drop, length-drop}
 use lib.Seq.{length-take-le, drop-append-le, set_comm, drop-drop, sets, length-sets, sets-eq}
+use mir.Syntax.{w8}
+use mir.Val.{Fits}
 use borrow.Author.Rules.{rules}
 use Rattle.limits.specs.inner.Sizes.{slot_width}
 use Rattle.diff.specs.Format.{difference, written}
@@ -47,7 +49,7 @@ module _ (old new out : List ℕ) (fits : DiffFits old new out) where
       }
 
   -- the length fits a byte
-  pub diff_length : (n : ℕ) → n ≡ length (written old new) → n % 256 ≡ length (written old new)
+  pub diff_length : (n : ℕ) → n ≡ length (written old new) → Fits w8 n
   diff_length n e = omega (arith, e, at_most_131_bytes old new fits.old_whole fits.new_whole)
 
 -- ---- behind its length
@@ -90,15 +92,11 @@ module _ (r : List ℕ) (p i g slot : ℕ) (fits : NoticeSlotThere r p i g slot)
   pub notice_place_lem : (k : ℕ) → k < slot_width → slot_width * slot + k < length r
   notice_place_lem k h = omega (arith, fits.records, fits.place)
 
-  pub notice_laid : set (set (set r (slot_width * slot) (p % 256)) (slot_width * slot + 1) (i % 256)) (slot_width * slot + 2) (g % 256)
-      ≡ sets r (slot_width * slot) (notice_bytes p i g)
+  pub notice_laid : set (set (set r (slot_width * slot) p) (slot_width * slot + 1) i) (slot_width * slot + 2) g ≡ sets r (slot_width * slot) (notice_bytes p i g)
   unfolding notice_bytes
   notice_laid =
-      let processor : p % 256 ≡ p = omega (arith, fits.processor) in
-      let interval : i % 256 ≡ i = omega (arith, fits.interval) in
-      let page : g % 256 ≡ g = omega (arith, fits.page) in
       let second : slot_width * slot + 1 ≡ suc (slot_width * slot) = omega arith in
       let third : slot_width * slot + 2 ≡ suc (suc (slot_width * slot)) = omega arith in
-      rw (processor, interval, page, second, third)
+      rw (second, third)
 
 pub ruleset slot_laws = (diff_pages, diff_room, diff_length, room_behind, diff_behind, length_place, counted_laid, notice_place_lem, notice_laid, rules)

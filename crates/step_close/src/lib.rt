@@ -2,7 +2,7 @@
 // The contracts say so of the state that the lent areas hold, in the words of the rules (specs/Close.antt of the crate rules).
 #![tactic(auto)]
 
-ghost use Rattle.std.specs.Prelude.{◌≡◌, not, ◌||◌, ◌+◌, ◌*◌, ◌<◌, length, eqb};
+ghost use Rattle.std.specs.Prelude.{◌≡◌, ◌+◌, ◌*◌, ◌<◌, length};
 ghost use Rattle.std.proofs.lemmas.List.Edits.{sets};
 ghost use Rattle.limits.specs.Limits.{page_width};
 ghost use Rattle.limits.specs.inner.Sizes.{notice_width, slot_width};
@@ -19,7 +19,7 @@ use clock::{Clock, IntervalId, PageId, ProcessorId};
 use layout::marks::{
     dirty_place, is_dirty, mark_clean, page_count, put_standing_count, standing_count,
 };
-use layout::{clock_at, copy_row, interval_row, own_entry, put_clock, twin_row, wide};
+use layout::{clock_at, copy_row, interval_row, own_entry, put_clock, twin_row};
 use limits::{NOTICE_WIDTH, PAGE_LIMIT, PAGE_WIDTH, SLOT_WIDTH};
 
 // Closes the interval of a processor: for each dirty page one record, if there is one the clock of the interval, and clean pages.
@@ -34,25 +34,17 @@ pub fn close(p: ProcessorId, clocks: &mut [u8], words: &[u32], records: &mut [u8
 }
 
 // Whether any page of a processor is dirty. Every mark is looked at: a loop that stops nowhere becomes one comparison of eight bytes.
+#[tactic(auto, using(crate::proofs::NothingDirty::dirty_laws))]
 fn any_dirty(p: ProcessorId, marks: &[u8]) -> bool
     requires { MarksOf marks.now p.0 }
     ensures { AnyDirty marks.now p.0 result }
 {
     let from = dirty_place(p, PageId(0));
     let mut found = false;
-    let mut i: usize = 0;
-    while i < PAGE_LIMIT {
-        found = also(found, marks[from + i]);
-        i = i + 1;
+    for mark in &marks[from..from + PAGE_LIMIT] {
+        found |= *mark != 0;
     }
     found
-}
-
-// Whether a mark before is set, or this one is.
-fn also(before: bool, mark: u8) -> bool
-    ensures { result ≡ (before || not (eqb mark 0)) }
-{
-    if mark == 0 { before } else { true }
 }
 
 // Closes the interval of a processor that has a dirty page. The sequence is that of the thesis (document 000, "Pages and Data", the text to figure
@@ -75,15 +67,13 @@ fn close_dirty(
 }
 
 // Closes all pages of a processor whose interval has begun, upwards.
+#[tactic(auto, using(crate::proofs::AllPages::all_pages_laws))]
 fn close_pages(p: ProcessorId, clocks: &[u8], words: &[u32], records: &mut [u8], marks: &mut [u8])
     requires { Closable clocks.now words.now records.old marks.old p.0 }
     ensures { Holds clocks.now words.now records.new marks.new (all_closed (state_in mainframe clocks.now words.now records.old marks.old) p.0) }
 {
-    let n = page_count(marks);
-    let mut g: usize = 0;
-    while g < n {
+    for g in 0..page_count(marks) {
         close_page(p, PageId(g), clocks, words, records, marks);
-        g = g + 1;
     }
 }
 
@@ -116,7 +106,7 @@ fn make_change(
     requires { ChangeReady clocks.now words.now records.old marks.old p.0 g.0 }
     ensures { Holds clocks.now words.now records.new marks.new (change_made (state_in mainframe clocks.now words.now records.old marks.old) p.0 g.0) }
 {
-    let interval = IntervalId(wide(own_entry(clocks, p)));
+    let interval = IntervalId(usize::from(own_entry(clocks, p)));
     let slot = standing_count(marks);
     // The interval has begun and gets a write notice for the page, the sign that the page was modified.
     lay_notice(p, interval, g, records, slot);
@@ -129,14 +119,15 @@ fn make_change(
 }
 
 // The write notice of a page in a slot: which processor wrote which page in which interval.
+#[tactic(auto, using(crate::proofs::SlotBytes::slot_laws))]
 fn lay_notice(p: ProcessorId, interval: IntervalId, g: PageId, records: &mut [u8], slot: usize)
     requires { NoticeSlotThere records.old p.0 interval.0 g.0 slot }
     ensures { records.new ≡ sets records.old (slot_width * slot) (notice_bytes p.0 interval.0 g.0) }
 {
     let from = SLOT_WIDTH * slot;
-    records[from] = (p.0 % 256) as u8;
-    records[from + 1] = (interval.0 % 256) as u8;
-    records[from + 2] = (g.0 % 256) as u8;
+    records[from] = p.0 as u8;
+    records[from + 1] = interval.0 as u8;
+    records[from + 2] = g.0 as u8;
 }
 
 // The diff of a page against its twin in a slot, behind its length; the bytes behind it keep what they hold.
@@ -152,12 +143,12 @@ fn create_diff(p: ProcessorId, g: PageId, words: &[u32], records: &mut [u8], slo
 }
 
 // The diff of two pages behind its length, in the part of a slot behind the write notice.
+#[tactic(auto, using(crate::proofs::SlotBytes::slot_laws))]
 fn lay_counted(old: &[u32], new: &[u32], out: &mut [u8])
     requires { CountedFits old.now new.now out.old }
     ensures { out.new ≡ sets out.old 0 (counted_bytes old.now new.now) }
 {
-    let n = lay_behind(old, new, out);
-    out[0] = n;
+    out[0] = lay_behind(old, new, out);
 }
 
 // The diff of two pages behind the place of its length, and its length.
@@ -177,7 +168,7 @@ fn lay_diff(old: &[u32], new: &[u32], out: &mut [u8]) -> u8
 {
     let mask = diff_writer::changed_words(old, new);
     let n = diff_writer::write_changed(old, new, mask, out);
-    (n % 256) as u8
+    n as u8
 }
 
 // The words in a row.
@@ -191,11 +182,12 @@ fn page(words: &[u32], row: usize) -> &[u32]
 }
 
 // The own entry of a processor rises by 1, and the interval keeps the processor's clock.
+#[tactic(auto, using(crate::proofs::Ticks::tick_laws))]
 fn tick(p: ProcessorId, clocks: &mut [u8])
     requires { Tickable clocks.old p.0 }
     ensures { Ticked clocks.old clocks.new p.0 }
 {
-    let made = wide(own_entry(clocks, p));
+    let made = usize::from(own_entry(clocks, p));
     let row = interval_row(p, IntervalId(made + 1));
     let before = clock_at(clocks, p.0);
     let after = raise(before, p);
@@ -204,12 +196,12 @@ fn tick(p: ProcessorId, clocks: &mut [u8])
 }
 
 // A clock with the entry of a processor one higher.
+#[tactic(auto, using(crate::proofs::Ticks::tick_laws))]
 fn raise(clock: Clock, p: ProcessorId) -> Clock
     requires { Raisable clock.entries p.0 }
     ensures { result.entries ≡ raised clock.entries p.0 }
 {
     let mut entries = clock.entries;
-    let at = p.0 - 1;
-    entries[at] = entries[at] + 1;
+    entries[p.0 - 1] += 1;
     Clock { entries }
 }

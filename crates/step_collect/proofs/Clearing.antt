@@ -6,7 +6,7 @@ use native.Mathlib.Decide.{dec_lt}
 use mathlib.Core.Path.{◌≡◌, refl, sym, ap, ◌∙◌}
 use mathlib.Core.List.{List, [], ◌++◌}
 use lib.ListN.{length, get_or, take, drop, replicate, length-replicate, get_or-replicate}
-use lib.Seq.{ext_get_or, sets, length-sets}
+use lib.Seq.{ext_get_or, length-take-le, sets, length-sets}
 use borrow.Author.Rules.{rules}
 use Rattle.limits.specs.Limits.{interval_limit, job_limit, processor_limit}
 use Rattle.limits.specs.inner.Sizes.{clock_area, clock_width, first_interval_row, first_job_row}
@@ -224,8 +224,13 @@ module _ (c₀ c : List ℕ) (n k : ℕ) (t : ClocksClearing c₀ c n k) where
   pub clearing_long : length c ≡ clock_area
   clearing_long = t.long
 
+  -- a part before the end is there
+  pub clearing_part : (c₁ : List ℕ) (n : ℕ) → c₁ ≡ sets c (clock_width * first_job_row) (replicate (clock_width * job_limit) 0) → n ≤ clock_area → n ≡ length (take n c₁)
+  clearing_part c₁ n e h =
+      sym (length-take-le n c₁ (omega (arith, ap length e ∙ length-sets c (clock_width * first_job_row) (replicate (clock_width * job_limit) 0), t.long)))
+
   pub clearing_all : n ≤ k → (c₁ : List ℕ) → c₁ ≡ sets c (clock_width * first_job_row) (replicate (clock_width * job_limit) 0) → (part : List ℕ)
       → part ≡ replicate (length (take (clock_width * first_interval_row) c₁)) 0 → part ++ drop (clock_width * first_interval_row) c₁ ≡ replicate (length c₀) 0
   clearing_all b c₁ e part z = all_zeros b (clock_width * first_interval_row) (clock_width * first_job_row) refl refl c₁ e part z
 
-pub ruleset clear_laws = (made_read, made_fits, made_cleared, jobs_cleared, clearing_begins, clearing_next, clearing_more, clearing_long, clearing_all, rules)
+pub ruleset clear_laws = (made_read, made_fits, made_cleared, jobs_cleared, clearing_begins, clearing_next, clearing_more, clearing_long, clearing_part, clearing_all, rules)

@@ -74,9 +74,9 @@ module _ (c w r m : List ℕ) (p : ℕ) (x : List ℕ) (h : ProcessorFetches c w
   pages_marks = h.ready.lent.marks
 
   -- no page is fetched yet
-  pub pages_begin : (n : ℕ) → (n ≡ page_count m) × (n < 256) → PagesFetching c w r m p n c w x 0 0 0
+  pub pages_begin : (n count moved : ℕ) → (n ≡ page_count m) × (n < 256) → (count ≡ 0) × (moved ≡ 0) → PagesFetching c w r m p n c w x count moved 0
   unfolding pages_fetched mainframe
-  pages_begin n e =
+  pages_begin n count moved e none =
       let is : n ≡ (state_in mainframe c w r m).counts.pages = e.0 ∙ sym (pages_read c w r m) in
       record {
         ready = h.ready;
@@ -87,10 +87,10 @@ module _ (c w r m : List ℕ) (p : ℕ) (x : List ℕ) (h : ProcessorFetches c w
         few_pages = omega (arith, is, h.ready.in_order.pages_fit);
         upto = omega arith;
         holds = refl;
-        counted = refl;
-        moved_is = refl;
-        few = omega arith;
-        moved_few = omega arith;
+        counted = none.0;
+        moved_is = none.1;
+        few = omega (arith, none.0);
+        moved_few = omega (arith, none.1);
       }
 
 module _ (c₀ w₀ r m : List ℕ) (p n : ℕ) (c w x : List ℕ) (count moved g : ℕ) (t : PagesFetching c₀ w₀ r m p n c w x count moved g) where
@@ -180,9 +180,9 @@ module _ (c w r m x : List ℕ) (h : ReadyKept c w r m x) where
   all_marks = h.ready.lent.marks
 
   -- no processor has fetched yet
-  pub all_begin : (n : ℕ) → (n ≡ processor_count m) × (n < 256) → AllFetching c w r m n c w x 0 0 0
+  pub all_begin : (n count moved : ℕ) → (n ≡ processor_count m) × (n < 256) → (count ≡ 0) × (moved ≡ 0) → AllFetching c w r m n c w x count moved 0
   unfolding all_fetched mainframe
-  all_begin n e =
+  all_begin n count moved e none =
       let is : n ≡ (state_in mainframe c w r m).counts.processors = e.0 ∙ sym (processors_read c w r m) in
       record {
         ready = h.ready;
@@ -191,10 +191,10 @@ module _ (c w r m x : List ℕ) (h : ReadyKept c w r m x) where
         few_processors = omega (arith, is, h.ready.in_order.processors_fit);
         upto = omega arith;
         holds = refl;
-        counted = refl;
-        moved_is = refl;
-        few = omega arith;
-        moved_few = omega arith;
+        counted = none.0;
+        moved_is = none.1;
+        few = omega (arith, none.0);
+        moved_few = omega (arith, none.1);
       }
 
 module _ (c₀ w₀ r m : List ℕ) (n : ℕ) (c w x : List ℕ) (count moved k : ℕ) (t : AllFetching c₀ w₀ r m n c w x count moved k) where

@@ -16,11 +16,11 @@ ghost use Rattle.step_collect.specs.inner.Effects.{CountedKept, Emptied};
 
 use clock::{PageId, ProcessorId};
 use layout::marks::{page_count, processor_count, put_standing_count, put_wanted};
-use layout::{clear, own_entry, wide};
-use limits::{CLOCK_AREA, CLOCK_WIDTH, FIRST_INTERVAL_ROW, FIRST_JOB_ROW, INTERVAL_LIMIT};
+use layout::own_entry;
+use limits::{CLOCK_WIDTH, FIRST_INTERVAL_ROW, FIRST_JOB_ROW, INTERVAL_LIMIT};
 
 // How many records fetches applied, and how many words those set.
-#[derive(Clone, Copy)]
+#[derive(Clone, Copy, Default)]
 pub struct Moved {
     pub count: u32,
     pub words: u32,
@@ -56,20 +56,13 @@ fn fetch_all(
     ensures counted_kept { CountedKept (all_fetched mainframe (state_in mainframe clocks.old words.old records.now marks.now) (processor_count marks.now)) result.count result.words clocks.new words.new records.now marks.now index.new }
     ensures ready { Ready clocks.new words.new records.now marks.now }
 {
-    let n = processor_count(marks);
-    let mut count: u32 = 0;
-    let mut moved: u32 = 0;
-    let mut k: usize = 0;
-    while k < n {
+    let mut moved = Moved::default();
+    for k in 0..processor_count(marks) {
         let more = fetch_pages(ProcessorId(k + 1), clocks, words, records, marks, index);
-        count = count + more.count;
-        moved = moved + more.words;
-        k = k + 1;
+        moved.count += more.count;
+        moved.words += more.words;
     }
-    Moved {
-        count,
-        words: moved,
-    }
+    moved
 }
 
 // One processor fetches every page, upwards. Yields how many records were applied, and how many words they set.
@@ -86,56 +79,50 @@ fn fetch_pages(
     ensures few { result.count ≤ key_area }
     ensures moved { result.words ≤ page_width * result.count }
 {
-    let n = page_count(marks);
-    let mut count: u32 = 0;
-    let mut moved: u32 = 0;
-    let mut g: usize = 0;
-    while g < n {
+    let mut moved = Moved::default();
+    for g in 0..page_count(marks) {
         let fetched = fetch::fetch_page(p, PageId(g), clocks, words, records, marks, index);
-        count = count + fetched.applied;
-        moved = moved + fetched.words;
-        g = g + 1;
+        moved.count += fetched.applied;
+        moved.words += fetched.words;
     }
-    Moved {
-        count,
-        words: moved,
-    }
+    moved
 }
 
 // The records go, all clocks become zeros and the wish clears.
+#[tactic(auto, using(crate::proofs::Emptying::empty_laws))]
 fn empty(clocks: &mut [u8], marks: &mut [u8])
     requires { Emptiable clocks.old marks.old }
     ensures { Emptied clocks.old marks.old clocks.new marks.new }
 {
-    let n = processor_count(marks);
-    clear_clocks(clocks, n);
+    clear_clocks(clocks, processor_count(marks));
     put_standing_count(marks, 0);
     put_wanted(marks, 0);
 }
 
 // All clocks of n processors become zeros: of the intervals' rows only those that were made are written, the others are zeros.
+#[tactic(auto, using(crate::proofs::Clearing::clear_laws))]
 fn clear_clocks(clocks: &mut [u8], n: usize)
     requires { OnlyMade clocks.old n }
     ensures { clocks.new ≡ replicate (length clocks.old) 0 }
 {
-    let mut k: usize = 0;
-    while k < n {
+    for k in 0..n {
         clear_made(clocks, ProcessorId(k + 1));
-        k = k + 1;
     }
     clear_jobs(clocks);
-    clear(&mut clocks[0..CLOCK_WIDTH * FIRST_INTERVAL_ROW]);
+    clocks[..CLOCK_WIDTH * FIRST_INTERVAL_ROW].fill(0);
 }
 
 // The rows of the places of the queue become zeros.
+#[tactic(auto, using(crate::proofs::Clearing::clear_laws))]
 fn clear_jobs(clocks: &mut [u8])
     requires { length clocks.old ≡ clock_area }
     ensures { clocks.new ≡ sets clocks.old (clock_width * first_job_row) (replicate (clock_width * job_limit) 0) }
 {
-    clear(&mut clocks[CLOCK_WIDTH * FIRST_JOB_ROW..CLOCK_AREA]);
+    clocks[CLOCK_WIDTH * FIRST_JOB_ROW..].fill(0);
 }
 
 // The rows of the intervals that a processor has made become zeros.
+#[tactic(auto, using(crate::proofs::Clearing::clear_laws))]
 fn clear_made(clocks: &mut [u8], p: ProcessorId)
     requires { MadeRows clocks.old p.0 }
     ensures { clocks.new ≡ sets clocks.old (clock_width * interval_row mainframe p.0 1) (replicate (clock_width * made_intervals clocks.old p.0) 0) }
@@ -143,13 +130,14 @@ fn clear_made(clocks: &mut [u8], p: ProcessorId)
     let made = made_intervals(clocks, p);
     let from = CLOCK_WIDTH * (FIRST_INTERVAL_ROW + INTERVAL_LIMIT * (p.0 - 1));
     let to = from + CLOCK_WIDTH * made;
-    clear(&mut clocks[from..to]);
+    clocks[from..to].fill(0);
 }
 
 // How many intervals a processor has made.
+#[tactic(auto, using(crate::proofs::Clearing::clear_laws))]
 fn made_intervals(clocks: &[u8], p: ProcessorId) -> usize
     requires { MadeRows clocks.now p.0 }
     ensures { (result ≡ made_intervals clocks.now p.0) × (result ≤ interval_limit) }
 {
-    wide(own_entry(clocks, p))
+    usize::from(own_entry(clocks, p))
 }

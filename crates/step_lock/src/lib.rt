@@ -48,13 +48,13 @@ pub fn release(
 }
 
 // The processor asks for the lock, and if it was free, its clock joins the lock's.
+#[tactic(auto, using(crate::proofs::Locking::lock_laws))]
 fn take_lock(clocks: &mut [u8], marks: &mut [u8], p: ProcessorId, l: usize)
     requires { LockThere clocks.old marks.old p.0 l }
     ensures { LockTaken clocks.old marks.old clocks.new marks.new p.0 l }
 {
     if lock_line::ask(marks, l, p) {
         join_lock(clocks, p, l);
-        return;
     }
 }
 
@@ -80,14 +80,14 @@ fn tell_lock(clocks: &mut [u8], p: ProcessorId, l: usize)
 }
 
 // The clock of the lock's new holder joins the lock's; nobody has none.
+#[tactic(auto, using(crate::proofs::Locking::lock_laws))]
 fn tell_waiter(clocks: &mut [u8], q: ProcessorId, l: usize)
     requires { LockClocks clocks.old q.0 l }
     ensures { ClocksBecome clocks.new (waiter_told (clocks_in mainframe clocks.old) q.0 l) }
 {
-    if q.0 == 0 {
-        return;
+    if q.0 != 0 {
+        join_lock(clocks, q, l);
     }
-    join_lock(clocks, q, l);
 }
 
 // The processor's clock joins the lock's.

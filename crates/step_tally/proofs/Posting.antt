@@ -1,5 +1,7 @@
 -- The posting of a round: the new totals, then the adds cleared. One law for each way of the code, and `posting_laws`. Assumes nothing.
-use Rattle.std.proofs.Common.{◌≡◌, ℕ, suc, ◌+◌, ◌*◌, ◌%◌, ◌^◌, ◌<◌, ◌≤◌, List, length, get_or, set, sym, refl, ap, ◌∙◌, add-one, arith, length-set, get_or-set_other, get_or-set_same, rules}
+use Rattle.std.proofs.Common.{◌≡◌, ℕ, suc, ◌+◌, ◌*◌, ◌%◌, ◌-◌, ◌^◌, ◌<◌, ◌≤◌, List, ◌++◌, length, take, drop, get_or, set, replicate, Fits, w32, sym, refl, ap, ◌∙◌, add-one, arith, length-set, get_or-set_other, get_or-set_same, rules}
+use Rattle.std.proofs.lemmas.List.{length-replicate, get_or-replicate}
+use lib.Seq.{sets, length-sets}
 use native.Mathlib.Decide.{ℕ_discrete}
 use Rattle.lists.specs.Tables.{total}
 use Rattle.lists.proofs.Tables.{total_same}
@@ -8,6 +10,8 @@ use Rattle.limits.specs.inner.Sizes.{first_job_value, first_tally, word_area}
 use Rattle.rules.specs.State.{mainframe, posted_of, adds_of}
 use Rattle.rules.specs.Tallies.{total_after, posting}
 use Rattle.layout.specs.Areas.{tally_place, value_place, shared_in}
+use Rattle.layout.proofs.MarkFunctions.{part_cleared}
+use Rattle.layout.proofs.Stores.{get_sets_before, get_sets_behind, get_sets_same}
 use Rattle.layout.proofs.TallyLaws.{tally_at, value_at_lem, posted_read, adds_read, shared_written, posting_done}
 use Rattle.step_tally.specs.inner.Needed.{OnTally, RoundReady, SumReady}
 use Rattle.step_tally.specs.inner.Effects.{TotalsPosted, AddsCleared, Posted}
@@ -17,16 +21,11 @@ use Rattle.step_tally.specs.inner.Effects.{TotalsPosted, AddsCleared, Posted}
 -- the sum of the posted total and of the adds of the first k processors
 pub record SummedTo (w : List ℕ) (n t k sum : ℕ) : Type 0 where
   pub ready : SumReady w n t
-  pub first : 1 ≤ k
   pub upto : k ≤ n
   pub is : sum ≡ total_after (shared_in mainframe w) k t
 
 module _ (w : List ℕ) (n t : ℕ) (ready : SumReady w n t) where
-  -- the first processor's add has its place
-  pub first_on_tally : OnTally 1 t
-  first_on_tally = record { from = omega arith; to = omega arith; tally = ready.tally }
-
-  -- so has the posted total
+  -- the posted total has its place
   pub posted_place : first_tally + t < length w
   posted_place = omega (arith, ready.words, ready.tally)
 
@@ -40,24 +39,15 @@ module _ (w : List ℕ) (n t : ℕ) (ready : SumReady w n t) where
   added_is : (p at : ℕ) → 1 ≤ p → p ≤ processor_limit → at ≡ tally_place mainframe p t → get_or w at 0 ≡ adds_of (shared_in mainframe w) p t
   added_is p at h k e = ap (λ (j : ℕ). get_or w j 0) e ∙ sym (adds_read w p t h k ready.tally)
 
-  -- the first two
-  pub summing_begins : (at x : ℕ) → at ≡ tally_place mainframe 1 t → x ≡ (get_or w (first_tally + t) 0 + get_or w at 0) % 2 ^ 32 → SummedTo w n t 1 x
+  -- the posted total alone
+  pub summing_begins : Fits w32 (get_or w (first_tally + t) 0) → SummedTo w n t 0 (get_or w (first_tally + t) 0)
   unfolding total_after total
-  summing_begins at x is e =
-      record {
-        ready = ready;
-        first = omega arith;
-        upto = ready.some;
-        is = omega (arith, e, posted_is, added_is 1 at (omega arith) (omega arith) is);
-      }
+  summing_begins fits = record { ready = ready; upto = omega arith; is = omega (arith, posted_is, fits) }
 
 module _ (w : List ℕ) (n t k sum : ℕ) (now : SummedTo w n t k sum) where
   -- the next processor's add has its place
   pub next_on_tally : k < n → OnTally (k + 1) t
   next_on_tally more = record { from = omega arith; to = omega (arith, now.ready.few); tally = now.ready.tally }
-
-  pub next_place : (at : ℕ) → at < word_area → at < length w
-  next_place at h = omega (arith, now.ready.words)
 
   -- one more
   pub summing_more : k < n → (at x : ℕ) → at ≡ tally_place mainframe (k + 1) t → x ≡ (sum + get_or w at 0) % 2 ^ 32 → SummedTo w n t (k + 1) x
@@ -65,12 +55,7 @@ module _ (w : List ℕ) (n t k sum : ℕ) (now : SummedTo w n t k sum) where
   summing_more more at x is e =
       let added = added_is w n t now.ready (k + 1) at (omega arith) (omega (arith, now.ready.few)) is in
       let one : adds_of (shared_in mainframe w) (k + 1) t ≡ adds_of (shared_in mainframe w) (suc k) t = ap (λ (j : ℕ). adds_of (shared_in mainframe w) j t) (add-one k) in
-      record {
-        ready = now.ready;
-        first = omega arith;
-        upto = omega arith;
-        is = e ∙ rw (add-one k) (omega (arith, now.is, added, one));
-      }
+      record { ready = now.ready; upto = omega arith; is = e ∙ rw (add-one k) (omega (arith, now.is, added, one)) }
 
   -- all
   pub summing_ends : n ≤ k → sum ≡ total_after (shared_in mainframe w) n t
@@ -143,39 +128,34 @@ module _ (w₀ w : List ℕ) (n t : ℕ) (now : PostedTo w₀ w n t) where
 
 -- ---- the adds
 
--- the words from the first add to i are 0, all else is as it was
-pub record ClearedTo (w₀ w : List ℕ) (i : ℕ) : Type 0 where
-  pub words : length w ≡ word_area
-  pub from : first_tally + tally_limit ≤ i
-  pub upto : i ≤ first_job_value
-  pub clear : (j : ℕ) → first_tally + tally_limit ≤ j → j < i → get_or w j 0 ≡ 0
-  pub kept : (j : ℕ) → j < first_tally + tally_limit → get_or w j 0 ≡ get_or w₀ j 0
-  pub values : (j : ℕ) → first_job_value ≤ j → get_or w j 0 ≡ get_or w₀ j 0
+-- the place of the first add, and how many words the adds take
+abbrev first_add : ℕ
+first_add = first_tally + tally_limit
 
-pub adds_clearing_begins : (w : List ℕ) → length w ≡ word_area → ClearedTo w w (first_tally + tally_limit)
-adds_clearing_begins w h = record { words = h; from = omega arith; upto = omega arith; clear = λ j a b. absurd (omega arith); kept = λ j a. refl; values = λ j a. refl }
+abbrev adds_length : ℕ
+adds_length = first_job_value - first_add
 
-module _ (w₀ w : List ℕ) (i : ℕ) (now : ClearedTo w₀ w i) where
-  pub adds_clearing_place : i < first_job_value → i < length w
-  adds_clearing_place more = omega (arith, now.words)
+-- the part from the first add up to the first job's value is 0, all else is as it was
+pub adds_cleared : (w part : List ℕ) → length w ≡ word_area → part ≡ replicate (length (take adds_length (drop first_add w))) 0
+    → AddsCleared w (take first_add w ++ (part ++ drop adds_length (drop first_add w)))
+adds_cleared w part h e =
+    rw (part_cleared w part first_add adds_length (omega (arith, h)) e)
+    (record {
+      words = length-sets w first_add zeros ∙ h;
+      clear = λ j a b.
+          let at : first_add + (j - first_add) ≡ j = omega arith in
+          ap (λ (x : ℕ). get_or (sets w first_add zeros) x 0) (sym at)
+          ∙ get_sets_same zeros w first_add (j - first_add) 0 (omega (arith, long)) (omega (arith, long, h))
+          ∙ get_or-replicate {A = ℕ} adds_length (j - first_add) 0 0 (omega arith);
+      kept = λ j a. get_sets_before zeros w first_add j 0 a;
+      values = λ j a. get_sets_behind zeros w first_add j 0 (omega (arith, long));
+    })
+  where
+    zeros : List ℕ
+    zeros = replicate adds_length 0
 
-  pub adds_clearing_more : i < first_job_value → ClearedTo w₀ (set w i 0) (i + 1)
-  adds_clearing_more more =
-      record {
-        words = length-set w i 0 ∙ now.words;
-        from = omega (arith, now.from);
-        upto = omega arith;
-        clear = λ j a b. at j a b (ℕ_discrete j i);
-        kept = λ j a. get_or-set_other w i j 0 0 (λ e. omega (arith, e, now.from, a)) ∙ now.kept j a;
-        values = λ j a. get_or-set_other w i j 0 0 (λ e. omega (arith, e, more, a)) ∙ now.values j a;
-      }
-    where
-      at : (j : ℕ) → first_tally + tally_limit ≤ j → j < i + 1 → Dec (j ≡ i) → get_or (set w i 0) j 0 ≡ 0
-      at j a b (yes d) = rw d (get_or-set_same w i 0 0 (omega (arith, now.words, more)))
-      at j a b (no d) = get_or-set_other w i j 0 0 d ∙ now.clear j a (omega (arith, b, d))
-
-  pub adds_clearing_ends : first_job_value ≤ i → AddsCleared w₀ w
-  adds_clearing_ends end = record { words = now.words; clear = λ j a b. now.clear j a (omega (arith, b, end)); kept = now.kept; values = now.values }
+    long : length zeros ≡ adds_length
+    long = length-replicate {A = ℕ} adds_length 0
 
 -- ---- both
 
@@ -198,4 +178,4 @@ module _ (w : List ℕ) (n : ℕ) (ready : RoundReady w n) (w₁ : List ℕ) (to
             }));
       }
 
-pub ruleset posting_laws = (first_on_tally, posted_place, sum_place, summing_begins, next_on_tally, next_place, summing_more, summing_ends, total_stored, posting_begins, posting_ready, posting_more, posting_ends, adds_clearing_begins, adds_clearing_place, adds_clearing_more, adds_clearing_ends, posted_long, round_posted, rules)
+pub ruleset posting_laws = (posted_place, sum_place, summing_begins, next_on_tally, summing_more, summing_ends, total_stored, posting_begins, posting_ready, posting_more, posting_ends, adds_cleared, posted_long, round_posted, rules)

@@ -14,20 +14,22 @@ use clock::ProcessorId;
 use limits::{FIRST_JOB_VALUE, FIRST_TALLY, TALLY_LIMIT};
 
 // Adds to a tally.
+#[tactic(auto, using(crate::proofs::Adding::tally_laws))]
 pub fn add_to(words: &mut [u32], p: ProcessorId, t: usize, v: u32)
     requires { TallyIn words.old p.0 t }
     ensures { AddDone words.old words.new p.0 t v }
 {
     let at = tally_place(p.0, t);
-    words[at] = std::num::wrapping_add_u32(words[at], v);
+    words[at] = words[at].wrapping_add(v);
 }
 
 // The total that a processor reads: what was posted, and what it has added since.
+#[tactic(auto, using(crate::proofs::Adding::tally_laws))]
 pub fn total_of(words: &[u32], p: ProcessorId, t: usize) -> u32
     requires { TallyIn words.now p.0 t }
     ensures { result ≡ tally_total (shared_in mainframe words.now) p.0 t }
 {
-    std::num::wrapping_add_u32(words[FIRST_TALLY + t], words[tally_place(p.0, t)])
+    words[FIRST_TALLY + t].wrapping_add(words[tally_place(p.0, t)])
 }
 
 // Posts the adds of a round of n processors: every tally grows by them, and nothing is added then.
@@ -40,14 +42,13 @@ pub fn post_all(words: &mut [u32], n: usize)
 }
 
 // The new totals, tally by tally.
+#[tactic(auto, using(crate::proofs::Posting::posting_laws))]
 fn post_totals(words: &mut [u32], n: usize)
     requires { RoundReady words.old n }
     ensures { TotalsPosted words.old words.new n }
 {
-    let mut t: usize = 0;
-    while t < TALLY_LIMIT {
+    for t in 0..TALLY_LIMIT {
         post_total(words, n, t);
-        t = t + 1;
     }
 }
 
@@ -64,11 +65,9 @@ fn sum_of(words: &[u32], n: usize, t: usize) -> u32
     requires { SumReady words.now n t }
     ensures { result ≡ total_after (shared_in mainframe words.now) n t }
 {
-    let mut sum = std::num::wrapping_add_u32(words[FIRST_TALLY + t], words[tally_place(1, t)]);
-    let mut k: usize = 1;
-    while k < n {
-        k = k + 1;
-        sum = std::num::wrapping_add_u32(sum, words[tally_place(k, t)]);
+    let mut sum = words[FIRST_TALLY + t];
+    for k in 0..n {
+        sum = sum.wrapping_add(words[tally_place(k + 1, t)]);
     }
     sum
 }
@@ -78,11 +77,7 @@ fn clear_adds(words: &mut [u32])
     requires { length words.old ≡ word_area }
     ensures { AddsCleared words.old words.new }
 {
-    let mut i: usize = FIRST_TALLY + TALLY_LIMIT;
-    while i < FIRST_JOB_VALUE {
-        words[i] = 0;
-        i = i + 1;
-    }
+    words[FIRST_TALLY + TALLY_LIMIT..FIRST_JOB_VALUE].fill(0);
 }
 
 // The place of what a processor has added to a tally.

@@ -2,11 +2,10 @@
 use Prim.Native.Nat.{◌+◌, ◌≤◌, ℕ}
 use native.Mathlib.Omega.{arith}
 use mathlib.Core.Path.{◌∙◌, ◌≡◌, ap, refl, sym}
-use mathlib.Core.Bool.{Bool, false, false≢true, not, true}
+use mathlib.Core.Bool.{Bool, false, false≢true, true}
 use mathlib.Core.List.{List, ◌++◌}
 use lib.ListN.{drop, length, replicate, take, take-append-drop}
 use lib.Seq.{length-take-le, sets, sets-eq}
-use borrow.Author.Tests.{not-false, not-true}
 use borrow.Author.Rules.{rules}
 use Rattle.limits.specs.Files.{file_record_width}
 use Rattle.layout.specs.Areas.{Areas}
@@ -39,10 +38,10 @@ stored_front out out' lines l front rest =
 
 module _ (p : Progress) (chunk out : List ℕ) (a : Areas) (b : Bool) (e : FeedableIs b p (length chunk) (length out)) where
   -- nothing is done
-  pub not_fed : not b ≡ true → FedAs p chunk out a (record { progress = p; fed = false; written = 0 }) out a
+  pub not_fed : b ≡ false → FedAs p chunk out a (record { progress = p; fed = false; written = 0 }) out a
   unfolding feed_answer feed_lines feed_areas left_untaken
   not_fed z =
-      let no : feedable p (length chunk) (length out) ≡ false = sym e.is ∙ not-true b z in
+      let no : feedable p (length chunk) (length out) ≡ false = sym e.is ∙ z in
       record {
         answer = sym (rw no refl);
         lines = sym (rw no refl);
@@ -52,9 +51,9 @@ module _ (p : Progress) (chunk out : List ℕ) (a : Areas) (b : Bool) (e : Feeda
         added = λ a₀ before f r. absurd (false≢true f);
       }
 
-  module _ (z : not b ≡ false) where
+  module _ (z : b ≡ true) where
     fed_there : feedable p (length chunk) (length out) ≡ true
-    fed_there = sym e.is ∙ not-false b z
+    fed_there = sym e.is ∙ z
 
     -- the chunk is fed
     pub fed_as : (t : Taken) (out' : List ℕ) (a' : Areas) → ChunkFed (bytes_taken (feed_at p a) chunk) 0 out t out' a' → FedAs p chunk out a t out' a'
@@ -72,10 +71,6 @@ module _ (p : Progress) (chunk out : List ℕ) (a : Areas) (b : Bool) (e : Feeda
               cut_lines a₀ a before chunk p r
               ∙ ap (λ (xs : List ℕ). (after a₀ before).lines ++ xs) (sym d.lines ∙ ap (λ (n : ℕ). take n out') (sym written));
         }
-
-    -- what is asked then
-    pub feedable_there : FeedableIs true p (length chunk) (length out)
-    feedable_there = record { is = sym fed_there }
 
 module _ (p : Progress) (chunk out : List ℕ) (e : FeedableIs true p (length chunk) (length out)) where
   -- a run that has stopped is left as it is
@@ -111,4 +106,4 @@ module _ (p : Progress) (chunk out : List ℕ) (e : FeedableIs true p (length ch
         total = few_words p (length chunk) (length out) (sym e.is);
       }
 
-pub ruleset answer_laws = (nothing_fed, not_fed, fed_as, feedable_there, fed_stopped, feedable_on, rules)
+pub ruleset answer_laws = (not_fed, fed_as, fed_stopped, feedable_on, rules)

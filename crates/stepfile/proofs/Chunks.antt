@@ -14,14 +14,14 @@ use Rattle.file_record.specs.Records.{Feed, opening_taken, record_taken, step_ta
 use Rattle.file_record.specs.declared.Stand.{Stand}
 use Rattle.file_record.specs.inner.Needed.{RecordTaken, stands_at}
 use Rattle.file_chunk.specs.Bytes.{bytes_taken, held_on}
-use Rattle.file_chunk.specs.inner.Needed.{Passable, AllPassed}
+use Rattle.file_chunk.specs.inner.Needed.{AllPassed}
 use Rattle.file_chunk.proofs.Bytes.{eight_first, taken_held, taken_record, taken_stopped, taken_together}
 use Rattle.file_lines.proofs.Placing.{rest_kept_again, rest_kept_all}
 use Rattle.stepfile.specs.Promises.{feed_at}
 use Rattle.stepfile.specs.declared.Progress.{Progress}
 use Rattle.stepfile.specs.declared.Taken.{Taken}
 use Rattle.file_held.specs.declared.Held.{Held}
-use Rattle.file_held.specs.inner.Needed.{HeldAll, Holdable}
+use Rattle.file_held.specs.inner.Needed.{HeldAll}
 use Rattle.stepfile.specs.inner.Needed.{BegunPassable, ChunkFed, Completes, Feedable, taken_as}
 use Rattle.stepfile.proofs.Rest.{held_progress}
 
@@ -36,16 +36,6 @@ module _ (p : Progress) (s : Stand) (chunk out c w r m : List ℕ) (h : Feedable
   record_from bytes = ap (λ (x : Stand). record_taken (stands_at x out (areas c w r m)) bytes) (sym h.first)
 
   -- nothing is held
-  pub whole_passable : Passable s chunk 0 out c w r m
-  whole_passable =
-      record {
-        few = omega (arith, ap (λ (x : Stand). x.number) h.first, h.few);
-        within = omega arith;
-        room = omega (arith, none_written, h.room);
-        order = h.order;
-        total = omega (arith, ap (λ (x : Stand). x.number) h.first, ap (λ (x : Stand). x.words) h.first, h.total);
-      }
-
   pub whole_taken : p.held ≡ 0 → (t : Taken) (out' : List ℕ) (a' : Areas) → ChunkFed (bytes_taken (stands_at s out (areas c w r m)) (drop 0 chunk)) s.at out t out' a'
       → ChunkFed (bytes_taken (feed_at p (areas c w r m)) chunk) 0 out t out' a'
   unfolding feed_at stands_at
@@ -55,16 +45,13 @@ module _ (p : Progress) (s : Stand) (chunk out c w r m : List ℕ) (h : Feedable
       ∙ sym (rw (h.going, n)) in
       rw (← same, ← none_written) f
 
-  pub holdable : Holdable p.held p.bytes chunk 0
-  holdable = record { holding = h.holding; within = omega arith }
-
   begun_long : length (take p.held p.bytes) ≡ p.held
   begun_long = length-take-le p.held p.bytes (omega (arith, h.fewer, h.holding.long))
 
   module _ (q : Held) (d : HeldAll p.held p.bytes chunk 0 q) where
     -- the chunk does not complete the record
     pub chunk_held : q.count < file_record_width
-        → ChunkFed (bytes_taken (feed_at p (areas c w r m)) chunk) 0 out (record { progress = record { number = p.number; stopped = false; held = q.count; bytes = q.bytes; words = p.words }; fed = true; written = 0 }) out (areas c w r m)
+        → ChunkFed (bytes_taken (feed_at p (areas c w r m)) chunk) 0 out (record { progress = record { number = p.number; stopped = p.stopped; held = q.count; bytes = q.bytes; words = p.words }; fed = true; written = 0 }) out (areas c w r m)
     unfolding feed_at taken_as held_on
     chunk_held l =
         let all : drop q.next chunk ≡ [] = drop_of_length-le chunk {i = q.next} (omega (arith, d.short l)) in
@@ -73,7 +60,7 @@ module _ (p : Progress) (s : Stand) (chunk out c w r m : List ℕ) (h : Feedable
         let is : bytes_taken (feed_at p (areas c w r m)) chunk ≡ held_on (feed_at p (areas c w r m)) (take q.count q.bytes) =
         taken_held (feed_at p (areas c w r m)) chunk h.going (omega (arith, begun_long, d.holds.counted, d.short l, l))
         ∙ ap (λ (xs : List ℕ). held_on (feed_at p (areas c w r m)) xs) bytes in
-        rw is
+        rw (is, h.going)
         (record {
           answer =
               ap (λ (x : Progress). record { progress = x; fed = true; written = 0 })
@@ -88,34 +75,7 @@ module _ (p : Progress) (s : Stand) (chunk out c w r m : List ℕ) (h : Feedable
     record_completes l = record { feedable = h; held = d; eight = l }
 
 module _ (p : Progress) (s : Stand) (q : Held) (chunk out c w r m : List ℕ) (h : Completes p s q chunk out c w r m) where
-  -- the record that has begun
-  pub begun_passable : BegunPassable s q.bytes out c w r m
-  begun_passable =
-      let all = whole_passable p s chunk out c w r m h.feedable in
-      record {
-        passable =
-            record {
-              few = all.few;
-              within = omega arith;
-              room = omega (arith, none_written p s chunk out c w r m h.feedable, h.held.holds.holding.long, h.feedable.room);
-              order = all.order;
-              total = all.total;
-            };
-        going = ap (λ (x : Stand). x.stopped) h.feedable.first;
-        eight = h.held.holds.holding.long;
-      }
-
   module _ (s' : Stand) (out' c' w' r' m' : List ℕ) (k : RecordTaken (record_taken (stands_at s out (areas c w r m)) (take file_record_width q.bytes)) s out s' out' c' w' r' m') where
-    pub rest_passable : Passable s' chunk q.next out' c' w' r' m'
-    rest_passable =
-        record {
-          few = k.few;
-          within = h.held.holds.within;
-          room = omega (arith, none_written p s chunk out c w r m h.feedable, k.near, k.kept.long, h.feedable.room);
-          order = k.order;
-          total = k.total;
-        }
-
     eight : q.count ≡ file_record_width
     eight = omega (arith, h.eight, h.held.holds.holding.few)
 
@@ -188,4 +148,4 @@ begun_taken s bytes out c w r m s' i out' c' w' r' m' h k =
         ap (λ (xs : List ℕ). bytes_taken (stands_at s' out' (areas c' w' r' m')) xs)
         (drop_of_length-le bytes {i = i} (omega (arith, h.eight, k.few_left y, k.passing.whole)))
 
-pub ruleset chunk_laws = (whole_passable, whole_taken, holdable, chunk_held, record_completes, begun_passable, rest_passable, chunk_taken, begun_taken, rules)
+pub ruleset chunk_laws = (whole_taken, chunk_held, record_completes, rules)

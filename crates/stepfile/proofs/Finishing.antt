@@ -2,16 +2,15 @@
 use Prim.Native.Nat.{◌<◌, ◌≤◌, ℕ}
 use native.Mathlib.Omega.{arith}
 use mathlib.Core.Path.{◌∙◌, ◌≡◌, ap, refl, sym}
-use mathlib.Core.Bool.{Bool, ◌||◌, cond, false, false≢true, not, true}
+use mathlib.Core.Bool.{Bool, ◌||◌, cond, false, false≢true, true}
 use mathlib.Core.List.{List, [], ◌++◌, ◌∷◌}
 use lib.ListN.{drop, length, take}
 use lib.Seq.{length-take-le, sets}
 use lib.Dec.{eqb, ltb}
-use borrow.Author.Tests.{eq-eqb, eqb-true, le-ltb, lt-ltb, ne_eqb, not-false, not-true}
+use borrow.Author.Tests.{eqb-true, le-ltb, lt-ltb}
 use borrow.Author.Rules.{rules}
-use Rattle.limits.specs.Files.{file_record_width, line_limit}
+use Rattle.limits.specs.Files.{file_record_width}
 use Rattle.lines.specs.Lines.{line_bytes, words_line, refusal_line}
-use Rattle.lines.specs.inner.Needed.{Room}
 use Rattle.file_lines.specs.inner.Needed.{LinePut}
 use Rattle.file_lines.proofs.Placing.{rest_kept_all}
 use Rattle.stepfile.specs.Feeding.{after, last_line_of}
@@ -22,17 +21,9 @@ use Rattle.stepfile.proofs.Answers.{stored_front}
 use Rattle.stepfile.proofs.Sound.{few_held, room_there}
 use Rattle.stepfile.proofs.Whole.{whole_lines}
 
--- ---- whether a file that ends here ends within a record or before the opening
+-- ---- the last line
 
 module _ (p : Progress) where
-  pub no_opening : p.number ≡ 0 → EndsShort true p
-  no_opening n = record { is = rw (eq-eqb p.number 0 n) }
-
-  pub within_record : (p.number ≡ 0 → ⊥) → EndsShort (ltb 0 p.held) p
-  within_record n = record { is = rw (ne_eqb p.number 0 n) }
-
-  -- ---- the last line
-
   module _ (long : length p.bytes ≡ file_record_width) (few : p.held < file_record_width) where
     last_line : (xs : List ℕ) → length xs ≡ p.held
         → last_line_of p.number xs p.stopped p.words
@@ -57,10 +48,6 @@ module _ (p : Progress) where
     finish_line_lem = last_line (take p.held p.bytes) (length-take-le p.held p.bytes (omega (arith, long, few)))
 
 module _ (p : Progress) (out : List ℕ) (h : EndThere p out) where
-  -- there is room for it
-  pub room_for_last : Room out 0 line_limit
-  room_for_last = record { room = omega (arith, h.room) }
-
   module _ (long : length p.bytes ≡ file_record_width) where
     -- none, where the run has stopped
     pub end_stopped : p.stopped ≡ true → LinePut out 0 (finish_line p) out 0
@@ -101,15 +88,15 @@ finished p out line out' end there e d s l w =
 
 module _ (p : Progress) (out : List ℕ) (b : Bool) (e : FeedableIs b p 0 (length out)) where
   -- nothing is done
-  pub not_finished : not b ≡ true → FinishedAs p out (record { progress = p; fed = false; written = 0 }) out
+  pub not_finished : b ≡ false → FinishedAs p out (record { progress = p; fed = false; written = 0 }) out
   unfolding finish_answer finish_lines left_untaken
   not_finished z =
-      let no : feedable p 0 (length out) ≡ false = sym e.is ∙ not-true b z in
+      let no : feedable p 0 (length out) ≡ false = sym e.is ∙ z in
       record { answer = sym (rw no refl); lines = sym (rw no refl); within = omega arith; whole = λ a₀ a file sizes f r. absurd (false≢true f) }
 
-  module _ (z : not b ≡ false) where
+  module _ (z : b ≡ true) where
     there : feedable p 0 (length out) ≡ true
-    there = sym e.is ∙ not-false b z
+    there = sym e.is ∙ z
 
     -- the last line can be written
     pub end_there : EndThere p out
@@ -125,4 +112,4 @@ module _ (p : Progress) (out : List ℕ) (b : Bool) (e : FeedableIs b p 0 (lengt
         (ap (λ (j : ℕ). drop j out') (sym at) ∙ d.kept.rest ∙ ap (λ (j : ℕ). drop j out) at))
         d.lines within
 
-pub ruleset finishing_laws = (no_opening, within_record, room_for_last, end_stopped, end_short, end_words, not_finished, end_there, finished_with, rules)
+pub ruleset finishing_laws = (end_stopped, end_short, end_words, not_finished, finished_with, rules)

@@ -20,7 +20,7 @@ use Rattle.stepfile.specs.Promises.{progress_of}
 use Rattle.stepfile.specs.declared.Progress.{Progress}
 use Rattle.stepfile.specs.declared.Taken.{Taken}
 use Rattle.file_held.specs.declared.Held.{Held}
-use Rattle.file_held.specs.inner.Needed.{HeldAll, Holdable, Holding}
+use Rattle.file_held.specs.inner.Needed.{HeldAll, Holding}
 use Rattle.stepfile.specs.inner.Needed.{ChunkFed, Endable, Ended, taken_as}
 
 -- the progress with bytes held
@@ -65,9 +65,6 @@ module _ (s : Stand) (chunk : List ℕ) (from : ℕ) (h : Endable s chunk from) 
   ended_stopped z =
       record { is = λ out a l. sym (ap (λ (f : Feed). taken_as f) (rest_stopped out a z) ∙ rw (z, length-take-le s.at out l)) }
 
-  pub none_held : Holdable 0 (replicate file_record_width 0) chunk from
-  none_held = record { holding = record { few = omega arith; long = refl; zeros = refl }; within = h.within }
-
   pub ended_held : (q : Held) → s.stopped ≡ false → HeldAll 0 (replicate file_record_width 0) chunk from q
       → Ended s chunk from (record { progress = record { number = s.number; stopped = false; held = q.count; bytes = q.bytes; words = s.words }; fed = true; written = s.at })
   unfolding taken_as stands_at held_on
@@ -105,4 +102,4 @@ module _ (s : Stand) (chunk : List ℕ) (from : ℕ) (out c w r m : List ℕ) (s
         kept = rw written h.passing.kept;
       })
 
-pub ruleset rest_laws = (ended_stopped, none_held, ended_held, endable, rest_taken, rules)
+pub ruleset rest_laws = (ended_stopped, ended_held, rest_taken, rules)

@@ -1,55 +1,21 @@
--- Whether a chunk is fed, and the answer where nothing is done. One law for each way of the code, and `feedable_laws`. Assumes nothing.
+-- What a chunk that is fed has. Assumes nothing.
 use Prim.Native.Nat.{◌*◌, ◌+◌, ◌/◌, ◌<◌, ◌≤◌, ℕ}
 use native.Mathlib.Omega.{arith}
-use mathlib.Core.Path.{◌∙◌, ◌≡◌, ap, refl, sym}
-use mathlib.Core.Bool.{Bool, ◌&&◌, and-eq-true_iff, false, true}
+use mathlib.Core.Path.{◌≡◌}
+use mathlib.Core.Bool.{◌&&◌, and-eq-true_iff, true}
 use lib.ListN.{drop, length}
 use lib.Dec.{leb, ltb}
-use borrow.Author.Tests.{le-leb, le-ltb, leb-true, lt-leb, lt-ltb, ltb-true}
-use mir.Syntax.{w64}
-use mir.Val.{Fits}
-use borrow.Author.Rules.{rules}
+use borrow.Author.Tests.{leb-true, ltb-true}
 use Rattle.limits.specs.Files.{file_record_width, line_limit, step_limit}
 use Rattle.limits.specs.Limits.{word_values}
 use Rattle.limits.specs.inner.Sizes.{file_record_limit}
 use Rattle.rules.specs.InOrder.{all_zero}
 use Rattle.stepfile.specs.Promises.{feedable, sound}
 use Rattle.stepfile.specs.declared.Progress.{Progress}
-use Rattle.file_held.specs.inner.Needed.{Holding, ZerosBehind}
-use Rattle.stepfile.specs.inner.Needed.{FeedableIs}
+use Rattle.file_held.specs.inner.Needed.{Holding}
 use Rattle.file_held.proofs.HeldBytes.{holding_of}
 
 module _ (p : Progress) (chunk room : ℕ) where
-  pub number_too_large : file_record_limit < p.number → FeedableIs false p chunk room
-  unfolding feedable sound
-  number_too_large l = record { is = rw (lt-leb p.number file_record_limit l) }
-
-  -- the most words that can have moved is a number of 64 bits
-  pub most_fits : (n : ℕ) → n ≡ p.number → p.number ≤ file_record_limit → Fits w64 (word_values * n)
-  most_fits n e l = omega (arith, e, l)
-
-  pub words_too_many : (n : ℕ) → n ≡ p.number → p.number ≤ file_record_limit → word_values * n < p.words → FeedableIs false p chunk room
-  unfolding feedable sound
-  words_too_many n e l m = record { is = rw (le-leb p.number file_record_limit l, lt-leb p.words (word_values * p.number) (rw e at m)) }
-
-  and_false : (b : Bool) → (b && false) ≡ false
-  and_false true = refl
-  and_false false = refl
-
-  pub no_room : room / line_limit ≤ chunk / file_record_width → FeedableIs false p chunk room
-  unfolding feedable
-  no_room l = record { is = sym (ap (λ (b : Bool). sound p && b) (le-ltb (chunk / file_record_width) (room / line_limit) l) ∙ and_false (sound p)) }
-
-  and_true : (b : Bool) → b ≡ (b && true)
-  and_true true = refl
-  and_true false = refl
-
-  pub feedable_when : (b : Bool) (n : ℕ) → n ≡ p.number → p.number ≤ file_record_limit → p.words ≤ word_values * n → chunk / file_record_width < room / line_limit → ZerosBehind b p.held p.bytes → FeedableIs b p chunk room
-  unfolding feedable sound
-  feedable_when b n e l k m z =
-      record { is = rw (le-leb p.number file_record_limit l, le-leb p.words (word_values * p.number) (rw e at k), lt-ltb (chunk / file_record_width) (room / line_limit) m) (z.is ∙ and_true (ltb p.held file_record_width && all_zero (drop p.held p.bytes))) }
-
-  -- what a chunk that is fed has
   module _ (e : feedable p chunk room ≡ true) where
     is_sound : sound p ≡ true
     unfolding feedable
@@ -83,5 +49,3 @@ module _ (p : Progress) (chunk room : ℕ) where
     room_there =
         let l : chunk / file_record_width < room / line_limit = ltb-true (chunk / file_record_width) (room / line_limit) ((and-eq-true_iff (sound p) (ltb (chunk / file_record_width) (room / line_limit))).0 e).1 in
         omega (arith, l)
-
-pub ruleset feedable_laws = (number_too_large, most_fits, words_too_many, no_room, feedable_when, rules)

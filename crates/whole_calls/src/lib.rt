@@ -2,14 +2,15 @@
 // wrong.
 #![tactic(auto)]
 
-ghost use Rattle.std.specs.Prelude.{◌≤◌, ◌≡◌, ◌↔◌, IsTrue, length};
+ghost use Rattle.std.specs.Prelude.{◌≤◌, ◌≡◌, ◌↔◌, IfErr, IfOk, IsTrue, is_ok, length};
 ghost use Rattle.std_io.specs.IoError.{error_kind};
 ghost use Rattle.whole_reads.specs.Promises.{comes_next};
 ghost use Rattle.whole_reads.specs.inner.Going.{ReadOn, WroteOn};
 ghost use Rattle.whole_calls.specs.Promises.{is_stop};
+ghost use Rattle.whole_calls.specs.declared.TheConstants.{WORDS_ROOM};
 
 use std::fmt::{self, Write as _};
-use std::io::{Error, ErrorKind, Print, Read, Write};
+use std::io::{self, Error, ErrorKind, Print, Read, Write};
 use whole_reads::{Failure, Flow, Next};
 
 // Room for the words of an error.
@@ -20,16 +21,14 @@ const WORDS_ROOM: usize = 128;
 struct Words {
     bytes: [u8; WORDS_ROOM],
     len: usize,
+    ghost in_room: { len ≤ WORDS_ROOM },
 }
 
 impl fmt::Write for Words {
     fn write_str(&mut self, s: &str) -> fmt::Result {
-        for byte in s.as_bytes() {
-            if self.len < WORDS_ROOM {
-                self.bytes[self.len] = *byte;
-                self.len += 1;
-            }
-        }
+        let n = s.len().min(WORDS_ROOM - self.len);
+        self.bytes[self.len..self.len + n].copy_from_slice(&s.as_bytes()[..n]);
+        self.len += n;
         Ok(())
     }
 }
@@ -38,57 +37,58 @@ impl fmt::Write for Words {
 pub fn is_over(flow: Flow, room: usize) -> bool
     ensures { result ≡ is_stop (comes_next flow room) }
 {
-    let action = whole_reads::what_next(flow, room);
-    match action {
-        Next::Read => false,
-        Next::Take => false,
-        Next::Write => false,
-        Next::Stop => true,
-    }
+    whole_reads::what_next(flow, room) == Next::Stop
 }
 
 // Reads into the buffer behind the bytes that stand in it. What went wrong, if anything, is noted.
+#[tactic(auto, using(whole_reads::proofs::Turns::turning_laws))]
 pub fn read_on<R: Read>(flow: Flow, buffer: &mut [u8], input: &mut R, wrong: &mut Error) -> Flow
     requires { flow.have ≤ length buffer.old }
     ensures { ReadOn flow buffer.old result buffer.new }
 {
-    let have = flow.have;
-    match input.read(&mut buffer[have..]) {
-        Ok(n) => whole_reads::note_read(flow, n as isize, false, buffer),
-        Err(error) => {
-            let again = is_interrupted(&error);
-            *wrong = error;
-            whole_reads::note_read(flow, -1, again, buffer)
-        }
-    }
+    let got = noted(input.read(&mut buffer[flow.have..]), wrong);
+    whole_reads::note_read(flow, got, buffer)
 }
 
 // Writes the lines that are left, or the first of them. What went wrong, if anything, is noted.
+#[tactic(auto, using(whole_reads::proofs::Turns::turning_laws))]
 pub fn write_on<W: Write>(flow: Flow, lines: &[u8], output: &mut W, wrong: &mut Error) -> Flow
     ensures { WroteOn flow lines.now result }
 {
-    match output.write(whole_reads::lines_left(flow, lines)) {
-        Ok(n) => whole_reads::note_write(flow, n as isize, false, lines),
-        Err(error) => {
-            let again = is_interrupted(&error);
-            *wrong = error;
-            whole_reads::note_write(flow, -1, again, lines)
-        }
-    }
+    let put = noted(output.write(whole_reads::lines_left(flow, lines)), wrong);
+    whole_reads::note_write(flow, put, lines)
 }
 
 // Says what went wrong, if anything, in the program's words and those of the error that was noted last.
 pub fn tell<P: Print>(
-    failure: Failure,
+    failure: Option<Failure>,
     reading_failed: &[u8],
     writing_failed: &[u8],
     wrong: &Error,
     to: &P,
 ) {
     match failure {
-        Failure::Nothing => {}
-        Failure::Reading => say(reading_failed, wrong, to),
-        Failure::Writing => say(writing_failed, wrong, to),
+        None => {}
+        Some(Failure::Reading) => say(reading_failed, wrong, to),
+        Some(Failure::Writing) => say(writing_failed, wrong, to),
+    }
+}
+
+// How many bytes a read or a write moved, or, where it failed, whether it is made again. What went wrong, if anything, is noted.
+pub fn noted(answer: io::Result<usize>, wrong: &mut Error) -> Result<usize, bool>
+    ensures moved { IfOk answer (λ n. result ≡ Ok n) }
+    ensures failed { IfErr answer (λ error. IfErr result (λ again. IsTrue again ↔ error_kind error ≡ ErrorKind.Interrupted)) }
+    ensures fails { is_ok result ≡ is_ok answer }
+    ensures kept { IfOk answer (λ n. wrong.new ≡ wrong.old) }
+    ensures noted { IfErr answer (λ error. wrong.new ≡ error) }
+{
+    match answer {
+        Ok(n) => Ok(n),
+        Err(error) => {
+            let again = is_interrupted(&error);
+            *wrong = error;
+            Err(again)
+        }
     }
 }
 
@@ -114,9 +114,6 @@ pub fn say<P: Print>(what: &[u8], wrong: &Error, to: &P) {
 
 // The system's words for an error, without its number, which stands behind them.
 fn message(words: &Words) -> &str {
-    if words.len > WORDS_ROOM {
-        return "";
-    }
     match std::str::from_utf8(&words.bytes[..words.len]) {
         Ok(text) => match text.rsplit_once(" (os error ") {
             Some((front, _)) => front,

@@ -1,24 +1,22 @@
--- What comes next, and what holds then. One law for each way of the code, and `coming_laws`. Assumes nothing.
+-- What comes next, and what holds then. Assumes nothing.
 use Prim.Native.Nat.{ℕ, ◌<◌, ◌≤◌}
 use native.Mathlib.Omega.{arith}
 use mathlib.Core.Path.{◌≡◌, refl, sym, ap, subst, ◌∙◌}
-use mathlib.Core.Bool.{Bool, true, false, false≢true, cond, not, ◌||◌}
+use mathlib.Core.Bool.{Bool, true, false, false≢true, cond, ◌||◌}
 use mathlib.Core.List.{List, ◌++◌, append-nil}
 use lib.Dec.{ltb, leb}
-use borrow.Author.Tests.{ltb-true, ltb-false, leb-false, lt-ltb, le-ltb, le-leb, lt-leb, not-true, not-false}
-use borrow.Author.Rules.{rules}
+use Rattle.std.specs.Prelude.{None, is_some}
+use borrow.Author.Tests.{ltb-true, ltb-false, leb-false, lt-leb}
 use Rattle.lists.proofs.Parts.{no_part}
-use Rattle.whole_reads.specs.Promises.{FlowBegins, Flows, NextAs, comes_next, is_fine, left_to_write}
+use Rattle.whole_reads.specs.Promises.{FlowBegins, Flows, NextAs, comes_next, left_to_write}
 use Rattle.whole_reads.specs.declared.Flow.{Flow}
-use Rattle.whole_reads.specs.declared.Failure.TheVariants.{Nothing}
 use Rattle.whole_reads.specs.declared.Next.{Next}
 use Rattle.whole_reads.specs.declared.Next.TheVariants.{Read, Take, Write, Stop}
 
 -- ---- what holds where an action comes next
 
--- nothing went wrong, all lines are written, and more will be made
+-- all lines are written, and more will be made
 pub record MoreDue (f : Flow) : Type 0 where
-  pub fine : is_fine f.failure ≡ true
   pub none : f.to ≤ f.from
   pub more : f.done ≡ false
 
@@ -42,27 +40,27 @@ abbrev Holding : Flow → ℕ → Next → Type 0
 Holding f room Read = FlowMayRead f room
 Holding f room Take = MayTake f room
 Holding f room Write = f.from < f.to
-Holding f room Stop = is_fine f.failure ≡ true → Over f
+Holding f room Stop = f.failure ≡ None → Over f
 
 holding : (f : Flow) (room : ℕ) → Holding f room (comes_next f room)
 unfolding comes_next
-holding f room = go (is_fine f.failure) (ltb f.from f.to) f.done (f.ended || leb room f.have) refl refl refl refl
+holding f room = go (is_some f.failure) (ltb f.from f.to) f.done (f.ended || leb room f.have) refl refl refl refl
   where
-    due : is_fine f.failure ≡ true → ltb f.from f.to ≡ false → f.done ≡ false → MoreDue f
-    due p q r = record { fine = p; none = ltb-false f.from f.to q; more = r }
+    due : ltb f.from f.to ≡ false → f.done ≡ false → MoreDue f
+    due q r = record { none = ltb-false f.from f.to q; more = r }
 
     unfull : (a b : Bool) → f.ended ≡ a → leb room f.have ≡ b → (a || b) ≡ false → MoreDue f → FlowMayRead f room
     unfull true b s t z m = absurd (false≢true (sym z))
     unfull false true s t z m = absurd (false≢true (sym z))
     unfull false false s t z m = record { due = m; goes = s; fits = leb-false room f.have t }
 
-    go : (n l d k : Bool) → is_fine f.failure ≡ n → ltb f.from f.to ≡ l → f.done ≡ d → (f.ended || leb room f.have) ≡ k
-        → Holding f room (cond n (cond l Write (cond d Stop (cond k Take Read))) Stop)
-    go true true d k p q r s = ltb-true f.from f.to q
-    go true false true k p q r s = λ w. record { none = ltb-false f.from f.to q; done = r }
-    go true false false true p q r s = record { due = due p q r; whole = s }
-    go true false false false p q r s = unfull f.ended (leb room f.have) refl refl s (due p q r)
-    go false l d k p q r s = λ w. absurd (false≢true (sym p ∙ w))
+    go : (n l d k : Bool) → is_some f.failure ≡ n → ltb f.from f.to ≡ l → f.done ≡ d → (f.ended || leb room f.have) ≡ k
+        → Holding f room (cond n Stop (cond l Write (cond d Stop (cond k Take Read))))
+    go true l d k p q r s = λ w. absurd (false≢true (sym (ap is_some w) ∙ p))
+    go false true d k p q r s = ltb-true f.from f.to q
+    go false false true k p q r s = λ w. record { none = ltb-false f.from f.to q; done = r }
+    go false false false true p q r s = record { due = due q r; whole = s }
+    go false false false false p q r s = unfull f.ended (leb room f.have) refl refl s (due q r)
 
 pub flow_reading : (f : Flow) (room : ℕ) → comes_next f room ≡ Read → FlowMayRead f room
 flow_reading f room e = subst (Holding f room) e (holding f room)
@@ -70,7 +68,7 @@ flow_reading f room e = subst (Holding f room) e (holding f room)
 pub taking : (f : Flow) (room : ℕ) → comes_next f room ≡ Take → MayTake f room
 taking f room e = subst (Holding f room) e (holding f room)
 
-pub stopping : (f : Flow) (room : ℕ) → comes_next f room ≡ Stop → is_fine f.failure ≡ true → Over f
+pub stopping : (f : Flow) (room : ℕ) → comes_next f room ≡ Stop → f.failure ≡ None → Over f
 stopping f room e = subst (Holding f room) e (holding f room)
 
 -- all lines that were made have been written
@@ -82,7 +80,7 @@ all_written read taken made written f buffer out h l =
 -- ---- the promises
 
 -- nothing has been read or written
-pub flow_begins : FlowBegins (record { have = 0; ended = false; from = 0; to = 0; done = false; failure = Nothing })
+pub flow_begins : FlowBegins (record { have = 0; ended = false; from = 0; to = 0; done = false; failure = None })
 unfolding comes_next left_to_write
 flow_begins =
     record {
@@ -90,44 +88,11 @@ flow_begins =
       reads = λ room l. rw (lt-leb room 0 (omega arith));
     }
 
-module _ (f : Flow) (room : ℕ) where
-  next_is : (x : Next) → x ≡ comes_next f room → NextAs f room x
-  next_is x e =
-      record {
-        is = e;
-        all = λ read taken made written buffer out y w h.
-            let o : Over f = stopping f room (sym e ∙ y) w in (o.done, all_written read taken made written f buffer out h o.none);
-      }
-
-  module _ (b : Bool) (r : b ≡ is_fine f.failure) where
-    pub failure_next : not b ≡ true → NextAs f room Stop
-    unfolding comes_next
-    failure_next n = next_is Stop (sym (rw (sym r ∙ not-true b n)))
-
-    module _ (n : not b ≡ false) where
-      sound : is_fine f.failure ≡ true
-      sound = sym r ∙ not-false b n
-
-      pub write_next : f.from < f.to → NextAs f room Write
-      unfolding comes_next
-      write_next l = next_is Write (sym (rw (sound, lt-ltb f.from f.to l)))
-
-      module _ (l : f.to ≤ f.from) where
-        pub done_next : f.done ≡ true → NextAs f room Stop
-        unfolding comes_next
-        done_next d = next_is Stop (sym (rw (sound, le-ltb f.from f.to l, d)))
-
-        module _ (d : f.done ≡ false) where
-          pub ended_next : f.ended ≡ true → NextAs f room Take
-          unfolding comes_next
-          ended_next e = next_is Take (sym (rw (sound, le-ltb f.from f.to l, d, e)))
-
-          pub full_next : f.ended ≡ false → room ≤ f.have → NextAs f room Take
-          unfolding comes_next
-          full_next e k = next_is Take (sym (rw (sound, le-ltb f.from f.to l, d, e, le-leb room f.have k)))
-
-          pub read_next : f.ended ≡ false → f.have < room → NextAs f room Read
-          unfolding comes_next
-          read_next e k = next_is Read (sym (rw (sound, le-ltb f.from f.to l, d, e, lt-leb room f.have k)))
-
-pub ruleset coming_laws = (flow_begins, failure_next, write_next, done_next, ended_next, full_next, read_next, rules)
+-- what comes next, and that nothing is left undone where the program stops
+pub next_is : (f : Flow) (room : ℕ) (x : Next) → x ≡ comes_next f room → NextAs f room x
+next_is f room x e =
+    record {
+      is = e;
+      all = λ read taken made written buffer out y w h.
+          let o : Over f = stopping f room (sym e ∙ y) w in (o.done, all_written read taken made written f buffer out h o.none);
+    }

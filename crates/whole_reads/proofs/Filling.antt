@@ -1,36 +1,18 @@
--- The buffer: bytes more stand in it, or all are taken. One law for each way of the code, and `filling_laws`. Rests on Coming. Assumes nothing.
-use Prim.Native.Nat.{ℕ, ◌+◌, ◌-◌, ◌≤◌, min}
+-- The buffer: another read left the same bytes in it, bytes more stand in it, or all are taken. Rests on Coming. Assumes nothing.
+use Prim.Native.Nat.{ℕ, ◌≤◌}
 use native.Mathlib.Omega.{arith}
-use mathlib.Core.Path.{◌≡◌, refl, sym, ap, ◌∙◌}
-use mathlib.Core.Bool.{Bool, true, or-true, or-false}
+use mathlib.Core.Path.{◌≡◌, sym, ap, ◌∙◌}
+use mathlib.Core.Bool.{Bool}
 use mathlib.Core.List.{List, ◌++◌, append_assoc, append-nil}
 use lib.ListN.{length, take, drop, length-drop}
-use lib.Seq.{take-add, take_all}
-use borrow.Author.Tests.{eq-eqb, ne_eqb}
-use borrow.Author.Rules.{rules}
-use Rattle.lists.proofs.Parts.{drop_at_most, part_from_start}
-use Rattle.whole_reads.specs.Promises.{Flows, TakeNoted, filled_flow, left_to_write, taken_flow}
+use lib.Seq.{take-add}
+use Rattle.lists.proofs.Parts.{part_from_start}
+use Rattle.whole_reads.specs.Promises.{Flows, TakeNoted, comes_next, filled_flow, left_to_write, taken_flow}
 use Rattle.whole_reads.specs.declared.Flow.{Flow}
+use Rattle.whole_reads.specs.declared.Next.TheVariants.{Take}
 use Rattle.whole_reads.proofs.Coming.{all_written, taking}
 
--- ---- the bytes of the buffer behind those that stand in it
-
-pub part_unfilled : (f : Flow) (buffer : List ℕ) (have : ℕ) → have ≡ min f.have (length buffer) → take (length buffer - have) (drop have buffer) ≡ drop f.have buffer
-part_unfilled f buffer have e =
-    take_all (length buffer - have) (drop have buffer) (omega (arith, length-drop have buffer)) ∙ ap (λ (n : ℕ). drop n buffer) e ∙ drop_at_most f.have buffer
-
--- ---- n bytes more
-
-module _ (f : Flow) (n : ℕ) where
-  pub filled_none : n ≡ 0
-      → ◌≡◌ {A = Flow} (record { have = f.have + n; ended = true; from = f.from; to = f.to; done = f.done; failure = f.failure }) (filled_flow f n)
-  unfolding filled_flow
-  filled_none z = sym (rw (eq-eqb n 0 z, or-true f.ended))
-
-  pub filled_some : (n ≡ 0 → ⊥)
-      → ◌≡◌ {A = Flow} (record { have = f.have + n; ended = f.ended; from = f.from; to = f.to; done = f.done; failure = f.failure }) (filled_flow f n)
-  unfolding filled_flow
-  filled_some z = sym (rw (ne_eqb n 0 z, or-false f.ended))
+-- ---- the buffer as another read left it
 
 module _ (read taken made written : List ℕ) (f : Flow) (buffer out : List ℕ) where
   -- a buffer in which the same bytes stand
@@ -63,19 +45,18 @@ module _ (read taken made written : List ℕ) (f : Flow) (buffer out : List ℕ)
 
 -- ---- all are taken
 
-pub took : (f : Flow) (n : ℕ) (done : Bool) → TakeNoted f n done (record { have = 0; ended = f.ended; from = 0; to = n; done = done; failure = f.failure })
+took_flows : (f : Flow) (n : ℕ) (done : Bool) (room : ℕ) (read taken made written buffer out out' : List ℕ) → comes_next f room ≡ Take → n ≤ length out'
+    → Flows read taken made written f buffer out → Flows read read (made ++ take n out') written (taken_flow f n done) buffer out'
 unfolding taken_flow left_to_write
-took f n done =
+took_flows f n done room read taken made written buffer out out' x l h =
     record {
-      flow = refl;
-      flows = λ room read taken made written buffer out out' x l h.
-          record {
-            bytes = append-nil read;
-            filled = omega arith;
-            lines = ap (λ (xs : List ℕ). written ++ xs) (part_from_start n out') ∙ ap (λ (xs : List ℕ). xs ++ take n out') (all_written read taken made written f buffer out h (taking f room x).due.none);
-            ordered = omega arith;
-            within = l;
-          };
+      bytes = append-nil read;
+      filled = omega arith;
+      lines = ap (λ (xs : List ℕ). written ++ xs) (part_from_start n out') ∙ ap (λ (xs : List ℕ). xs ++ take n out') (all_written read taken made written f buffer out h (taking f room x).due.none);
+      ordered = omega arith;
+      within = l;
     }
 
-pub ruleset filling_laws = (part_unfilled, filled_none, filled_some, took, rules)
+pub took : (f : Flow) (n : ℕ) (done : Bool) (f' : Flow) → f' ≡ taken_flow f n done → TakeNoted f n done f'
+took f n done f' e =
+    record { flow = e; flows = λ room read taken made written buffer out out' x l h. rw e (took_flows f n done room read taken made written buffer out out' x l h) }

@@ -3,14 +3,13 @@
 use Prim.Native.Nat.{ℕ, ◌≤◌}
 use native.Mathlib.Omega.{arith}
 use mathlib.Core.Path.{◌≡◌, refl, sym, ap, subst, ◌∙◌}
-use mathlib.Core.Bool.{Bool, true, false, false≢true, cond, ◌&&◌}
+use mathlib.Core.Bool.{Bool, true, false, false≢true, ◌&&◌}
 use mathlib.Core.List.{List, [], ◌++◌, append-nil}
 use lib.ListN.{length, take, drop}
 use lib.Seq.{length-take-le, take_at}
-use lib.IntN.{ℤ, pos}
-use lib.Signed.{lt_z}
 use borrow.Author.Rules.{rules}
-use Rattle.whole_reads.specs.Promises.{FlowBegins, ReadNoted, NextAs, WriteNoted, TakeNoted, comes_next, failed_flow, filled_flow, got_flow, is_fine, left_to_write, moved_bytes, put_flow, taken_flow, wrote_flow}
+use Rattle.std.specs.Prelude.{None, Result, Ok, Err}
+use Rattle.whole_reads.specs.Promises.{FlowBegins, ReadNoted, NextAs, WriteNoted, TakeNoted, comes_next, failed_flow, filled_flow, got_flow, left_to_write, moved_bytes, put_flow, taken_flow, wrote_flow}
 use Rattle.whole_reads.specs.inner.Going.{FlowGoing, InputKept, ReadOn, Standing, Takes, TakesNext, WroteOn}
 use Rattle.whole_reads.specs.declared.Flow.{Flow}
 use Rattle.whole_reads.specs.declared.Failure.{Failure}
@@ -45,26 +44,23 @@ failed_keeps f failure false = record { have = refl; ended = refl; done = refl }
 
 -- ---- a read
 
-got_done : (f : Flow) (got : ℤ) (again : Bool) (buffer : List ℕ) → (got_flow f got again buffer).done ≡ f.done
+got_done : (f : Flow) (got : Result ℕ Bool) (buffer : List ℕ) → (got_flow f got buffer).done ≡ f.done
 unfolding got_flow filled_flow
-got_done f got again buffer = go (lt_z got (pos 0))
-  where
-    go : (b : Bool) → (cond b (failed_flow f Reading again) (filled_flow f (length (moved_bytes got (drop f.have buffer))))).done ≡ f.done
-    go true = (failed_keeps f Reading again).done
-    go false = refl
+got_done f (Ok n) buffer = refl
+got_done f (Err again) buffer = (failed_keeps f Reading again).done
 
 -- whatever a read puts behind them, the first bytes stay
 pub first_bytes_stay : (n : ℕ) (buffer rest : List ℕ) → n ≤ length buffer → take n buffer ≡ take n (take n buffer ++ rest)
 first_bytes_stay n buffer rest l = sym (take_at (take n buffer) rest n (length-take-le n buffer l))
 
-pub read_on : (f : Flow) (got : ℤ) (again : Bool) (buffer : List ℕ) (f' : Flow) (buffer' : List ℕ) → ReadNoted f got again buffer' f' → length buffer' ≡ length buffer
+pub read_on : (f : Flow) (got : Result ℕ Bool) (buffer : List ℕ) (f' : Flow) (buffer' : List ℕ) → ReadNoted f got buffer' f' → length buffer' ≡ length buffer
     → take f.have buffer ≡ take f.have buffer' → ReadOn f buffer f' buffer'
-read_on f got again buffer f' buffer' h l s =
+read_on f got buffer f' buffer' h l s =
     record {
       came = moved_bytes got (drop f.have buffer');
       on = λ read taken made written out w. h.flows read taken made written buffer out (sym l) s w;
       long = l;
-      done = ap (λ (x : Flow). x.done) h.flow ∙ got_done f got again buffer';
+      done = ap (λ (x : Flow). x.done) h.flow ∙ got_done f got buffer';
     }
 
 pub going_read : (S : Standing) (f : Flow) (buffer out : List ℕ) (x : Next) (f' : Flow) (buffer' : List ℕ) → NextAs f (length buffer) x → x ≡ Read → ReadOn f buffer f' buffer' → FlowGoing S f buffer out
@@ -85,20 +81,17 @@ going_read S f buffer out x f' buffer' n e h g =
 
 -- ---- a write
 
-put_keeps : (f : Flow) (put : ℤ) (again : Bool) (out : List ℕ) → InputKept f (put_flow f put again out)
+put_keeps : (f : Flow) (put : Result ℕ Bool) (out : List ℕ) → InputKept f (put_flow f put out)
 unfolding put_flow wrote_flow
-put_keeps f put again out = go (lt_z put (pos 0))
-  where
-    go : (b : Bool) → InputKept f (cond b (failed_flow f Writing again) (wrote_flow f (length (moved_bytes put (left_to_write f out)))))
-    go true = failed_keeps f Writing again
-    go false = record { have = refl; ended = refl; done = refl }
+put_keeps f (Ok n) out = record { have = refl; ended = refl; done = refl }
+put_keeps f (Err again) out = failed_keeps f Writing again
 
-pub wrote_on : (f : Flow) (put : ℤ) (again : Bool) (out : List ℕ) (f' : Flow) → WriteNoted f put again out f' → WroteOn f out f'
-wrote_on f put again out f' h =
+pub wrote_on : (f : Flow) (put : Result ℕ Bool) (out : List ℕ) (f' : Flow) → WriteNoted f put out f' → WroteOn f out f'
+wrote_on f put out f' h =
     record {
       went = moved_bytes put (left_to_write f out);
       on = h.flows;
-      input = rw h.flow (put_keeps f put again out);
+      input = rw h.flow (put_keeps f put out);
     }
 
 pub going_wrote : (S : Standing) (f : Flow) (buffer out : List ℕ) (f' : Flow) → WroteOn f out f' → FlowGoing S f buffer out → FlowGoing S f' buffer out
@@ -144,7 +137,7 @@ going_took S S' f n done buffer out f' out' h t l s =
 -- ---- the end
 
 -- where nothing is left to do and nothing went wrong, all that was read is taken, and all lines made of it are written
-pub going_through : (S : Standing) (f : Flow) (buffer out : List ℕ) → comes_next f (length buffer) ≡ Stop → is_fine f.failure ≡ true → (g : FlowGoing S f buffer out)
+pub going_through : (S : Standing) (f : Flow) (buffer out : List ℕ) → comes_next f (length buffer) ≡ Stop → f.failure ≡ None → (g : FlowGoing S f buffer out)
     → S (length buffer) (length out) g.read g.written true f.ended
 going_through S f buffer out e w g = rw (taken, made) at (subst (λ (d : Bool). S (length buffer) (length out) g.taken g.made d (d && f.ended)) o.done g.stands)
   where

@@ -9,12 +9,6 @@ pub record PagesWhole (old new : List ℕ) : Type 0 where
   pub old_whole : length old ≡ page_width
   pub new_whole : length new ≡ page_width
 
--- the diff of two pages has so many bytes, and they lie within the destination
-pub record RoomForWritten (old new out : List ℕ) (bytes : ℕ) : Type 0 where
-  pub whole : PagesWhole old new
-  pub is : bytes ≡ length (written old new)
-  pub room : bytes ≤ length out
-
 -- the diff of two pages, whose mask is given, lies within the destination
 pub record RoomForDiff (old new : List ℕ) (mask : ℕ) (out : List ℕ) : Type 0 where
   pub whole : PagesWhole old new

@@ -8,7 +8,7 @@ use Rattle.layout.specs.inner.Needed.{Holds}
 use Rattle.refusals.specs.inner.Bounds.{bounds_of}
 use Rattle.refusals.specs.inner.Needed.{MarksCountable}
 use Rattle.fetch_index.specs.inner.Index.{IndexKept}
-use Rattle.step_act.specs.declared.Outcome.{Outcome}
+use Rattle.step_act.specs.Telling.{Outcome}
 use Rattle.step_act.specs.Telling.{Tells}
 
 -- n is the first row from 3 to 10 that refuses the step t, or 0

@@ -6,8 +6,7 @@ use Rattle.limits.specs.inner.Sizes.{file_record_limit}
 use Rattle.layout.specs.Areas.{Areas, areas}
 use Rattle.inorder.specs.Areas.{OrderIs}
 use Rattle.opening.specs.Promises.{areas_opened, open_refusal}
-use Rattle.step_act.specs.Telling.{told}
-use Rattle.step_act.specs.declared.Outcome.{Outcome}
+use Rattle.step_act.specs.Telling.{Outcome, told}
 use Rattle.lines.specs.Lines.{line_bytes}
 use Rattle.file_lines.specs.inner.Needed.{RestKept, LinePut}
 use Rattle.file_record.specs.Records.{Feed}

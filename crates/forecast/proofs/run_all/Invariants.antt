@@ -1,10 +1,7 @@
--- What holds is kept by each turn, and the turns that are left fall. Assumes nothing.
+-- What holds is kept by each turn. Assumes nothing.
 use Rattle.whole_reads.specs.inner.Going.{FlowGoing}
 use Rattle.forecast.specs.inner.Going.{Held}
 use Rattle.forecast.proofs.run_all.Given as goal
 
 abbrev pub invariant-loop-turns : goal.invariant-loop-turns
 invariant-loop-turns g l = FlowGoing (Held l.reach l.own l.marks) l.flow l.buffer l.lines
-
-abbrev pub decreases-loop-turns : goal.decreases-loop-turns
-decreases-loop-turns g l = l.turns

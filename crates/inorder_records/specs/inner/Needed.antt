@@ -1,6 +1,6 @@
 -- What the tests of the records ask of one another and of their callers: slots that lie within the area, and numbers in their range.
 -- Assumes nothing.
-use Rattle.std.specs.Prelude.{ℕ, ◌≤◌, ◌<◌, ◌≡◌, true, List, length, get_or}
+use Rattle.std.specs.Prelude.{ℕ, ◌≤◌, ◌<◌, ◌≡◌, true, List, length}
 use Rattle.lists.specs.Tables.{every}
 use Rattle.limits.specs.Limits.{interval_limit, page_limit, processor_limit, record_limit}
 use Rattle.limits.specs.inner.Sizes.{record_area}
@@ -30,8 +30,3 @@ pub record NoticeFits (r : List ℕ) (i : ℕ) : Type 0 where
 -- so do those of every record
 pub record NoticesFit (r : List ℕ) (n : ℕ) : Type 0 where
   pub at : (i : ℕ) → i < n → NoticeFits r i
-
--- a table of zeros
-pub record Blank (n : ℕ) (l : List ℕ) : Type 0 where
-  pub long : length l ≡ n
-  pub zero : (i : ℕ) → get_or l i 0 ≡ 0

@@ -54,11 +54,6 @@ pub record Countable (d : List ℕ) (len n : ℕ) : Type 0 where
   pub now_counted : Counted d len n
   pub few : n < 10000000
 
--- eight bytes have room from a place on
-pub record EightFit (out : List ℕ) (at : ℕ) (d : List ℕ) : Type 0 where
-  pub room : at + 8 ≤ length out
-  pub long : length d ≡ 8
-
 -- seven bytes have room from a place on, and a refusal is one digit
 pub record ShortFits (out : List ℕ) (at refusal : ℕ) : Type 0 where
   pub room : at + 7 ≤ length out

@@ -1,26 +1,17 @@
 -- The parts of an opening: which records are accepted, and what is laid into the areas. Assumes nothing.
-use Rattle.std.specs.Prelude.{ℕ, ◌-◌, ◌≡◌, Bool, ◌&&◌, List, ◌∷◌, length, get_or, replicate, take, eqb}
+use Rattle.std.specs.Prelude.{ℕ, ◌-◌, ◌≡◌, Bool, ◌&&◌, List, ◌∷◌, length, get_or, replicate, eqb}
 use Rattle.limits.specs.Files.{file_record_width}
 use Rattle.limits.specs.Places.{standing_place}
-use Rattle.limits.specs.inner.Sizes.{mark_area, word_area, word_limit}
-use Rattle.rules.specs.InOrder.{counts_in_range}
+use Rattle.limits.specs.inner.Sizes.{mark_area}
 use Rattle.rules.specs.State.{mainframe}
 use Rattle.rules.specs.Opening.{opening_refusal, opened}
-use Rattle.layout.specs.Areas.{areas, holding, right_sizes}
+use Rattle.layout.specs.Areas.{areas, holding}
 use Rattle.layout.specs.inner.Needed.{Lent}
 use Rattle.opening.specs.Promises.{opening_of}
 
 -- eight bytes that row 2 does not refuse
 unfoldable pub opening_fits : List ℕ → Bool
 opening_fits bytes = eqb (length bytes) file_record_width && eqb (opening_refusal mainframe (opening_of bytes)) 0
-
--- "Each card starts with a copy of 256 words, all 0"
-unfoldable pub fresh_copy : List ℕ
-fresh_copy = replicate word_limit 0
-
--- the copies and twins of eight processors, the tallies and the values of jobs, all 0
-unfoldable pub fresh_words : List ℕ
-fresh_words = replicate word_area 0
 
 -- the marks of an opened mainframe: the three counts, all else 0
 unfoldable pub opened_marks : List ℕ → List ℕ
@@ -39,23 +30,6 @@ pub record MarksOpenable (bytes m : List ℕ) : Type 0 where
   pub opening : length bytes ≡ file_record_width
 
 -- ---- what they answer and leave
-
--- the area of the words, of which the first n are 0
-pub record WordsZeroTo (w : List ℕ) (n : ℕ) : Type 0 where
-  pub long : length w ≡ word_area
-  pub first : take n w ≡ replicate n 0
-
--- b says whether the areas have the fixed sizes
-pub record SizesAre (b : Bool) (c w r m : List ℕ) : Type 0 where
-  pub is : b ≡ right_sizes (areas c w r m)
-
--- b says whether the bytes that must be 0 are
-pub record ZerosAre (b : Bool) (bytes : List ℕ) : Type 0 where
-  pub is : b ≡ (eqb (opening_of bytes).first 0 && eqb (opening_of bytes).rest 0)
-
--- b says whether the counts are in range
-pub record CountsAre (b : Bool) (bytes : List ℕ) : Type 0 where
-  pub is : b ≡ counts_in_range mainframe (opening_of bytes).counts
 
 -- b says whether the opening fits
 pub record OpeningIs (b : Bool) (bytes : List ℕ) : Type 0 where

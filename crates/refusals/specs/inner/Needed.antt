@@ -1,11 +1,10 @@
 -- What the functions ask: the marks of a state in order, and of one another what the rows above have left. Assumes nothing.
-use Rattle.std.specs.Prelude.{◌≡◌, ℕ, ◌+◌, ◌<◌, ◌≤◌, true, false, List, length, slice_index}
+use Rattle.std.specs.Prelude.{◌≡◌, ℕ, ◌+◌, ◌<◌, ◌≤◌, false, List, length, slice_index}
 use Rattle.limits.specs.Limits.{lock_limit, page_limit, processor_limit}
 use Rattle.limits.specs.inner.Sizes.{bound_area, kind_bounds, kind_limit, mark_area, word_limit}
 use Rattle.rules.specs.InOrder.{present_holder}
 use Rattle.rules.specs.State.{dirty_at, Applied}
 use Rattle.layout.specs.inner.Marks.{processor_count, page_count, lock_count}
-use Rattle.rules.specs.Refusals.{known_kind}
 use Rattle.refusals.specs.inner.Parts.{seen}
 use Rattle.refusals.specs.inner.Bounds.{object_bound_of, value_bound_of}
 
@@ -27,21 +26,11 @@ pub record BoundsOf (m bounds : List ℕ) : Type 0 where
   pub object : (k : ℕ) → k ≤ kind_limit → slice_index bounds k ≡ object_bound_of (seen m) k
   pub value : (k : ℕ) → k ≤ kind_limit → slice_index bounds (kind_bounds + k) ≡ value_bound_of k
 
--- the marks, and a known kind
-pub record KnownKind (m : List ℕ) (kind : ℕ) : Type 0 where
-  pub counted : MarksCountable m
-  pub known : known_kind kind ≡ true
-
 -- the marks, and a processor that has marks
 pub record PagesOf (m : List ℕ) (p : ℕ) : Type 0 where
   pub counted : MarksCountable m
   pub from : 1 ≤ p
   pub to : p ≤ processor_limit
-
--- a step of a known kind by such a processor
-pub record KnownStep (m : List ℕ) (kind p : ℕ) : Type 0 where
-  pub kind_known : KnownKind m kind
-  pub by : PagesOf m p
 
 -- a step whose word or lock has a place
 pub record FittingStep (m : List ℕ) (kind p object : ℕ) : Type 0 where

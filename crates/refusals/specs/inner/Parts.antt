@@ -47,18 +47,15 @@ may_act s processor = present s processor && is_free s processor
 unfoldable pub step_in_range : State → ℕ → ℕ → ℕ → ℕ → Bool
 step_in_range s kind processor object value = known_kind kind && fields_in_range s kind object value && may_act s processor
 
--- the rows 5, 6 and 17; 0 where none refuses
-unfoldable pub early_of_fields : State → ℕ → ℕ → ℕ → ℕ → ℕ
-early_of_fields s kind processor object value =
-    cond (not (fields_in_range s kind object value)) 5 (cond (has_arrived s processor) 6 (cond (waits s.marks processor) 17 0))
-
--- the rows 4 to 6 and 17
-unfoldable pub early_of_known : State → ℕ → ℕ → ℕ → ℕ → ℕ
-early_of_known s kind processor object value = cond (not (present s processor)) 4 (early_of_fields s kind processor object value)
-
--- the rows 3 to 6 and 17
+-- the rows 3 to 6 and 17; 0 where none refuses
 unfoldable pub early_refusal : State → ℕ → ℕ → ℕ → ℕ → ℕ
-early_refusal s kind processor object value = cond (not (known_kind kind)) 3 (early_of_known s kind processor object value)
+early_refusal s kind processor object value =
+    cond (not (known_kind kind)) 3
+    (cond (not (present s processor)) 4
+    (cond (not (fields_in_range s kind object value)) 5
+    (cond (has_arrived s processor) 6
+    (cond (waits s.marks processor) 17
+    0))))
 
 -- the records that stand, and one for each dirty page
 unfoldable pub records_to_come : State → ℕ

@@ -1,5 +1,5 @@
 -- What holds of the program from turn to turn. Assumes nothing.
-use Rattle.std.specs.Prelude.{ℕ, ◌+◌, ◌*◌, ◌/◌, ◌<◌, ◌≡◌, List, length}
+use Rattle.std.specs.Prelude.{ℕ, ◌+◌, ◌*◌, ◌/◌, ◌<◌, ◌≡◌, List, length, Option, Some}
 use Rattle.limits.specs.Files.{file_record_width, line_limit}
 use Rattle.layout.specs.Areas.{Areas, areas}
 use Rattle.layout.specs.inner.Needed.{Lent}
@@ -26,10 +26,10 @@ pub record Ample (chunk lines c w r m : List ℕ) : Type 0 where
   pub lent : Lent c w r m
 
 -- the faults that can arise: every chunk is fed
-pub record Possible (f : Fault) : Type 0 where
-  pub fed : f ≡ NotFed → ⊥
+pub record Possible (f : Option Fault) : Type 0 where
+  pub fed : f ≡ Some NotFed → ⊥
 
--- some bytes have been read, and the lines that they make linesDue are written or left to be written
+-- some bytes have been read, and the lines due for them are written or left to be written
 pub record Underway (s : Run) (chunk out c w r m : List ℕ) : Type 0 where
   pub roomy : Roomy chunk out
   pub first : Areas

@@ -10,17 +10,11 @@ use Rattle.layout.specs.inner.Needed.{Ready, Holds}
 use Rattle.fetch_index.specs.inner.Index.{IndexKept}
 use Rattle.step_collect.specs.inner.Needed.{ReadyKept}
 use Rattle.opening.specs.Promises.{areas_opened}
-use Rattle.step_act.specs.declared.Outcome.{Outcome}
-use Rattle.step_act.specs.Telling.{told}
 use Rattle.step_fields.specs.Records.{step_from, steps_in}
 use Rattle.step_record.specs.Answers.{answer_words}
 use Rattle.run_list.specs.Runs.{records_run, first_refusal}
 
 -- ---- one record
-
--- the four words from a place on tell an outcome, and the other words are as they were
-pub record OutcomeLaid (out : List ℕ) (at : ℕ) (o : Outcome) (out' : List ℕ) : Type 0 where
-  pub is : out' ≡ sets out at (answer_words (told o ∷ []))
 
 -- record i stands in the bytes, the words have room for its answer, the areas hold a state in order, and the index is kept
 pub record RecordReady (bytes : List ℕ) (i : ℕ) (out c w r m x : List ℕ) : Type 0 where

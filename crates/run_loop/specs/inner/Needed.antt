@@ -1,5 +1,5 @@
 -- What the inner functions of this crate promise. Assumes nothing.
-use Rattle.std.specs.Prelude.{ℕ, ◌/◌, ◌<◌, ◌≡◌, Bool, true, false, List, ◌++◌, length, take}
+use Rattle.std.specs.Prelude.{ℕ, ◌/◌, ◌<◌, ◌≡◌, Bool, true, false, List, ◌++◌, length, take, None}
 use Rattle.limits.specs.Files.{file_record_width, line_limit}
 use Rattle.layout.specs.Areas.{Areas}
 use Rattle.stepfile.specs.Promises.{FedAs, FinishedAs}
@@ -7,7 +7,6 @@ use Rattle.stepfile.specs.declared.Taken.{Taken}
 use Rattle.run_loop.specs.Promises.{Runs, next_action, failed_run, pending, read_areas, read_lines, read_run, taken_run, wrote_run}
 use Rattle.run_loop.specs.declared.Run.{Run}
 use Rattle.run_loop.specs.declared.Fault.{Fault}
-use Rattle.run_loop.specs.declared.Fault.TheVariants.{Nothing}
 use Rattle.run_loop.specs.declared.Action.TheVariants.{Read}
 
 -- the bytes were fed, and the run stands where the answer leaves it
@@ -29,7 +28,7 @@ pub record ReadAs (s : Run) (bytes out : List ℕ) (a : Areas) (s' : Run) (out' 
   pub areas : a' ≡ read_areas s bytes (length out) a
   -- with room for the lines of the bytes they are taken, ..
   pub fed : (a₀ : Areas) (read written : List ℕ) → next_action s ≡ Read → length bytes / file_record_width < length out / line_limit → Runs a₀ read written s out a
-      → s'.fault ≡ Nothing
+      → s'.fault ≡ None
   -- .. and stand behind those read before
   pub runs : (a₀ : Areas) (read written : List ℕ) → next_action s ≡ Read → length bytes / file_record_width < length out / line_limit → Runs a₀ read written s out a
       → Runs a₀ (read ++ bytes) written s' out' a'

@@ -1,9 +1,0 @@
--- `block` meets its contract. Assumes nothing.
-use Rattle.diff.proofs.Masking.{mask_laws}
-use Rattle.diff.proofs.block.Statement.{statement}
-use Rattle.diff.proofs.block.Tie as tie
-
-pub block_spec : {M : Type 1} → statement M
-block_spec =
-    tie.close
-    (tie.spec (λ c. search mask_laws) (λ c κs. search mask_laws) (λ c κs. search mask_laws) (λ c. search mask_laws) (λ c. search mask_laws))

@@ -1,9 +1,0 @@
--- `take_first` meets its contract. Assumes nothing.
-use Rattle.file_chunk.proofs.Passing.{passing_laws}
-use Rattle.file_chunk.proofs.take_first.Statement.{statement}
-use Rattle.file_chunk.proofs.take_first.Tie as tie
-
-pub take_first_spec : {M : Type 1} → statement M
-take_first_spec =
-    tie.close
-    (tie.spec (λ c. search passing_laws) (λ c. search passing_laws) (λ c. search passing_laws) (λ c. search passing_laws) (λ c. search passing_laws) (λ c κs. search passing_laws) (λ c. search passing_laws) (λ c. search passing_laws) (λ c. search passing_laws) (λ c. search passing_laws) (λ c. search passing_laws) (λ c. search passing_laws))

@@ -1,9 +1,0 @@
--- `put_counted_line` meets its contract. Assumes nothing.
-use Rattle.file_lines.proofs.Placing.{placing_laws}
-use Rattle.file_lines.proofs.put_counted_line.Statement.{statement}
-use Rattle.file_lines.proofs.put_counted_line.Tie as tie
-
-pub put_counted_line_spec : {M : Type 1} → statement M
-put_counted_line_spec =
-    tie.close
-    (tie.spec (λ c κs. search placing_laws) (λ c. search placing_laws) (λ c. search placing_laws))

@@ -1,9 +1,0 @@
--- `room_holds` meets its contract. Assumes nothing.
-use Rattle.inorder_marks.proofs.MarkTests.{marks_checked}
-use Rattle.inorder_marks.proofs.room_holds.Statement.{statement}
-use Rattle.inorder_marks.proofs.room_holds.Tie as tie
-
-pub room_holds_spec : {M : Type 1} → statement M
-room_holds_spec =
-    tie.close
-    (tie.spec (λ c κs. search marks_checked) (λ c. search marks_checked) (λ c. search marks_checked))

@@ -1,9 +1,0 @@
--- `applied_row` meets its contract. Assumes nothing.
-use Rattle.layout.proofs.Rows.{row_laws}
-use Rattle.layout.proofs.applied_row.Statement.{statement}
-use Rattle.layout.proofs.applied_row.Tie as tie
-
-pub applied_row_spec : {M : Type 1} → statement M
-applied_row_spec =
-    tie.close
-    (tie.spec (λ c. search row_laws) (λ c. search row_laws) (λ c. search row_laws) (λ c. search row_laws) (λ c. search row_laws))

@@ -1,9 +1,0 @@
--- `awaited_of` meets its contract. Assumes nothing.
-use Rattle.layout.proofs.MarkFunctions.{mark_laws}
-use Rattle.layout.proofs.marks.awaited_of.Statement.{statement}
-use Rattle.layout.proofs.marks.awaited_of.Tie as tie
-
-pub awaited_of_spec : {M : Type 1} → statement M
-awaited_of_spec =
-    tie.close
-    (tie.spec (λ c. search mark_laws) (λ c. search mark_laws) (λ c. search mark_laws) (λ c κs. search mark_laws) (λ c. search mark_laws))

@@ -1,9 +1,0 @@
--- `put_first_job` meets its contract. Assumes nothing.
-use Rattle.layout.proofs.MarkFunctions.{mark_laws}
-use Rattle.layout.proofs.marks.put_first_job.Statement.{statement}
-use Rattle.layout.proofs.marks.put_first_job.Tie as tie
-
-pub put_first_job_spec : {M : Type 1} → statement M
-put_first_job_spec =
-    tie.close
-    (tie.spec (λ c. search mark_laws) (λ c. search mark_laws) (λ c. search mark_laws) (λ c. search mark_laws))

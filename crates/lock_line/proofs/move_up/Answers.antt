@@ -1,0 +1,6 @@
+-- `move_up` meets its contract. Assumes nothing.
+use Rattle.lock_line.proofs.Handing.{line_laws}
+use Rattle.lock_line.proofs.move_up.Goals as goal
+
+pub returns : goal.returns
+returns c = search line_laws

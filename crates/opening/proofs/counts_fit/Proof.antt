@@ -1,9 +1,0 @@
--- `counts_fit` meets its contract. Assumes nothing.
-use Rattle.opening.proofs.OpeningTests.{opening_tests}
-use Rattle.opening.proofs.counts_fit.Statement.{statement}
-use Rattle.opening.proofs.counts_fit.Tie as tie
-
-pub counts_fit_spec : {M : Type 1} → statement M
-counts_fit_spec =
-    tie.close
-    (tie.spec (λ c. search opening_tests) (λ c. search opening_tests) (λ c. search opening_tests) (λ c. search opening_tests) (λ c. search opening_tests) (λ c. search opening_tests) (λ c. search opening_tests) (λ c. search opening_tests) (λ c. search opening_tests) (λ c. search opening_tests) (λ c. search opening_tests) (λ c. search opening_tests) (λ c. search opening_tests))

@@ -1,9 +1,0 @@
--- `free_flag` meets its contract. Assumes nothing.
-use Rattle.refusals.proofs.Refusing.{refusal_laws}
-use Rattle.refusals.proofs.free_flag.Statement.{statement}
-use Rattle.refusals.proofs.free_flag.Tie as tie
-
-pub free_flag_spec : {M : Type 1} → statement M
-free_flag_spec =
-    tie.close
-    (tie.spec (λ c. search refusal_laws) (λ c. search refusal_laws) (λ c κs. search refusal_laws) (λ c. search refusal_laws) (λ c. search refusal_laws) (λ c κs. search refusal_laws) (λ c. search refusal_laws) (λ c. search refusal_laws))

@@ -1,9 +1,0 @@
--- `take_lock` meets its contract. Assumes nothing.
-use Rattle.step_lock.proofs.Locking.{lock_laws}
-use Rattle.step_lock.proofs.take_lock.Statement.{statement}
-use Rattle.step_lock.proofs.take_lock.Tie as tie
-
-pub take_lock_spec : {M : Type 1} → statement M
-take_lock_spec =
-    tie.close
-    (tie.spec (λ c κs. search lock_laws) (λ c κs. search lock_laws) (λ c. search lock_laws) (λ c. search lock_laws) (λ c. search lock_laws) (λ c. search lock_laws) (λ c. search lock_laws))

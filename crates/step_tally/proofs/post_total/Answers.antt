@@ -1,0 +1,6 @@
+-- `post_total` meets its contract. Assumes nothing.
+use Rattle.step_tally.proofs.Posting.{posting_laws}
+use Rattle.step_tally.proofs.post_total.Goals as goal
+
+pub returns : goal.returns
+returns c = search posting_laws

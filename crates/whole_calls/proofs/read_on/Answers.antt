@@ -1,9 +1,0 @@
--- Whatever the read answers, `note_read` keeps what was so, and the bytes that stood in the buffer stay. Assumes nothing.
-use Rattle.whole_calls.proofs.Calls.{call_laws}
-use Rattle.whole_calls.proofs.read_on.Goals as goal
-
-pub returns-in-Ok : goal.returns-in-Ok
-returns-in-Ok g c = search call_laws
-
-pub returns-in-Err : goal.returns-in-Err
-returns-in-Err g c = search call_laws

@@ -1,9 +1,0 @@
--- `note_read` meets its contract. Assumes nothing.
-use Rattle.whole_reads.proofs.Answered.{answered_laws}
-use Rattle.whole_reads.proofs.note_read.Statement.{statement}
-use Rattle.whole_reads.proofs.note_read.Tie as tie
-
-pub note_read_spec : {M : Type 1} → statement M
-note_read_spec =
-    tie.close
-    (tie.spec (λ c κs. search answered_laws) (λ c κs. search answered_laws) (λ c. search answered_laws) (λ c κs. search answered_laws) (λ c κs. search answered_laws) (λ c κs. search answered_laws) (λ c. search answered_laws))
