@@ -1,6 +1,6 @@
 // The test whether lent memory is in order: the four areas have the fixed sizes, and the state that they hold passes the rules' test.
 // `in_order` alone is public. It says so by one equation with `areas_in_order`; the other functions test the places of the clocks and words,
-// and the counts, each by an equation with a definition of specs/Tests.antt. Marks and records have crates of their own below.
+// and the counts, each by an equation with a definition of specs/inner/Tests.antt. Marks and records have crates of their own below.
 #![tactic(auto)]
 
 ghost use Rattle.std.specs.Prelude.{◌≡◌, ◌*◌, ◌<◌, ◌≤◌, length};

@@ -1,5 +1,5 @@
 // The tests of the marks: dirty pages, holders of locks, arrivals, lines of waiters, the queue, and room for the records. `zeros_at` and `pages_of` are
-// for the tests of other areas too. Each contract is an equation with a definition of specs/Tests.antt.
+// for the tests of other areas too. Each contract is an equation with a definition of specs/inner/Tests.antt.
 #![tactic(auto)]
 
 mod waiters;

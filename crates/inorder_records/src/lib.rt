@@ -1,5 +1,5 @@
 // The tests of the records that stand: each is sound and has a legal diff, and no two are of one processor, interval and page.
-// Each contract is an equation with a definition of specs/Tests.antt.
+// Each contract is an equation with a definition of specs/inner/Tests.antt.
 #![tactic(auto)]
 
 ghost use Rattle.std.specs.Prelude.{◌≡◌, ◌<◌, ◌≤◌};

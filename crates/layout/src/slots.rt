@@ -1,5 +1,5 @@
 // The numbers of a slot by name, and its diff. Every contract is an equation over the list of the records, with a definition of
-// specs/Marks.antt.
+// specs/inner/Marks.antt.
 ghost use Rattle.std.specs.Prelude.{◌≡◌, ◌<◌};
 ghost use Rattle.limits.specs.inner.Sizes.{slot_width};
 ghost use Rattle.layout.specs.inner.Marks.{slot_processor, slot_interval, slot_page, slot_length, slot_diff};

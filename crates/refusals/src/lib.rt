@@ -1,6 +1,6 @@
 // The refusals 3 to 10 and 17 to 20 of a step, in the order of document 01's table: from the marks of a state in order and the own entry of the step's
 // processor, and from nothing else. Every contract is an equation over the state that the marks alone show, with a definition of the rules
-// or of specs/Parts.antt and specs/Bounds.antt.
+// or of specs/inner/Parts.antt and specs/inner/Bounds.antt.
 #![tactic(auto)]
 
 ghost use Rattle.std.specs.Prelude.{◌≡◌, ◌≤◌, length, if◌then◌else◌, IfOk};
