@@ -26,8 +26,8 @@ use Rattle.lines.specs.Lines.{line_bytes, refusal_line}
 use Rattle.file_record.specs.Records.{opening_taken, record_taken, step_taken, too_many_taken}
 use Rattle.file_record.specs.declared.Stand.{Stand}
 use Rattle.file_lines.specs.inner.Needed.{LinePut}
-use Rattle.file_record.specs.inner.Needed.{StoppedAt, Takeable, RecordTaken, WordsAdded, outcome_line, stands_at}
-use Rattle.file_record.proofs.Taking.{ready_order, stands}
+use Rattle.file_record.specs.inner.Needed.{StoppedAt, Takeable, RecordTaken, WordsAdded, reply_of, outcome_line, stands_at}
+use Rattle.file_record.proofs.Taking.{line_told, ready_order, stands, words_told}
 
 -- ---- the answer of a step
 
@@ -69,18 +69,18 @@ module _ (s : Stand) (bytes : List ℕ) (from : ℕ) (out c w r m : List ℕ) wh
   -- the next 1,000,000 are steps
   pub step_record : (o : Outcome) (c' w' r' m' out' : List ℕ) (end moved : ℕ) → 1 ≤ s.number → s.number ≤ step_limit → s.words ≤ word_values * s.number
       → Answered (step_from (drop from bytes)) c w r m o s.ready c' w' r' m'
-      → LinePut out s.at (outcome_line s.number o) out' end → WordsAdded s.words o moved
+      → LinePut out s.at (outcome_line s.number (reply_of o)) out' end → WordsAdded s.words (reply_of o) moved
       → RecordTaken (record_taken (stands_at s out (areas c w r m)) (take file_record_width (drop from bytes))) s out (record { number = s.number + 1; stopped = false; ready = s.ready; at = end; words = moved }) out' c' w' r' m'
-  unfolding record_taken step_taken stands_at outcome_line
+  unfolding record_taken step_taken stands_at
   step_record o c' w' r' m' out' end moved z l bound a p k =
       let t : step_from (drop from bytes) ≡ step_from (take file_record_width (drop from bytes)) = sym (step_of_eight (drop from bytes)) in
       rw (ne_eqb s.number 0 (λ e. omega (arith, z, e)), le-leb s.number step_limit l)
       (record {
         is =
             stands (s.number + 1) false s.ready end moved out' (areas c' w' r' m') _ _
-            (p.lines ∙ ap (λ (x : Answer). take s.at out ++ line_bytes s.number x.refusal x.value x.count) (a.outcome ∙ ap (λ (y : Step). answer_of (areas c w r m) y) t))
+            (p.lines ∙ ap (λ (l : List ℕ). take s.at out ++ l) (line_told s.number o) ∙ ap (λ (x : Answer). take s.at out ++ line_bytes s.number x.refusal x.value x.count) (a.outcome ∙ ap (λ (y : Step). answer_of (areas c w r m) y) t))
             (a.left ∙ ap (λ (y : Step). areas_after (areas c w r m) y) t)
-            ∙ rw (add-one s.number, k.is ∙ ap (λ (x : Answer). s.words + x.words) (a.outcome ∙ ap (λ (y : Step). answer_of (areas c w r m) y) t));
+            ∙ rw (add-one s.number, k.is ∙ ap (λ (n : ℕ). s.words + n) (words_told o) ∙ ap (λ (x : Answer). s.words + x.words) (a.outcome ∙ ap (λ (y : Step). answer_of (areas c w r m) y) t));
         few = omega (arith, l);
         total = omega (arith, k.is, k.few, bound);
         kept = p.kept;

@@ -17,7 +17,7 @@ use Rattle.rules.specs.State.{mainframe}
 use Rattle.layout.specs.Areas.{state_in}
 use Rattle.fetch_index.specs.inner.Index.{unranked, IndexKept}
 use Rattle.fetch_index.proofs.Kept.{new_kept}
-use Rattle.step_act.specs.Telling.{Outcome, outcome_count, outcome_value, outcome_words, told}
+use Rattle.step_act.specs.Telling.{Outcome}
 use Rattle.engine.specs.inner.Needed.{SteppedKept}
 use Rattle.engine.proofs.Answering.{ready_when_fine}
 use Rattle.step_fields.specs.Records.{step_from}
@@ -26,7 +26,7 @@ use Rattle.lines.specs.Lines.{line_bytes}
 use Rattle.lines.specs.inner.Needed.{Countable, Counted, Room}
 use Rattle.file_record.specs.declared.Stand.{Stand}
 use Rattle.file_lines.specs.inner.Needed.{LinePut, Ahead, AllAhead}
-use Rattle.file_record.specs.inner.Needed.{TotalThere, WordsAdded, outcome_line}
+use Rattle.file_record.specs.inner.Needed.{Reply, TotalThere, WordsAdded, reply_of, outcome_line, reply_words}
 use Rattle.file_chunk.specs.inner.Needed.{Passing, RoomForSteps, Runnable, StepsPassable, StepsRefused, StepsTaken}
 use Rattle.file_chunk.proofs.Passing.{passing_begins, passing_on, passing_one}
 use Rattle.file_chunk.proofs.Records.{Answered, answered_in_order, answered_out_of_order, step_record}
@@ -86,7 +86,7 @@ module _ (ready : Bool) (number₀ at₀ moved₀ : ℕ) (chunk : List ℕ) (fro
 
   -- it is taken
   going_more : (o : Outcome) (c' w' r' m' out' : List ℕ) (at' moved' : ℕ) → Answered (step_from (drop i chunk)) c w r m o ready c' w' r' m'
-      → LinePut out at (outcome_line number o) out' at' → WordsAdded moved o moved'
+      → LinePut out at (outcome_line number (reply_of o)) out' at' → WordsAdded moved (reply_of o) moved'
       → length c' ≡ length c → length w' ≡ length w → length r' ≡ length r → length m' ≡ length m
       → Going ready number₀ at₀ moved₀ chunk from end out₀ c₀ w₀ r₀ m₀ (number + 1) at' moved' (i + file_record_width) out' c' w' r' m'
   going_more o c' w' r' m' out' at' moved' a k v ec ew er em =
@@ -165,17 +165,18 @@ module _ {number₀ at₀ moved₀ : ℕ} {chunk : List ℕ} {from end : ℕ} {o
     next_countable d len k = record { now_counted = k; few = omega (arith, numbered) }
 
     -- one more is taken
-    pub running_more : {o : Outcome} {c' w' r' m' x' out' : List ℕ} {at' moved' : ℕ}
+    pub running_more : {o : Outcome} {q : Reply} {c' w' r' m' x' out' : List ℕ} {at' moved' : ℕ}
         → SteppedKept (state_in mainframe c w r m) (step_from (drop i chunk)) o c' w' r' m' x'
-        → WordsAdded moved o moved'
-        → LinePut out at (outcome_line number o) out' at'
+        → q ≡ reply_of o
+        → WordsAdded moved q moved'
+        → LinePut out at (outcome_line number q) out' at'
         → length c' ≡ length c → length w' ≡ length w → length r' ≡ length r → length m' ≡ length m
         → Running number₀ at₀ moved₀ chunk from end out₀ c₀ w₀ r₀ m₀ (number + 1) at' moved' (i + file_record_width) out' c' w' r' m' x'
-    running_more {o} {c'} {w'} {r'} {m'} {x'} {out'} {at'} {moved'} d v k ec ew er em =
+    running_more {o} {q} {c'} {w'} {r'} {m'} {x'} {out'} {at'} {moved'} d n v k ec ew er em =
         record {
           going =
               going_more true number₀ at₀ moved₀ chunk from end out₀ c₀ w₀ r₀ m₀ number at moved i out c w r m h.going b o c' w' r' m' out' at' moved'
-              (answered_in_order (step_from (drop i chunk)) c w r m h.going.passing.able.order o c' w' r' m' d.stepped) k v ec ew er em;
+              (answered_in_order (step_from (drop i chunk)) c w r m h.going.passing.able.order o c' w' r' m' d.stepped) (rw n at k) (rw n at v) ec ew er em;
           kept = d.kept;
         }
 
@@ -211,7 +212,7 @@ module _ {number₀ at₀ moved₀ from end : ℕ} {out₀ : List ℕ} {number a
     -- one more is refused
     pub refusing_more : {n : ℕ} {out' : List ℕ} {at' : ℕ} → n ≡ 1 → LinePut out at (line_bytes number n 0 0) out' at'
         → Refusing number₀ at₀ moved₀ from end out₀ (number + 1) at' (i + file_record_width) out'
-    unfolding outcome_line told outcome_value outcome_count outcome_words
+    unfolding outcome_line reply_of reply_words
     refusing_more {n} {out'} {at'} one k =
         record {
           ahead =

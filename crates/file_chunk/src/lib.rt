@@ -136,8 +136,9 @@ fn take_steps(
     let mut len = lines::counter(&mut digits, number);
     for i in (from..end).step_by(FILE_RECORD_WIDTH) {
         let outcome = step_record::step_record(chunk, i, clocks, words, records, marks, &mut index);
-        moved = file_record::add_words(moved, number, outcome);
-        at = file_record::put_next(lines, at, digits, len, number, outcome);
+        let answered = file_record::reply_of(outcome);
+        moved = file_record::add_words(moved, number, answered);
+        at = file_record::put_next(lines, at, digits, len, number, answered);
         len = lines::count_on(&mut digits, len, number);
         number += 1;
     }

@@ -11,8 +11,6 @@ use mir.Val.{Fits}
 use borrow.Author.Tests.{eq-eqb, ne_eqb}
 use Rattle.std.specs.Prelude.{Ok, Err}
 use Rattle.limits.specs.Files.{file_record_width, line_limit}
-use Rattle.limits.specs.declared.Refusal.{Refusal}
-use Rattle.limits.specs.Refused.{number_of}
 use Rattle.rules.specs.InOrder.{is_in_order}
 use Rattle.rules.specs.State.{mainframe}
 use Rattle.rules.proofs.inorder.InOrderWhen.{in_order_when}
@@ -30,36 +28,48 @@ use Rattle.lines.specs.inner.Needed.{Room}
 use Rattle.file_record.specs.Records.{opening_taken}
 use Rattle.file_record.specs.declared.Stand.{Stand}
 use Rattle.file_lines.specs.inner.Needed.{LinePut}
-use Rattle.file_record.specs.inner.Needed.{OpenedAs, Takeable, RecordTaken, TotalThere, WordsAdded, outcome_line, stands_at}
+use Rattle.file_record.specs.inner.Needed.{Reply, OpenedAs, Takeable, RecordTaken, TotalThere, WordsAdded, reply_of, outcome_line, stands_at, reply_words}
 
--- ---- the line of an outcome
+-- ---- the line of what a step answers
 
 module _ (out : List ℕ) (at number : ℕ) (out' : List ℕ) (end : ℕ) where
   -- the line of a step that was done
-  pub done_line : (o : Outcome) (a : Answered) → o ≡ Ok a → LinePut out at (line_bytes number 0 a.value a.count) out' end → LinePut out at (outcome_line number o) out' end
-  unfolding outcome_line told outcome_value outcome_count
+  pub done_line : (o : Reply) (a : Answered) → o ≡ Ok a → LinePut out at (line_bytes number 0 a.value a.count) out' end → LinePut out at (outcome_line number o) out' end
+  unfolding outcome_line
   done_line o a e h = rw e h
 
   -- of one that was refused
-  pub refused_line : (o : Outcome) (r : Refusal) (n : ℕ) → o ≡ Err r → n ≡ number_of r → LinePut out at (line_bytes number n 0 0) out' end → LinePut out at (outcome_line number o) out' end
-  unfolding outcome_line told outcome_value outcome_count
+  pub refused_line : (o : Reply) (r n : ℕ) → o ≡ Err r → n ≡ r → LinePut out at (line_bytes number n 0 0) out' end → LinePut out at (outcome_line number o) out' end
+  unfolding outcome_line
   refused_line o r n e f h = rw (e, ← f) h
+
+-- the line of an outcome has the four numbers that it tells
+pub line_told : (number : ℕ) (o : Outcome) → outcome_line number (reply_of o) ≡ line_bytes number (told o).refusal (told o).value (told o).count
+unfolding outcome_line reply_of told outcome_value outcome_count
+line_told number (Ok a) = refl
+line_told number (Err r) = refl
 
 -- ---- the words of a step
 
-module _ (total : ℕ) (o : Outcome) where
+module _ (total : ℕ) (o : Reply) where
   -- of one that was done: the sum is a number of 64 bits
   pub total_fits : (number n : ℕ) → TotalThere total number → Fits w32 n → Fits w64 (total + n)
   total_fits number n h f = omega (arith, h.few, h.bounded, f.fits)
 
   pub words_done : (a : Answered) (n : ℕ) → o ≡ Ok a → n ≡ a.words → Fits w32 a.words → WordsAdded total o (total + n)
-  unfolding told outcome_words
+  unfolding reply_words
   words_done a n e f k = rw (e, f) (record { is = refl; few = omega (arith, k.fits) })
 
   -- of one that was refused
-  pub words_refused : (r : Refusal) → o ≡ Err r → WordsAdded total o total
-  unfolding told outcome_words
+  pub words_refused : (r : ℕ) → o ≡ Err r → WordsAdded total o total
+  unfolding reply_words
   words_refused r e = rw e (record { is = omega arith; few = omega arith })
+
+-- the words of an outcome are those that it tells
+pub words_told : (o : Outcome) → reply_words (reply_of o) ≡ (told o).words
+unfolding reply_words reply_of told outcome_words
+words_told (Ok a) = refl
+words_told (Err r) = refl
 
 -- ---- the order of the areas
 

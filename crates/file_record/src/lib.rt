@@ -1,17 +1,21 @@
 // The records of a step file that are no steps, the opening and one too many, and the line of each record.
 #![tactic(auto)]
 
-ghost use Rattle.std.specs.Prelude.{◌+◌, ◌≤◌, length, take, drop};
+ghost use Rattle.std.specs.Prelude.{◌≡◌, ◌+◌, ◌≤◌, length, take, drop};
 ghost use Rattle.limits.specs.Files.{file_record_width, line_limit};
 ghost use Rattle.limits.specs.Refused.{refusal_in};
 ghost use Rattle.layout.specs.Areas.{areas};
 ghost use Rattle.lines.specs.inner.Needed.{Room, Counted};
 ghost use Rattle.file_record.specs.Records.{opening_taken};
 ghost use Rattle.file_lines.specs.inner.Needed.{LinePut};
-ghost use Rattle.file_record.specs.inner.Needed.{outcome_line, stands_at, Takeable, StoppedAt, RecordTaken, TotalThere, WordsAdded, OpenedAs};
+ghost use Rattle.file_record.specs.inner.Needed.{reply_of, outcome_line, stands_at, Takeable, StoppedAt, RecordTaken, TotalThere, WordsAdded, OpenedAs};
 
 use limits::{FILE_RECORD_WIDTH, Refusal};
+use step_access::Answered;
 use step_act::Outcome;
+
+// What a step answers, where it is refused by a number, which may be any.
+pub type Reply = Result<Answered, u8>;
 
 // What stands between two records: the number of the next, whether the run has stopped, whether the areas are in order, how many
 // bytes of lines are written, and how many words have moved.
@@ -67,6 +71,17 @@ pub fn too_many(stand: Stand, lines: &mut [u8]) -> Stand
     }
 }
 
+// The outcome of a step with its refusal as a number.
+#[tactic(auto, unfolding(crate::specs::inner::Needed::reply_of))]
+pub fn reply_of(outcome: Outcome) -> Reply
+    ensures { result ≡ reply_of outcome }
+{
+    match outcome {
+        Ok(answered) => Ok(answered),
+        Err(refusal) => Err(refusal.number()),
+    }
+}
+
 // Writes the line of a step from a place on where the digits of its number are at hand, and says the place behind it.
 // A call for each way, so that the line of an accepted step is compiled with the refusal 0: with one call each step takes five instructions more.
 pub fn put_next(
@@ -75,7 +90,7 @@ pub fn put_next(
     digits: [u8; 8],
     len: usize,
     number: u32,
-    outcome: Outcome,
+    outcome: Reply,
 ) -> usize
     requires room { Room out.old at line_limit }
     requires counted { Counted digits len number }
@@ -95,7 +110,7 @@ pub fn put_next(
             )
         }
         Err(refusal) => {
-            let refusal = u32::from(refusal.number());
+            let refusal = u32::from(refusal);
             file_lines::put_counted_line(out, at, digits, len, number, refusal, 0, 0)
         }
     }
@@ -104,7 +119,7 @@ pub fn put_next(
 // The words that have moved with those of a step's outcome, before which so many had, and the step has this number, which is named for the contract
 // alone: 64 bits are enough for the steps of a file.
 #[tactic(auto, using(crate::proofs::Taking::total_fits))]
-pub fn add_words(total: u64, number: u32, outcome: Outcome) -> u64
+pub fn add_words(total: u64, number: u32, outcome: Reply) -> u64
     requires { TotalThere total number }
     ensures { WordsAdded total outcome result }
 {

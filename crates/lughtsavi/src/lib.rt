@@ -117,7 +117,7 @@ pub fn lughtsavi_diff_apply(bytes: &[u8], page: &mut [u32]) -> u32
 {
     match diff::apply(bytes, page) {
         Ok(words) => words,
-        Err(refusal) => refusal_from_256(refusal),
+        Err(refused) => refusal_from_256(refused),
     }
 }
 

@@ -21,11 +21,16 @@ use Rattle.step_tally.specs.inner.Effects.{TotalsPosted, AddsCleared, Posted}
 -- the sum of the posted total and of the adds of the first k processors
 pub record SummedTo (w : List ℕ) (n t k sum : ℕ) : Type 0 where
   pub ready : SumReady w n t
+  pub first : 1 ≤ k
   pub upto : k ≤ n
   pub is : sum ≡ total_after (shared_in mainframe w) k t
 
 module _ (w : List ℕ) (n t : ℕ) (ready : SumReady w n t) where
-  -- the posted total has its place
+  -- the first processor's add has its place
+  pub first_on_tally : OnTally 1 t
+  first_on_tally = record { from = omega arith; to = omega arith; tally = ready.tally }
+
+  -- so has the posted total
   pub posted_place : first_tally + t < length w
   posted_place = omega (arith, ready.words, ready.tally)
 
@@ -39,10 +44,16 @@ module _ (w : List ℕ) (n t : ℕ) (ready : SumReady w n t) where
   added_is : (p at : ℕ) → 1 ≤ p → p ≤ processor_limit → at ≡ tally_place mainframe p t → get_or w at 0 ≡ adds_of (shared_in mainframe w) p t
   added_is p at h k e = ap (λ (j : ℕ). get_or w j 0) e ∙ sym (adds_read w p t h k ready.tally)
 
-  -- the posted total alone
-  pub summing_begins : Fits w32 (get_or w (first_tally + t) 0) → SummedTo w n t 0 (get_or w (first_tally + t) 0)
+  -- the first two
+  pub summing_begins : (at x : ℕ) → at ≡ tally_place mainframe 1 t → x ≡ (get_or w (first_tally + t) 0 + get_or w at 0) % 2 ^ 32 → SummedTo w n t 1 x
   unfolding total_after total
-  summing_begins fits = record { ready = ready; upto = omega arith; is = omega (arith, posted_is, fits) }
+  summing_begins at x is e =
+      record {
+        ready = ready;
+        first = omega arith;
+        upto = ready.some;
+        is = omega (arith, e, posted_is, added_is 1 at (omega arith) (omega arith) is);
+      }
 
 module _ (w : List ℕ) (n t k sum : ℕ) (now : SummedTo w n t k sum) where
   -- the next processor's add has its place
@@ -55,7 +66,7 @@ module _ (w : List ℕ) (n t k sum : ℕ) (now : SummedTo w n t k sum) where
   summing_more more at x is e =
       let added = added_is w n t now.ready (k + 1) at (omega arith) (omega (arith, now.ready.few)) is in
       let one : adds_of (shared_in mainframe w) (k + 1) t ≡ adds_of (shared_in mainframe w) (suc k) t = ap (λ (j : ℕ). adds_of (shared_in mainframe w) j t) (add-one k) in
-      record { ready = now.ready; upto = omega arith; is = e ∙ rw (add-one k) (omega (arith, now.is, added, one)) }
+      record { ready = now.ready; first = omega arith; upto = omega arith; is = e ∙ rw (add-one k) (omega (arith, now.is, added, one)) }
 
   -- all
   pub summing_ends : n ≤ k → sum ≡ total_after (shared_in mainframe w) n t
@@ -178,4 +189,4 @@ module _ (w : List ℕ) (n : ℕ) (ready : RoundReady w n) (w₁ : List ℕ) (to
             }));
       }
 
-pub ruleset posting_laws = (posted_place, sum_place, summing_begins, next_on_tally, summing_more, summing_ends, total_stored, posting_begins, posting_ready, posting_more, posting_ends, adds_cleared, posted_long, round_posted, rules)
+pub ruleset posting_laws = (first_on_tally, posted_place, sum_place, summing_begins, next_on_tally, summing_more, summing_ends, total_stored, posting_begins, posting_ready, posting_more, posting_ends, adds_cleared, posted_long, round_posted, rules)

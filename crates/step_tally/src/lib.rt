@@ -65,8 +65,8 @@ fn sum_of(words: &[u32], n: usize, t: usize) -> u32
     requires { SumReady words.now n t }
     ensures { result ≡ total_after (shared_in mainframe words.now) n t }
 {
-    let mut sum = words[FIRST_TALLY + t];
-    for k in 0..n {
+    let mut sum = words[FIRST_TALLY + t].wrapping_add(words[tally_place(1, t)]);
+    for k in 1..n {
         sum = sum.wrapping_add(words[tally_place(k + 1, t)]);
     }
     sum

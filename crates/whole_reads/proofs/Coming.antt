@@ -5,18 +5,20 @@ use mathlib.Core.Path.{◌≡◌, refl, sym, ap, subst, ◌∙◌}
 use mathlib.Core.Bool.{Bool, true, false, false≢true, cond, ◌||◌}
 use mathlib.Core.List.{List, ◌++◌, append-nil}
 use lib.Dec.{ltb, leb}
-use Rattle.std.specs.Prelude.{None, is_some}
+use Rattle.std.specs.Prelude.{Option, None, Some, is_some}
 use borrow.Author.Tests.{ltb-true, ltb-false, leb-false, lt-leb}
 use Rattle.lists.proofs.Parts.{no_part}
 use Rattle.whole_reads.specs.Promises.{FlowBegins, Flows, NextAs, comes_next, left_to_write}
 use Rattle.whole_reads.specs.declared.Flow.{Flow}
+use Rattle.whole_reads.specs.declared.Failure.{Failure}
 use Rattle.whole_reads.specs.declared.Next.{Next}
 use Rattle.whole_reads.specs.declared.Next.TheVariants.{Read, Take, Write, Stop}
 
 -- ---- what holds where an action comes next
 
--- all lines are written, and more will be made
+-- nothing went wrong, all lines are written, and more will be made
 pub record MoreDue (f : Flow) : Type 0 where
+  pub fine : f.failure ≡ None
   pub none : f.to ≤ f.from
   pub more : f.done ≡ false
 
@@ -42,12 +44,16 @@ Holding f room Take = MayTake f room
 Holding f room Write = f.from < f.to
 Holding f room Stop = f.failure ≡ None → Over f
 
+no_failure : (x : Option Failure) → is_some x ≡ false → x ≡ None
+no_failure None e = refl
+no_failure (Some x) e = absurd (false≢true (sym e))
+
 holding : (f : Flow) (room : ℕ) → Holding f room (comes_next f room)
 unfolding comes_next
 holding f room = go (is_some f.failure) (ltb f.from f.to) f.done (f.ended || leb room f.have) refl refl refl refl
   where
-    due : ltb f.from f.to ≡ false → f.done ≡ false → MoreDue f
-    due q r = record { none = ltb-false f.from f.to q; more = r }
+    due : is_some f.failure ≡ false → ltb f.from f.to ≡ false → f.done ≡ false → MoreDue f
+    due p q r = record { fine = no_failure f.failure p; none = ltb-false f.from f.to q; more = r }
 
     unfull : (a b : Bool) → f.ended ≡ a → leb room f.have ≡ b → (a || b) ≡ false → MoreDue f → FlowMayRead f room
     unfull true b s t z m = absurd (false≢true (sym z))
@@ -59,8 +65,8 @@ holding f room = go (is_some f.failure) (ltb f.from f.to) f.done (f.ended || leb
     go true l d k p q r s = λ w. absurd (false≢true (sym (ap is_some w) ∙ p))
     go false true d k p q r s = ltb-true f.from f.to q
     go false false true k p q r s = λ w. record { none = ltb-false f.from f.to q; done = r }
-    go false false false true p q r s = record { due = due q r; whole = s }
-    go false false false false p q r s = unfull f.ended (leb room f.have) refl refl s (due q r)
+    go false false false true p q r s = record { due = due p q r; whole = s }
+    go false false false false p q r s = unfull f.ended (leb room f.have) refl refl s (due p q r)
 
 pub flow_reading : (f : Flow) (room : ℕ) → comes_next f room ≡ Read → FlowMayRead f room
 flow_reading f room e = subst (Holding f room) e (holding f room)

@@ -13,7 +13,7 @@ step_record-outcome-requires c = search run_laws
 
 pub loop-i-preserved : goal.loop-i-preserved
 loop-i-preserved c = record {
-  running = running_more c.loop-i.invariant.running c.loop-i-test.true c.step_record-outcome.ensures c.add_words-moved.ensures c.put_next-at.ensures (search rules) (search rules) (search rules) (search rules);
+  running = running_more c.loop-i.invariant.running c.loop-i-test.true c.step_record-outcome.ensures c.reply_of-answered.ensures c.add_words-moved.ensures c.put_next-at.ensures (search rules) (search rules) (search rules) (search rules);
   counted = c.count_on-len.ensures.counted;
 }
 
@@ -24,5 +24,5 @@ returns c = search run_laws
 pub returns-2 : goal.returns-2
 returns-2 c =
     running_ends _ _ _ _ _ _ _ _ _ c.requires
-    (running_more c.loop-i.invariant.running c.loop-i-test.true c.step_record-outcome.ensures c.add_words-moved.ensures c.put_next-at.ensures (search rules) (search rules) (search rules) (search rules))
+    (running_more c.loop-i.invariant.running c.loop-i-test.true c.step_record-outcome.ensures c.reply_of-answered.ensures c.add_words-moved.ensures c.put_next-at.ensures (search rules) (search rules) (search rules) (search rules))
     (omega arith)
