@@ -2,10 +2,10 @@
 use Prim.Native.Nat.{ℕ, suc, ◌+◌, ◌-◌, ◌*◌, ◌/◌, ◌≤◌, ◌<◌}
 use native.Mathlib.Nat.{add-zero}
 use native.Mathlib.Omega.{arith}
-use mathlib.Core.Path.{◌≡◌, sym, ap, ◌∙◌}
+use mathlib.Core.Path.{◌≡◌, refl, sym, ap, ◌∙◌}
 use mathlib.Core.Bool.{true}
 use mathlib.Core.List.{List, [], ◌∷◌}
-use lib.ListN.{length, get_or, set}
+use lib.ListN.{length, get_or, set, length-set}
 use lib.Seq.{sets, length-sets}
 use Rattle.std.specs.Int.{from_le_bytes, w32}
 use mir.Val.{Fits}
@@ -30,14 +30,22 @@ four_bytes bytes at = omega arith
 
 -- ---- one run
 
--- after k words of a run: those behind them are still to be laid into the page
+-- after k words of a run: those behind them are in the bytes, and are still to be laid into the page, on which they lie
 pub record LayingRun (bytes page₀ page : List ℕ) (words len offset k : ℕ) : Type 0 where
+  pub in_bytes : words + 4 * k + 4 * (len - k) ≤ length bytes
+  pub on_page_lem : offset + k + (len - k) ≤ length page
+  pub as_long : length page ≡ length page₀
   pub same : sets page₀ offset (words_at bytes words len) ≡ sets page (offset + k) (words_at bytes (words + 4 * k) (len - k))
 
-pub laying_run_begins : (bytes page : List ℕ) (words len offset : ℕ) → LayingRun bytes page page words len offset 0
-laying_run_begins bytes page words len offset =
+pub laying_run_begins : (bytes page : List ℕ) (words len offset : ℕ) → RunThere bytes page words len offset → LayingRun bytes page page words len offset 0
+laying_run_begins bytes page words len offset p =
     let all : len - 0 ≡ len = omega arith in
-    record { same = rw (all, add-zero offset, add-zero words) }
+    record {
+      in_bytes = omega (arith, p.in_bytes);
+      on_page_lem = omega (arith, p.on_page_lem);
+      as_long = refl;
+      same = rw (all, add-zero offset, add-zero words);
+    }
 
 words_left : (bytes : List ℕ) (words len k : ℕ) → k < len
     → words_at bytes (words + 4 * k) (len - k) ≡ word_at bytes (words + 4 * k) ∷ words_at bytes (words + 4 * (k + 1)) (len - (k + 1))
@@ -51,7 +59,12 @@ pub laying_run_more : (bytes page₀ page : List ℕ) (words len offset k v : �
     → v ≡ word_at bytes (words + 4 * k) → LayingRun bytes page₀ (set page (offset + k) v) words len offset (k + 1)
 laying_run_more bytes page₀ page words len offset k v p more e =
     let next : suc (offset + k) ≡ offset + (k + 1) = omega arith in
-    record { same = p.same ∙ rw (words_left bytes words len k more, e, ← next) }
+    record {
+      in_bytes = omega (arith, p.in_bytes, more);
+      on_page_lem = simp length-set (omega (arith, p.on_page_lem, more));
+      as_long = length-set page (offset + k) v ∙ p.as_long;
+      same = p.same ∙ rw (words_left bytes words len k more, e, ← next);
+    }
 
 pub laying_run_ends : (bytes page₀ page : List ℕ) (words len offset k : ℕ) → LayingRun bytes page₀ page words len offset k → len ≤ k
     → page ≡ sets page₀ offset (words_at bytes words len)
