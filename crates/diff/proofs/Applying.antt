@@ -30,22 +30,14 @@ four_bytes bytes at = omega arith
 
 -- ---- one run
 
--- after k words of a run: those behind them are in the bytes, and are still to be laid into the page, on which they lie
-pub record LayingRun (bytes page₀ page : List ℕ) (words len offset k : ℕ) : Type 0 where
-  pub in_bytes : words + 4 * k + 4 * (len - k) ≤ length bytes
-  pub on_page_lem : offset + k + (len - k) ≤ length page
-  pub as_long : length page ≡ length page₀
+-- after k words of a run, wherever it lies: those behind them are still to be laid into the page
+pub record WordsToLay (bytes page₀ page : List ℕ) (words len offset k : ℕ) : Type 0 where
   pub same : sets page₀ offset (words_at bytes words len) ≡ sets page (offset + k) (words_at bytes (words + 4 * k) (len - k))
 
-pub laying_run_begins : (bytes page : List ℕ) (words len offset : ℕ) → RunThere bytes page words len offset → LayingRun bytes page page words len offset 0
-laying_run_begins bytes page words len offset p =
+pub words_to_lay_begins : (bytes page : List ℕ) (words len offset : ℕ) → WordsToLay bytes page page words len offset 0
+words_to_lay_begins bytes page words len offset =
     let all : len - 0 ≡ len = omega arith in
-    record {
-      in_bytes = omega (arith, p.in_bytes);
-      on_page_lem = omega (arith, p.on_page_lem);
-      as_long = refl;
-      same = rw (all, add-zero offset, add-zero words);
-    }
+    record { same = rw (all, add-zero offset, add-zero words) }
 
 words_left : (bytes : List ℕ) (words len k : ℕ) → k < len
     → words_at bytes (words + 4 * k) (len - k) ≡ word_at bytes (words + 4 * k) ∷ words_at bytes (words + 4 * (k + 1)) (len - (k + 1))
@@ -55,23 +47,48 @@ words_left bytes words len k h =
     let behind : words + 4 * k + 4 ≡ words + 4 * (k + 1) = omega arith in
     rw (one, behind)
 
+pub words_to_lay_more : (bytes page₀ page : List ℕ) (words len offset k v : ℕ) → WordsToLay bytes page₀ page words len offset k → k < len
+    → v ≡ word_at bytes (words + 4 * k) → WordsToLay bytes page₀ (set page (offset + k) v) words len offset (k + 1)
+words_to_lay_more bytes page₀ page words len offset k v p more e =
+    let next : suc (offset + k) ≡ offset + (k + 1) = omega arith in
+    record { same = p.same ∙ rw (words_left bytes words len k more, e, ← next) }
+
+pub words_to_lay_ends : (bytes page₀ page : List ℕ) (words len offset k : ℕ) → WordsToLay bytes page₀ page words len offset k → len ≤ k
+    → page ≡ sets page₀ offset (words_at bytes words len)
+unfolding words_at
+words_to_lay_ends bytes page₀ page words len offset k p all =
+    let none : len - k ≡ 0 = omega arith in
+    sym (p.same ∙ rw none)
+
+-- after k words of a run that fits: those behind them are in the bytes, and are still to be laid into the page, on which they lie
+pub record LayingRun (bytes page₀ page : List ℕ) (words len offset k : ℕ) : Type 0 where
+  pub in_bytes : words + 4 * k + 4 * (len - k) ≤ length bytes
+  pub on_page_lem : offset + k + (len - k) ≤ length page
+  pub as_long : length page ≡ length page₀
+  pub same : sets page₀ offset (words_at bytes words len) ≡ sets page (offset + k) (words_at bytes (words + 4 * k) (len - k))
+
+pub laying_run_begins : (bytes page : List ℕ) (words len offset : ℕ) → RunThere bytes page words len offset → LayingRun bytes page page words len offset 0
+laying_run_begins bytes page words len offset p =
+    record {
+      in_bytes = omega (arith, p.in_bytes);
+      on_page_lem = omega (arith, p.on_page_lem);
+      as_long = refl;
+      same = (words_to_lay_begins bytes page words len offset).same;
+    }
+
 pub laying_run_more : (bytes page₀ page : List ℕ) (words len offset k v : ℕ) → LayingRun bytes page₀ page words len offset k → k < len
     → v ≡ word_at bytes (words + 4 * k) → LayingRun bytes page₀ (set page (offset + k) v) words len offset (k + 1)
 laying_run_more bytes page₀ page words len offset k v p more e =
-    let next : suc (offset + k) ≡ offset + (k + 1) = omega arith in
     record {
       in_bytes = omega (arith, p.in_bytes, more);
       on_page_lem = simp length-set (omega (arith, p.on_page_lem, more));
       as_long = length-set page (offset + k) v ∙ p.as_long;
-      same = p.same ∙ rw (words_left bytes words len k more, e, ← next);
+      same = (words_to_lay_more bytes page₀ page words len offset k v (record { same = p.same }) more e).same;
     }
 
 pub laying_run_ends : (bytes page₀ page : List ℕ) (words len offset k : ℕ) → LayingRun bytes page₀ page words len offset k → len ≤ k
     → page ≡ sets page₀ offset (words_at bytes words len)
-unfolding words_at
-laying_run_ends bytes page₀ page words len offset k p all =
-    let none : len - k ≡ 0 = omega arith in
-    sym (p.same ∙ rw none)
+laying_run_ends bytes page₀ page words len offset k p all = words_to_lay_ends bytes page₀ page words len offset k (record { same = p.same }) all
 
 -- a run of one word
 pub one_word_laid : (bytes page : List ℕ) (words len offset v : ℕ) → len ≡ 1 → v ≡ word_at bytes words → set page offset v ≡ sets page offset (words_at bytes words len)
